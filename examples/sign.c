@@ -1,4 +1,4 @@
-/* The sign of a number. Each way through the function ends with a return. */
+/* The sign of a number. Each path through the function ends with a return. */
 JNIEXPORT jint JNICALL Java_A_sign(JNIEnv *env, jclass cls, jint number)
 {
     if (number < 0) {

@@ -103,7 +103,7 @@ pub comes_next : {A B : Type 0} (o : Option A) (view : A → B) (xs fields new :
     → (slice_get xs i ≡ Some (view f)) × (drop (i + 1) xs ≡ new)
 comes_next o view xs fields new i f step left is = comes_at xs i (view f) new (left ∙ subst (λ p. MatchOption p ((fields ≡ []) × (new ≡ [])) (λ g. fields ≡ view g ∷ new)) is step)
 
--- ---- the way to a class
+-- ---- the path to a class
 
 -- a number past those of all classes has no fields, and no class above
 pub past_all : (T : Classes) (n a : ℕ) → length T < a → flat_map (own_fields T) (reverse (ancestry_within n T a)) ≡ []

@@ -3,7 +3,7 @@
 ghost use Rattle.std.specs.Prelude.{◌≡◌, ◌≤◌, ◌∷◌, [], flat_map, length, reverse, slice_get, IfSome, MatchOption, ◌*◌};
 ghost use Rattle.std.specs.Option.{option_map};
 ghost use Rattle.base.specs.Limits.{most_classes, most_fields};
-ghost use Rattle.classes.specs.Rest.{rest_from};
+ghost use Rattle.classes.specs.LayoutsLeft.{rest_from};
 ghost use Rattle.class_rules.specs.Fields.{layout, own_fields};
 ghost use Rattle.classes.specs.FieldViews.{field_id_view};
 
@@ -39,7 +39,7 @@ impl<'t> Model for LayoutFields<'t> {
     ghost use Rattle.std.specs.Prelude.{List, ◌≡◌, ◌+◌, ◌*◌, ◌≤◌, length};
     ghost use Rattle.class_rules.specs.Fields.{FieldId};
     ghost use Rattle.base.specs.Limits.{most_classes, most_fields};
-    ghost use Rattle.classes.specs.Rest.{rest_from};
+    ghost use Rattle.classes.specs.LayoutsLeft.{rest_from};
 
     ghost Value = { List FieldId };
 
@@ -48,7 +48,7 @@ impl<'t> Model for LayoutFields<'t> {
     ghost invariant = { λ w. (w.left ≡ length (rest_from w.classes.now w.position)) × (w.position.place + w.left ≤ most_classes * most_fields) };
 }
 
-/// The way down to a class: the class, its superclass, and so on. A number past those of all classes has no fields.
+/// The path down to a class: the class, its superclass, and so on. A number past those of all classes has no fields.
 fn path_to(classes: &ClassTable, class: ClassId) -> Path
     ensures { flat_map (own_fields classes.now) (reverse result) ≡ layout classes.now class.number }
 {

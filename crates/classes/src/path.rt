@@ -1,4 +1,4 @@
-//! The classes on a way down to a class.
+//! The classes on the path down to a class.
 
 ghost use Rattle.std.specs.Prelude.{◌≡◌, ◌<◌, ◌++◌, ◌∷◌, [], length, MatchOption};
 ghost use Rattle.base.specs.Limits.{most_classes};

@@ -127,7 +127,7 @@ static FAULTS_30: [Explanation; 9] = [
     Explanation {
         number: 32,
         title: b"a return while a buffer is acquired",
-        text: b"fault 32: a return while a buffer is acquired\n\nWhat a Get gave is released on each way (JNI Specification, chapter 4, \"Array Operations\" and \"String Operations\").\nRelease it before the return.\n\n    JNIEXPORT void JNICALL Java_A_f(JNIEnv *env, jclass cls, jintArray array)\n    {\n        jint *numbers = (*env)->GetIntArrayElements(env, array, NULL);\n        if (numbers == NULL) {\n            return;\n        }\n        numbers[0] = 1;\n        return;\n    }\n\nfault 32 line 8\n",
+        text: b"fault 32: a return while a buffer is acquired\n\nWhat a Get gave is released on each path (JNI Specification, chapter 4, \"Array Operations\" and \"String Operations\").\nRelease it before the return.\n\n    JNIEXPORT void JNICALL Java_A_f(JNIEnv *env, jclass cls, jintArray array)\n    {\n        jint *numbers = (*env)->GetIntArrayElements(env, array, NULL);\n        if (numbers == NULL) {\n            return;\n        }\n        numbers[0] = 1;\n        return;\n    }\n\nfault 32 line 8\n",
     },
     Explanation {
         number: 33,
@@ -179,7 +179,7 @@ static FAULTS_40: [Explanation; 3] = [
     Explanation {
         number: 40,
         title: b"branches leave different states",
-        text: b"fault 40: branches leave different states\n\nWhere the ways of an if join, each variable has to be in the same state on both, and the same number of frames pushed;\nat the end of a while's body, the same as before the loop. What may be done after it can't depend on the way that was\ntaken. The line is that of the if or while. Do the same on the other way.\n\n    JNIEXPORT void JNICALL Java_A_f(JNIEnv *env, jclass cls, jobject object, jint n)\n    {\n        if (n != 0) {\n            (*env)->DeleteLocalRef(env, object);\n        }\n        return;\n    }\n\nfault 40 line 3\n",
+        text: b"fault 40: branches leave different states\n\nWhere the branches of an if join, each variable has to be in the same state on both, and the same number of frames pushed;\nat the end of a while's body, the same as before the loop. What may be done after it can't depend on the path that was\ntaken. The line is that of the if or while. Do the same on the other path.\n\n    JNIEXPORT void JNICALL Java_A_f(JNIEnv *env, jclass cls, jobject object, jint n)\n    {\n        if (n != 0) {\n            (*env)->DeleteLocalRef(env, object);\n        }\n        return;\n    }\n\nfault 40 line 3\n",
     },
     Explanation {
         number: 41,
@@ -189,7 +189,7 @@ static FAULTS_40: [Explanation; 3] = [
     Explanation {
         number: 42,
         title: b"a path ends without return, or a statement is never reached",
-        text: b"fault 42: a path ends without `return`, or a statement is never reached\n\nC99 (6.9.1) lets a caller use the result of a function that ended without one, and leaves it undefined. Put a return\nat the end; take out what comes after an if of which both ways return.\n\n    JNIEXPORT jint JNICALL Java_A_f(JNIEnv *env, jclass cls, jint n)\n    {\n        if (n > 0) {\n            return n;\n        }\n    }\n\nfault 42 line 6\n",
+        text: b"fault 42: a path ends without `return`, or a statement is never reached\n\nC99 (6.9.1) lets a caller use the result of a function that ended without one, and leaves it undefined. Put a return\nat the end; take out what comes after an if of which both branches return.\n\n    JNIEXPORT jint JNICALL Java_A_f(JNIEnv *env, jclass cls, jint n)\n    {\n        if (n > 0) {\n            return n;\n        }\n    }\n\nfault 42 line 6\n",
     },
 ];
 

@@ -8,7 +8,7 @@ use Rattle.std.proofs.lemmas.Option.{slice_get-get_or}
 use Rattle.code.specs.declared.instr.Instr.{Instr}
 use Rattle.code.specs.declared.instr.Instr.TheVariants as instr
 use Rattle.code.specs.declared.instr.LocalArray.{LocalArray}
-use Rattle.code.specs.declared.instr.Plain.TheVariants as way
+use Rattle.code.specs.declared.instr.Plain.TheVariants as path
 use Rattle.code.specs.declared.instr.PlainTrap.{PlainTrap}
 use Rattle.code.specs.declared.slots.SlotCounts.{SlotCounts}
 use Rattle.code.specs.Depth.{depth_after, array_within, within_slots}
@@ -20,12 +20,12 @@ abbrev pub KeepsSlots : (numbers : List ℕ) → Option Effect → Type 0
 KeepsSlots numbers None = Unit {0}
 KeepsSlots numbers (Some e) = length e.2 ≡ length numbers
 
-loaded_keeps : (stack numbers : List ℕ) (o : Option ℕ) → KeepsSlots numbers (option_map {U = Effect} (λ (n : ℕ). (way.Next, n ∷ stack, numbers)) o)
+loaded_keeps : (stack numbers : List ℕ) (o : Option ℕ) → KeepsSlots numbers (option_map {U = Effect} (λ (n : ℕ). (path.Next, n ∷ stack, numbers)) o)
 loaded_keeps stack numbers None = tt
 loaded_keeps stack numbers (Some n) = refl
 
 stored_keeps : (slot n : ℕ) (stack numbers : List ℕ) → KeepsSlots numbers (number_stored slot n stack numbers)
-stored_keeps slot n stack numbers = elim (nat_lt slot (length numbers)) as (λ b. KeepsSlots numbers (cond b (Some (way.Next, stack, slice_set numbers slot n)) None)) [ true ↦ length-set numbers slot n | false ↦ tt ]
+stored_keeps slot n stack numbers = elim (nat_lt slot (length numbers)) as (λ b. KeepsSlots numbers (cond b (Some (path.Next, stack, slice_set numbers slot n)) None)) [ true ↦ length-set numbers slot n | false ↦ tt ]
 
 operated_keeps : (line : ℕ) (before stack numbers : List ℕ) (r : Result ℕ PlainTrap) → KeepsSlots numbers (Some (operated line before stack numbers r))
 operated_keeps line before stack numbers (Ok n) = refl
@@ -51,7 +51,7 @@ length-cleared array numbers h =
       length-drop (array.start + array.len) numbers,
     )
 
-cleared_keeps : (array : LocalArray) (stack numbers : List ℕ) (b : Bool) → nat_le (array.start + array.len) (length numbers) ≡ b → KeepsSlots numbers (cond b (Some (way.Next, stack, cleared array numbers)) None)
+cleared_keeps : (array : LocalArray) (stack numbers : List ℕ) (b : Bool) → nat_le (array.start + array.len) (length numbers) ≡ b → KeepsSlots numbers (cond b (Some (path.Next, stack, cleared array numbers)) None)
 cleared_keeps array stack numbers true h = length-cleared array numbers (leb-true (array.start + array.len) (length numbers) h)
 cleared_keeps array stack numbers false h = tt
 
@@ -73,11 +73,11 @@ plain_keeps (instr.OperateOrTrap operator line) [] numbers = tt
 plain_keeps (instr.OperateOrTrap operator line) (b ∷ []) numbers = tt
 plain_keeps (instr.OperateOrTrap operator line) (b ∷ a ∷ stack) numbers = operated_keeps line (b ∷ a ∷ stack) stack numbers (operate_or_trap operator a b)
 plain_keeps (instr.JumpIfFalseOrPop n) [] numbers = tt
-plain_keeps (instr.JumpIfFalseOrPop n) (a ∷ stack) numbers = either_keeps (a == 0) (way.Skip n, a ∷ stack, numbers) (way.Next, stack, numbers) numbers refl refl
+plain_keeps (instr.JumpIfFalseOrPop n) (a ∷ stack) numbers = either_keeps (a == 0) (path.Skip n, a ∷ stack, numbers) (path.Next, stack, numbers) numbers refl refl
 plain_keeps (instr.JumpIfTrueOrPop n) [] numbers = tt
-plain_keeps (instr.JumpIfTrueOrPop n) (a ∷ stack) numbers = either_keeps (a == 0) (way.Next, stack, numbers) (way.Skip n, a ∷ stack, numbers) numbers refl refl
+plain_keeps (instr.JumpIfTrueOrPop n) (a ∷ stack) numbers = either_keeps (a == 0) (path.Next, stack, numbers) (path.Skip n, a ∷ stack, numbers) numbers refl refl
 plain_keeps (instr.JumpIfFalse n) [] numbers = tt
-plain_keeps (instr.JumpIfFalse n) (a ∷ stack) numbers = either_keeps (a == 0) (way.Skip n, stack, numbers) (way.Next, stack, numbers) numbers refl refl
+plain_keeps (instr.JumpIfFalse n) (a ∷ stack) numbers = either_keeps (a == 0) (path.Skip n, stack, numbers) (path.Next, stack, numbers) numbers refl refl
 plain_keeps (instr.Jump n) stack numbers = refl
 plain_keeps (instr.JumpBack n) stack numbers = refl
 plain_keeps (instr.LoadElement array line) [] numbers = tt
@@ -101,7 +101,7 @@ plain_keeps (instr.ReturnReference operand) stack numbers = tt
 array_inside : (numbers : ℕ) (array : LocalArray) → array_within numbers array ≡ true → array.start + array.len ≤ numbers
 array_inside numbers array h = leb-true (array.start + array.len) numbers ((and_parts (nat_lt 0 array.len && nat_le array.len 1024) (nat_le (array.start + array.len) numbers) h).1)
 
-load_there : (slot : ℕ) (stack numbers : List ℕ) → slot < length numbers → IsSome (option_map {U = Effect} (λ (n : ℕ). (way.Next, n ∷ stack, numbers)) (slice_get numbers slot))
+load_there : (slot : ℕ) (stack numbers : List ℕ) → slot < length numbers → IsSome (option_map {U = Effect} (λ (n : ℕ). (path.Next, n ∷ stack, numbers)) (slice_get numbers slot))
 load_there slot stack numbers h = rw (slice_get-get_or numbers slot 0 h) refl
 
 store_there : (slot n : ℕ) (stack numbers : List ℕ) → slot < length numbers → IsSome (number_stored slot n stack numbers)

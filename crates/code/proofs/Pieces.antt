@@ -69,7 +69,7 @@ lands_left a b entry place depth (Jump n) h = reaches_left a b entry (place + 1 
 lands_left a b entry place depth (JumpBack n) h = (h.0, reaches_left a b entry (place - n) depth h.1)
 lands_left a b entry place depth i h = tt
 
--- a way ahead in the second piece
+-- a path ahead in the second piece
 ahead_right : (a b : List Instr) (entry middle place n depth : ℕ) → depths a entry ≡ Some middle → Reaches b middle (place + 1 + n) depth → Reaches (a ++ b) entry (length a + place + 1 + n) depth
 ahead_right a b entry middle place n depth k h =
     let same : length a + (place + 1 + n) ≡ length a + place + 1 + n = omega arith in
@@ -159,27 +159,27 @@ piece_and right d h = piece_cons (JumpIfFalseOrPop (length right)) right (suc d)
 pub piece_or : (right : List Instr) (d : ℕ) → IsPiece right d (suc d) → IsPiece (JumpIfTrueOrPop (length right) ∷ right) (suc d) (suc d)
 piece_or right d h = piece_cons (JumpIfTrueOrPop (length right)) right (suc d) d (suc d) refl h (lands_after (JumpIfTrueOrPop (length right)) right (suc d) d (suc d) refl h.stays)
 
--- the end of an `if`'s second way
+-- the end of an `if`'s second branch
 pub piece_end : IsPiece (Jump 0 ∷ []) 0 0
 piece_end = piece_one (Jump 0) 0 0 refl (lands_after (Jump 0) [] 0 0 0 refl refl)
 
--- the end of an `if`'s first way, and the second
+-- the end of an `if`'s first branch, and the second
 pub piece_otherwise : (else' : List Instr) → IsPiece else' 0 0 → IsPiece (Jump (length else') ∷ else') 0 0
 piece_otherwise else' h = piece_cons (Jump (length else')) else' 0 0 0 refl h (lands_after (Jump (length else')) else' 0 0 0 refl h.stays)
 
--- an `if` after its test, with what ends each way
+-- an `if` after its test, with what ends each branch
 pub piece_if : (then' else' : List Instr) → IsPiece then' 0 0 → IsPiece else' 0 0 → IsPiece (JumpIfFalse (length then' + 1) ∷ (then' ++ Jump (length else') ∷ else')) 1 0
 piece_if then' else' h k =
     let rest = piece_otherwise else' k in
-    let ways = piece_append then' (Jump (length else') ∷ else') 0 0 0 h rest in
+    let paths = piece_append then' (Jump (length else') ∷ else') 0 0 0 h rest in
     let second : Reaches (Jump (length else') ∷ else') 0 1 0 = record { inside = omega arith; words = refl } in
     let jump : Reaches ((JumpIfFalse (length then' + 1) ∷ []) ++ (then' ++ Jump (length else') ∷ else')) 1 (1 + (length then' + 1)) 0 =
     reaches_right (JumpIfFalse (length then' + 1) ∷ []) (then' ++ Jump (length else') ∷ else') 1 0 (length then' + 1) 0 refl (reaches_right then' (Jump (length else') ∷ else') 0 0 1 0 h.stays second) in
     let same : 1 + (length then' + 1) ≡ 0 + 1 + (length then' + 1) = omega arith in
-    piece_cons (JumpIfFalse (length then' + 1)) (then' ++ Jump (length else') ∷ else') 1 0 0 refl ways
+    piece_cons (JumpIfFalse (length then' + 1)) (then' ++ Jump (length else') ∷ else') 1 0 0 refl paths
     (subst (λ p. Reaches (JumpIfFalse (length then' + 1) ∷ (then' ++ Jump (length else') ∷ else')) 1 p 0) same jump)
 
--- a loop's body and the way back
+-- a loop's body and the path back
 abbrev pub turn : (test body : List Instr) → List Instr
 turn test body = body ++ JumpBack (length test + 1 + length body) ∷ []
 

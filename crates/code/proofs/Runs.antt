@@ -8,7 +8,7 @@ use Rattle.std.proofs.lemmas.Bool.{ltb-true, ltb-false, and_parts}
 use Rattle.std.proofs.lemmas.Option.{slice_get_within, slice_get_past, slice_get_read}
 use Rattle.code.specs.declared.instr.Instr.{Instr}
 use Rattle.code.specs.declared.instr.Instr.TheVariants as instr
-use Rattle.code.specs.declared.instr.Plain.TheVariants as way
+use Rattle.code.specs.declared.instr.Plain.TheVariants as path
 use Rattle.code.specs.declared.instr.PlainTrap.{PlainTrap}
 use Rattle.code.specs.Depth.{Listing, IsValid, HasDepth, LeadsInside, Lands, Leaves, EndsByLeaving, depth_after, depth_at, within_slots, with_one_more}
 use Rattle.code.specs.Effect.{Effect, operate_or_trap, operated, number_stored, element_word, cleared, plain_of}
@@ -39,7 +39,7 @@ module _ (code : List Instr) (place : ℕ) where
   at_next : (after d : ℕ) → HasDepth code (place + 1) after → after ≡ d → HasDepth code (place + 1) d
   at_next after d h same = subst (HasDepth code (place + 1)) same h
 
-  loaded_led : (stack numbers : List ℕ) (o : Option ℕ) → HasDepth code (place + 1) (suc (length stack)) → Led (option_map {U = Effect} (λ (n : ℕ). (way.Next, n ∷ stack, numbers)) o)
+  loaded_led : (stack numbers : List ℕ) (o : Option ℕ) → HasDepth code (place + 1) (suc (length stack)) → Led (option_map {U = Effect} (λ (n : ℕ). (path.Next, n ∷ stack, numbers)) o)
   loaded_led stack numbers None h = tt
   loaded_led stack numbers (Some n) h = h
 
@@ -59,7 +59,7 @@ module _ (code : List Instr) (place : ℕ) where
   led (instr.Push n) stack numbers after k next lands = at_next after (suc (length stack)) (next (λ h. h)) (one_more (length stack) after k)
   led (instr.Load slot) stack numbers after k next lands = loaded_led stack numbers (slice_get numbers slot) (at_next after (suc (length stack)) (next (λ h. h)) (one_more (length stack) after k))
   led (instr.Store slot) [] numbers after k next lands = tt
-  led (instr.Store slot) (n ∷ stack) numbers after k next lands = one_led (nat_lt slot (length numbers)) (Some (way.Next, stack, slice_set numbers slot n)) None (at_next after (length stack) (next (λ h. h)) (cc)) tt
+  led (instr.Store slot) (n ∷ stack) numbers after k next lands = one_led (nat_lt slot (length numbers)) (Some (path.Next, stack, slice_set numbers slot n)) None (at_next after (length stack) (next (λ h. h)) (cc)) tt
   led instr.Complement [] numbers after k next lands = tt
   led instr.Complement (a ∷ stack) numbers after k next lands = at_next after (suc (length stack)) (next (λ h. h)) (cc)
   led instr.Not [] numbers after k next lands = tt
@@ -73,13 +73,13 @@ module _ (code : List Instr) (place : ℕ) where
   led (instr.OperateOrTrap operator line) (b ∷ []) numbers after k next lands = tt
   led (instr.OperateOrTrap operator line) (b ∷ a ∷ stack) numbers after k next lands = operated_led line (b ∷ a ∷ stack) stack numbers (operate_or_trap operator a b) (at_next after (suc (length stack)) (next (λ h. h)) (cc))
   led (instr.JumpIfFalseOrPop n) [] numbers after k next lands = tt
-  led (instr.JumpIfFalseOrPop n) (a ∷ stack) numbers after k next lands = either_led (a == 0) (way.Skip n, a ∷ stack, numbers) (way.Next, stack, numbers) lands (at_next after (length stack) (next (λ h. h)) (cc))
+  led (instr.JumpIfFalseOrPop n) (a ∷ stack) numbers after k next lands = either_led (a == 0) (path.Skip n, a ∷ stack, numbers) (path.Next, stack, numbers) lands (at_next after (length stack) (next (λ h. h)) (cc))
   led (instr.JumpIfTrueOrPop n) [] numbers after k next lands = tt
-  led (instr.JumpIfTrueOrPop n) (a ∷ stack) numbers after k next lands = either_led (a == 0) (way.Next, stack, numbers) (way.Skip n, a ∷ stack, numbers) (at_next after (length stack) (next (λ h. h)) (cc)) lands
+  led (instr.JumpIfTrueOrPop n) (a ∷ stack) numbers after k next lands = either_led (a == 0) (path.Next, stack, numbers) (path.Skip n, a ∷ stack, numbers) (at_next after (length stack) (next (λ h. h)) (cc)) lands
   led (instr.JumpIfFalse n) [] numbers after k next lands = tt
   led (instr.JumpIfFalse n) (a ∷ stack) numbers after k next lands =
       let same : suc (length stack) - 1 ≡ length stack = omega arith in
-      either_led (a == 0) (way.Skip n, stack, numbers) (way.Next, stack, numbers) (subst (HasDepth code (place + 1 + n)) same lands) (at_next after (length stack) (next (λ h. h)) (cc))
+      either_led (a == 0) (path.Skip n, stack, numbers) (path.Next, stack, numbers) (subst (HasDepth code (place + 1 + n)) same lands) (at_next after (length stack) (next (λ h. h)) (cc))
   led (instr.Jump n) stack numbers after k next lands = lands
   led (instr.JumpBack n) stack numbers after k next lands = lands
   led (instr.LoadElement array line) [] numbers after k next lands = tt
@@ -89,10 +89,10 @@ module _ (code : List Instr) (place : ℕ) where
   led (instr.StoreElement type array line) (word ∷ []) numbers after k next lands = tt
   led (instr.StoreElement type array line) (word ∷ index ∷ stack) numbers after k next lands =
       one_led (nat_lt index array.len) (number_stored (array.start + index) (element_word type word) stack numbers) _
-      (one_led (nat_lt (array.start + index) (length numbers)) (Some (way.Next, stack, slice_set numbers (array.start + index) (element_word type word))) None (at_next after (length stack) (next (λ h. h)) (cc)) tt)
+      (one_led (nat_lt (array.start + index) (length numbers)) (Some (path.Next, stack, slice_set numbers (array.start + index) (element_word type word))) None (at_next after (length stack) (next (λ h. h)) (cc)) tt)
       tt
   led (instr.ClearArray array) stack numbers after k next lands =
-      one_led (nat_le (array.start + array.len) (length numbers)) (Some (way.Next, stack, cleared array numbers)) None (at_next after (length stack) (next (λ h. h)) (cc)) tt
+      one_led (nat_le (array.start + array.len) (length numbers)) (Some (path.Next, stack, cleared array numbers)) None (at_next after (length stack) (next (λ h. h)) (cc)) tt
   led (instr.LoadBuffer slot line) stack numbers after k next lands = tt
   led (instr.StoreBuffer type slot line) stack numbers after k next lands = tt
   led (instr.TestNull variable equal) stack numbers after k next lands = tt
@@ -136,8 +136,8 @@ module _ (code : Listing) (valid : IsValid code) (place : ℕ) (i : Instr) (at :
     words = ap is_some ((known place).1);
     room = λ depth h. ap is_some ((words_after depth h).1);
     plain = λ stack numbers p h l. let next = words_after (length stack) h in plain_there code.slots i stack numbers next.0 p (passes (within_slots code.slots) code.instrs place i valid.slots at) l next.1;
-    keeps = λ stack numbers stack' numbers' way h. subst (KeepsSlots numbers) h (plain_keeps i stack numbers);
-    leads = λ stack numbers stack' numbers' way h k.
+    keeps = λ stack numbers stack' numbers' path h. subst (KeepsSlots numbers) h (plain_keeps i stack numbers);
+    leads = λ stack numbers stack' numbers' path h k.
         let next = words_after (length stack) h in
         subst (Led code.instrs place) k (led code.instrs place i stack numbers next.0 next.1 (λ stays. place_after (length stack) next.0 stays h next.1) (valid.jumps place (length stack) i at h));
     rest_of = place_after;

@@ -16,11 +16,11 @@ pub record RunsAt (code : Listing) (place : ℕ) (i : Instr) : Type 0 where
   pub plain : (stack numbers : List ℕ) → IsPlain i → depth_at code.instrs place ≡ Some (length stack)
       → length numbers ≡ code.slots.numbers → IsSome (plain_of i stack numbers)
   -- which keeps the number of slots
-  pub keeps : (stack numbers stack' numbers' : List ℕ) (way : Plain)
-      → plain_of i stack numbers ≡ Some (way, stack', numbers') → length numbers' ≡ length numbers
+  pub keeps : (stack numbers stack' numbers' : List ℕ) (path : Plain)
+      → plain_of i stack numbers ≡ Some (path, stack', numbers') → length numbers' ≡ length numbers
   -- and leads inside, to a place with as many words as the stack has then
-  pub leads : (stack numbers stack' numbers' : List ℕ) (way : Plain) → depth_at code.instrs place ≡ Some (length stack)
-      → plain_of i stack numbers ≡ Some (way, stack', numbers') → LeadsInside code.instrs place way (length stack')
+  pub leads : (stack numbers stack' numbers' : List ℕ) (path : Plain) → depth_at code.instrs place ≡ Some (length stack)
+      → plain_of i stack numbers ≡ Some (path, stack', numbers') → LeadsInside code.instrs place path (length stack')
   -- and after one that doesn't leave there is a place with the words that it leaves
   pub rest_of : (depth after : ℕ) → (Leaves i → ⊥) → depth_at code.instrs place ≡ Some depth
       → depth_after i depth ≡ Some after → HasDepth code.instrs (place + 1) after

@@ -290,7 +290,7 @@ pub enum Instr {
     JumpIfTrueOrPop(u32),
     /// Takes a truth and jumps where it is 0 (6.8.4.1 and 6.8.5.1).
     JumpIfFalse(u32),
-    /// Jumps over instructions (the end of an `if`'s way, 6.8.4.1).
+    /// Jumps over instructions (the end of an `if`'s branch, 6.8.4.1).
     Jump(u32),
     /// Jumps back (the end of a loop's turn, 6.8.5.1).
     JumpBack(u32),

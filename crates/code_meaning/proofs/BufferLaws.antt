@@ -110,7 +110,7 @@ shows_kept code known old new slots same statics shows = record {
   owners = shows.owners;
   fields = shows.fields;
   buffers = shows.buffers;
-  each = λ x s at. slot_stays old new x slots slots (same x) s.sort s.index (λ k p. refl) (λ r. (refl, refl)) (λ r. refl) (λ b. refl) (λ g. statics_stay old.statics new.statics statics x) (shows.each x s at);
+  each = λ x s at. slot_stays old new x slots slots (same x) s.ty s.index (λ k p. refl) (λ r. (refl, refl)) (λ r. refl) (λ b. refl) (λ g. statics_stay old.statics new.statics statics x) (shows.each x s at);
 }
 
 -- so they do with another heap

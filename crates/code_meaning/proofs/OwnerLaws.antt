@@ -9,8 +9,8 @@ use Rattle.std.proofs.lemmas.Bool.{eqb-true}
 use Rattle.std.proofs.lemmas.Bool.Decides.{not_from_Decides, Decides-eqb}
 use Rattle.std.proofs.lemmas.Slice.Eq.{bytes_eq-Decides}
 use Rattle.base.specs.Bytes.{Identifier, lookup}
-use Rattle.type_rules.specs.Sorts.{Sort, Jint, Ref, Global, Weak, FieldId, MethodId, Buffer, Array}
-use Rattle.type_rules.specs.Sorts as sort
+use Rattle.type_rules.specs.ExprTypes.{ExprType, Jint, Ref, Global, Weak, FieldId, MethodId, Buffer, Array}
+use Rattle.type_rules.specs.ExprTypes as ty
 use Rattle.code.specs.Depth.{Listing}
 use Rattle.code_meaning.specs.Layout.{Slot, Known}
 use Rattle.code_meaning.specs.Fits.{IsOwn}
@@ -21,20 +21,20 @@ use Rattle.code_meaning.proofs.SlotLaws.{get-set_other}
 
 -- The level of a variable's own reference is in the list at the variable's slot. Where it was kept before, it may be used.
 abbrev OwnersKept : Known → Visible → Slots → (own : Identifier → Option ℕ) → (owners : List (Option ℕ)) → Type 0
-OwnersKept known visible slots own owners = (x : Identifier) (i level : ℕ) → lookup x known ≡ Some (record { sort = Ref; index = i })
+OwnersKept known visible slots own owners = (x : Identifier) (i level : ℕ) → lookup x known ≡ Some (record { ty = Ref; index = i })
     → ((before : ℕ) → visible.owner x ≡ Some before → slice_get slots.owners i ≡ Some (Some before)) → own x ≡ Some level → slice_get owners i ≡ Some (Some level)
 
 module _ (visible : Visible) (slots : Slots) (own : Identifier → Option ℕ) (owners : List (Option ℕ)) (x : Identifier) where
   number_shown : (s : Slot) → ShowsNumber visible x slots.numbers s → ShowsNumber (record visible { owner = own }) x slots.numbers s
-  number_shown s h = record { value = h.value; is = h.is; kind = h.kind; sort = h.sort; word = h.word }
+  number_shown s h = record { value = h.value; is = h.is; kind = h.kind; ty = h.ty; word = h.word }
 
   -- only a local reference's slot has to do with owners
-  slot_shown : (kind : Sort) (i : ℕ) → (kind ≡ Ref → ((before : ℕ) → visible.owner x ≡ Some before → slice_get slots.owners i ≡ Some (Some before)) → (level : ℕ) → own x ≡ Some level → slice_get owners i ≡ Some (Some level))
-      → ShowsSlot visible x slots (record { sort = kind; index = i }) kind → ShowsSlot (record visible { owner = own }) x (record slots { owners = owners }) (record { sort = kind; index = i }) kind
-  slot_shown sort.Word i kept h = number_shown (record { sort = sort.Word; index = i }) h
-  slot_shown Jint i kept h = number_shown (record { sort = Jint; index = i }) h
-  slot_shown sort.Flag i kept h = number_shown (record { sort = sort.Flag; index = i }) h
-  slot_shown sort.Truth i kept h = tt
+  slot_shown : (kind : ExprType) (i : ℕ) → (kind ≡ Ref → ((before : ℕ) → visible.owner x ≡ Some before → slice_get slots.owners i ≡ Some (Some before)) → (level : ℕ) → own x ≡ Some level → slice_get owners i ≡ Some (Some level))
+      → ShowsSlot visible x slots (record { ty = kind; index = i }) kind → ShowsSlot (record visible { owner = own }) x (record slots { owners = owners }) (record { ty = kind; index = i }) kind
+  slot_shown ty.Word i kept h = number_shown (record { ty = ty.Word; index = i }) h
+  slot_shown Jint i kept h = number_shown (record { ty = Jint; index = i }) h
+  slot_shown ty.Flag i kept h = number_shown (record { ty = ty.Flag; index = i }) h
+  slot_shown ty.Truth i kept h = tt
   slot_shown Ref i kept h = record { reference = h.reference; is = h.is; is_null = h.is_null; no_number = h.no_number; kind = h.kind; there = h.there; owner = λ n level is owned. kept refl (λ before was. h.owner n before is was) level owned }
   slot_shown Global i kept h = record {
     static = h.static;
@@ -61,12 +61,12 @@ module _ (code : Listing) (known : Known) (visible : Visible) (slots : Slots) (s
     owners = count ∙ shows.owners;
     fields = shows.fields;
     buffers = shows.buffers;
-    each = λ x s at. slot_shown visible slots own owners x s.sort s.index (λ e before level owned. kept x s.index level (at ∙ ap (λ (k : Sort). Some (record { sort = k; index = s.index })) e) before owned) (shows.each x s at);
+    each = λ x s at. slot_shown visible slots own owners x s.ty s.index (λ e before level owned. kept x s.index level (at ∙ ap (λ (k : ExprType). Some (record { ty = k; index = s.index })) e) before owned) (shows.each x s at);
   }
 
   -- other owners, whose levels are all in the list
   pub owners_changed : (own : Identifier → Option ℕ) (owners : List (Option ℕ)) → length owners ≡ length slots.owners
-      → ((x : Identifier) (i level : ℕ) → lookup x known ≡ Some (record { sort = Ref; index = i }) → own x ≡ Some level → slice_get owners i ≡ Some (Some level))
+      → ((x : Identifier) (i level : ℕ) → lookup x known ≡ Some (record { ty = Ref; index = i }) → own x ≡ Some level → slice_get owners i ≡ Some (Some level))
       → Shows code known (record visible { owner = own }) (record slots { owners = owners })
   owners_changed own owners count kept = with_owners own owners count (λ x i level at before owned. kept x i level at owned)
 
@@ -92,28 +92,28 @@ module _ (code : Listing) (known : Known) (visible : Visible) (slots : Slots) (s
         | false ↦ λ e. get-set_other slots.owners i j None (not_from_Decides (j == i) (Decides-eqb j i) e) ∙ before level is
       ] refl
 
-  lost_kept : (x : Identifier) (i : ℕ) → ((y : Identifier) → lookup y known ≡ Some (record { sort = Ref; index = i }) → y ≢ x → visible.owner y ≡ None)
+  lost_kept : (x : Identifier) (i : ℕ) → ((y : Identifier) → lookup y known ≡ Some (record { ty = Ref; index = i }) → y ≢ x → visible.owner y ≡ None)
       → OwnersKept known visible slots (λ y. if bytes_eq y x then None else visible.owner y) (slice_set slots.owners i None)
   lost_kept x i alone y j level at before is =
       elim (bytes_eq y x) as (λ b. bytes_eq y x ≡ b → (if b then None else visible.owner y) ≡ Some level → slice_get (slice_set slots.owners i None) j ≡ Some (Some level)) [
         | true ↦ λ e h. absurd (let c : None ≡ Some level = h in cc)
         | false ↦ λ e h.
             other_kept i j level (visible.owner y)
-            (λ same. alone y (at ∙ ap (λ (k : ℕ). Some (record { sort = Ref; index = k })) same) (not_from_Decides (bytes_eq y x) (bytes_eq-Decides y x) e))
+            (λ same. alone y (at ∙ ap (λ (k : ℕ). Some (record { ty = Ref; index = k })) same) (not_from_Decides (bytes_eq y x) (bytes_eq-Decides y x) e))
             before h
       ] refl is
 
   -- the slot is of no other known variable with a reference of its own
-  pub owner_lost : (x : Identifier) (i : ℕ) → ((y : Identifier) → lookup y known ≡ Some (record { sort = Ref; index = i }) → y ≢ x → visible.owner y ≡ None)
+  pub owner_lost : (x : Identifier) (i : ℕ) → ((y : Identifier) → lookup y known ≡ Some (record { ty = Ref; index = i }) → y ≢ x → visible.owner y ≡ None)
       → Shows code known (record visible { owner = λ y. if bytes_eq y x then None else visible.owner y }) (record slots { owners = slice_set slots.owners i None })
   owner_lost x i alone =
       with_owners (λ y. if bytes_eq y x then None else visible.owner y) (slice_set slots.owners i None) (length-set slots.owners i None) (lost_kept x i alone)
 
   -- the slot is the variable's own
-  pub owner_lost_with_slot : (x : Identifier) (i : ℕ) → IsOwn known x (record { sort = Ref; index = i })
+  pub owner_lost_with_slot : (x : Identifier) (i : ℕ) → IsOwn known x (record { ty = Ref; index = i })
       → Shows code known (record visible { owner = λ y. if bytes_eq y x then None else visible.owner y }) (record slots { owners = slice_set slots.owners i None })
   owner_lost_with_slot x i own =
-      owner_lost x i (λ y at other. absurd ((own y (record { sort = Ref; index = i }) at other).references refl refl refl))
+      owner_lost x i (λ y at other. absurd ((own y (record { ty = Ref; index = i }) at other).references refl refl refl))
 
   -- fewer variables have references of their own
   pub fewer_owners : (own : Identifier → Option ℕ) → ((x : Identifier) (level : ℕ) → own x ≡ Some level → visible.owner x ≡ Some level) → Shows code known (record visible { owner = own }) slots

@@ -10,9 +10,9 @@ use Rattle.std.proofs.lemmas.Slice.Eq.{bytes_eq-Decides}
 use Rattle.std.proofs.lemmas.Bool.Decides.{not_from_Decides, Decides-eqb}
 use Rattle.base.specs.Bytes.{Identifier, lookup}
 use Rattle.base.specs.Element.{ElementType}
-use Rattle.type_rules.specs.Sorts.{Sort, Jint, Ref, Global, Weak, FieldId, MethodId, Buffer, Array}
-use Rattle.type_rules.specs.Sorts as sort
-use Rattle.type_rules.specs.SortGroups.{IsNumberSort}
+use Rattle.type_rules.specs.ExprTypes.{ExprType, Jint, Ref, Global, Weak, FieldId, MethodId, Buffer, Array}
+use Rattle.type_rules.specs.ExprTypes as ty
+use Rattle.type_rules.specs.TypeGroups.{IsNumberType}
 use Rattle.class_rules.specs.Fields as source
 use Rattle.semantics.specs.Method as method
 use Rattle.semantics.specs.Object.{Reference}
@@ -27,8 +27,8 @@ use Rattle.code.specs.Effect.{cleared}
 use Rattle.code.proofs.Arrays.{cleared_element, cleared_before, cleared_after}
 use Rattle.code_meaning.specs.Layout.{Slot, Known}
 use Rattle.code_meaning.specs.Coding.{nullable_of}
-use Rattle.code_meaning.specs.Slots.{word_of, ValueHasSort, Visible, IsAsBefore, OthersStay, IsSet, IsNulled, IsReferred, IsFieldSet, IsMethodSet, IsBufferSet, IsMade, IsElementSet, IsHeld, HasNoVariable, is_empty, nulled_statics, static_index, Handle, OfField, OfMethod, Slots, ShowsNumber, ShowsElement, ShowsStatic, ShowsSlot, Shows, with_null}
-use Rattle.code_meaning.specs.Fits.{IsPlaceOf, IsBufferSort, IsHandleSort, IsOwn, IndexWithin, IsStaticSort}
+use Rattle.code_meaning.specs.Slots.{word_of, ValueHasType, Visible, IsAsBefore, OthersStay, IsSet, IsNulled, IsReferred, IsFieldSet, IsMethodSet, IsBufferSet, IsMade, IsElementSet, IsHeld, HasNoVariable, is_empty, nulled_statics, static_index, Handle, OfField, OfMethod, Slots, ShowsNumber, ShowsElement, ShowsStatic, ShowsSlot, Shows, with_null}
+use Rattle.code_meaning.specs.Fits.{IsPlaceOf, IsBufferType, IsHandleType, IsOwn, IndexWithin, IsStaticType}
 use Rattle.code_meaning.specs.Stands.{AreAmong, IsSlotOf}
 use Rattle.code_meaning.proofs.StaticPlaces.{StaticStays, statics_stay, assigned_stays, assigned_place, assigned_held, same_name}
 
@@ -85,29 +85,29 @@ fewer_shown code names known visible slots among shows = record { numbers = show
 
 -- ---- what stays
 
-number_place_at : (kind : Sort) (i : ℕ) → IsNumberSort kind → IsPlaceOf (record { sort = kind; index = i }) i
-number_place_at sort.Word i h = (omega arith, omega arith)
+number_place_at : (kind : ExprType) (i : ℕ) → IsNumberType kind → IsPlaceOf (record { ty = kind; index = i }) i
+number_place_at ty.Word i h = (omega arith, omega arith)
 number_place_at Jint i h = (omega arith, omega arith)
-number_place_at sort.Flag i h = (omega arith, omega arith)
+number_place_at ty.Flag i h = (omega arith, omega arith)
 number_place_at kind i h = absurd h
 
-pub number_place : (s : Slot) → IsNumberSort s.sort → IsPlaceOf s s.index
-number_place s h = number_place_at s.sort s.index h
+pub number_place : (s : Slot) → IsNumberType s.ty → IsPlaceOf s s.index
+number_place s h = number_place_at s.ty s.index h
 
 -- a local reference stays in its slot, with its level
 abbrev pub ReferenceStays : (slots slots' : Slots) (i : ℕ) → Type 0
 ReferenceStays slots slots' i = (slice_get slots'.references i ≡ slice_get slots.references i) × (slice_get slots'.owners i ≡ slice_get slots.owners i)
 
 module _ (old new : Visible) (x : Identifier) (slots slots' : Slots) (same : IsAsBefore old new x) where
-  number_stays : (kind : Sort) (i : ℕ) → slice_get slots'.numbers i ≡ slice_get slots.numbers i → ShowsNumber old x slots.numbers (record { sort = kind; index = i }) → ShowsNumber new x slots'.numbers (record { sort = kind; index = i })
-  number_stays kind i word h = record { value = h.value; is = same.number ∙ h.is; kind = same.kind ∙ h.kind; sort = h.sort; word = word ∙ h.word }
+  number_stays : (kind : ExprType) (i : ℕ) → slice_get slots'.numbers i ≡ slice_get slots.numbers i → ShowsNumber old x slots.numbers (record { ty = kind; index = i }) → ShowsNumber new x slots'.numbers (record { ty = kind; index = i })
+  number_stays kind i word h = record { value = h.value; is = same.number ∙ h.is; kind = same.kind ∙ h.kind; ty = h.ty; word = word ∙ h.word }
 
-  pub slot_stays : (kind : Sort) (i : ℕ) → ((k : ℕ) → IsPlaceOf (record { sort = kind; index = i }) k → slice_get slots'.numbers k ≡ slice_get slots.numbers k) → (kind ≡ Ref → ReferenceStays slots slots' i) → (IsHandleSort kind → slice_get slots'.fields i ≡ slice_get slots.fields i)
-      → (IsBufferSort kind → slice_get slots'.buffers i ≡ slice_get slots.buffers i) → (IsStaticSort kind → StaticStays old.statics new.statics x) → ShowsSlot old x slots (record { sort = kind; index = i }) kind → ShowsSlot new x slots' (record { sort = kind; index = i }) kind
-  slot_stays sort.Word i numbers references fields buffers statics h = number_stays sort.Word i (numbers i (omega arith, omega arith)) h
+  pub slot_stays : (kind : ExprType) (i : ℕ) → ((k : ℕ) → IsPlaceOf (record { ty = kind; index = i }) k → slice_get slots'.numbers k ≡ slice_get slots.numbers k) → (kind ≡ Ref → ReferenceStays slots slots' i) → (IsHandleType kind → slice_get slots'.fields i ≡ slice_get slots.fields i)
+      → (IsBufferType kind → slice_get slots'.buffers i ≡ slice_get slots.buffers i) → (IsStaticType kind → StaticStays old.statics new.statics x) → ShowsSlot old x slots (record { ty = kind; index = i }) kind → ShowsSlot new x slots' (record { ty = kind; index = i }) kind
+  slot_stays ty.Word i numbers references fields buffers statics h = number_stays ty.Word i (numbers i (omega arith, omega arith)) h
   slot_stays Jint i numbers references fields buffers statics h = number_stays Jint i (numbers i (omega arith, omega arith)) h
-  slot_stays sort.Flag i numbers references fields buffers statics h = number_stays sort.Flag i (numbers i (omega arith, omega arith)) h
-  slot_stays sort.Truth i numbers references fields buffers statics h = tt
+  slot_stays ty.Flag i numbers references fields buffers statics h = number_stays ty.Flag i (numbers i (omega arith, omega arith)) h
+  slot_stays ty.Truth i numbers references fields buffers statics h = tt
   slot_stays Ref i numbers references fields buffers statics h = record { reference = h.reference; is = same.reference ∙ h.is; is_null = same.is_null ∙ h.is_null; no_number = same.number ∙ h.no_number; kind = same.kind ∙ h.kind; there = (references refl).0 ∙ h.there; owner = λ n level is own. (references refl).1 ∙ h.owner n level is (sym same.owner ∙ own) }
   slot_stays Global i numbers references fields buffers statics h = record {
     static = record { place = (statics tt).place ∙ h.static.place; held = h.static.held; there = (statics tt).there ∙ h.static.there };
@@ -136,9 +136,9 @@ module _ (old new : Visible) (x : Identifier) (slots slots' : Slots) (same : IsA
 -- A name has this slot, which it shows, and the others are as they were.
 module _ (code : Listing) (known : Known) (old new : Visible) (slots slots' : Slots) (x : Identifier) (s : Slot) (shows : Shows code known old slots) (own : IsOwn known x s) (others : OthersStay old new x) (statics : (y : Identifier) → y ≢ x → StaticStays old.statics new.statics y) where
   pub with_changed : length slots'.numbers ≡ length slots.numbers → length slots'.references ≡ length slots.references → length slots'.owners ≡ length slots.owners → length slots'.fields ≡ length slots.fields → ((k : ℕ) → (IsPlaceOf s k → ⊥) → slice_get slots'.numbers k ≡ slice_get slots.numbers k)
-      → ((i : ℕ) → (s.sort ≡ Ref → i ≢ s.index) → ReferenceStays slots slots' i)
-      → ((i : ℕ) → (IsHandleSort s.sort → i ≢ s.index) → slice_get slots'.fields i ≡ slice_get slots.fields i)
-      → length slots'.buffers ≡ length slots.buffers → ((i : ℕ) → (IsBufferSort s.sort → i ≢ s.index) → slice_get slots'.buffers i ≡ slice_get slots.buffers i) → ShowsSlot new x slots' s s.sort → Shows code ((x, s) ∷ known) new slots'
+      → ((i : ℕ) → (s.ty ≡ Ref → i ≢ s.index) → ReferenceStays slots slots' i)
+      → ((i : ℕ) → (IsHandleType s.ty → i ≢ s.index) → slice_get slots'.fields i ≡ slice_get slots.fields i)
+      → length slots'.buffers ≡ length slots.buffers → ((i : ℕ) → (IsBufferType s.ty → i ≢ s.index) → slice_get slots'.buffers i ≡ slice_get slots.buffers i) → ShowsSlot new x slots' s s.ty → Shows code ((x, s) ∷ known) new slots'
   with_changed numbers references owners fields number reference field buffers buffer here = record {
     numbers = numbers ∙ shows.numbers;
     references = references ∙ shows.references;
@@ -146,11 +146,11 @@ module _ (code : Listing) (known : Known) (old new : Visible) (slots slots' : Sl
     fields = fields ∙ shows.fields;
     buffers = buffers ∙ shows.buffers;
     each = λ y t at.
-        first_or_after x y s t known (ShowsSlot new y slots' t t.sort)
-        (λ same is. subst (λ (z : Identifier). ShowsSlot new z slots' t t.sort) (sym same) (subst (λ (r : Slot). ShowsSlot new x slots' r r.sort) is here))
+        first_or_after x y s t known (ShowsSlot new y slots' t t.ty)
+        (λ same is. subst (λ (z : Identifier). ShowsSlot new z slots' t t.ty) (sym same) (subst (λ (r : Slot). ShowsSlot new x slots' r r.ty) is here))
         (λ other h.
         let apart = own y t h other in
-        slot_stays old new y slots slots' (others y other) t.sort t.index
+        slot_stays old new y slots slots' (others y other) t.ty t.index
         (λ k p. number k (λ q. apart.numbers k p q))
         (λ e. reference t.index (λ e'. apart.references e e'))
         (λ e. field t.index (λ e'. apart.fields e e'))
@@ -161,22 +161,22 @@ module _ (code : Listing) (known : Known) (old new : Visible) (slots slots' : Sl
 
 -- ---- a number variable is set
 
-number_shown : (visible : Visible) (x : Identifier) (slots : Slots) (s : Slot) (kind : Sort) → IsNumberSort kind → ShowsNumber visible x slots.numbers s → ShowsSlot visible x slots s kind
-number_shown visible x slots s sort.Word n h = h
+number_shown : (visible : Visible) (x : Identifier) (slots : Slots) (s : Slot) (kind : ExprType) → IsNumberType kind → ShowsNumber visible x slots.numbers s → ShowsSlot visible x slots s kind
+number_shown visible x slots s ty.Word n h = h
 number_shown visible x slots s Jint n h = h
-number_shown visible x slots s sort.Flag n h = h
+number_shown visible x slots s ty.Flag n h = h
 number_shown visible x slots s kind n h = absurd n
 
-place_within : (code : Listing) (kind : Sort) (i : ℕ) → IsNumberSort kind → IndexWithin code.slots kind i → i < code.slots.numbers
-place_within code sort.Word i n h = h
+place_within : (code : Listing) (kind : ExprType) (i : ℕ) → IsNumberType kind → IndexWithin code.slots kind i → i < code.slots.numbers
+place_within code ty.Word i n h = h
 place_within code Jint i n h = h
-place_within code sort.Flag i n h = h
+place_within code ty.Flag i n h = h
 place_within code kind i n h = absurd n
 
-pub number_below : (code : Listing) (known : Known) (x : Identifier) (s : Slot) → IsNumberSort s.sort → IsSlotOf code known x s → s.index < code.slots.numbers
-number_below code known x s n own = place_within code s.sort s.index n own.within
+pub number_below : (code : Listing) (known : Known) (x : Identifier) (s : Slot) → IsNumberType s.ty → IsSlotOf code known x s → s.index < code.slots.numbers
+number_below code known x s n own = place_within code s.ty s.index n own.within
 
-pub shows_set : (code : Listing) (known : Known) (old new : Visible) (slots : Slots) (x : Identifier) (s : Slot) (v : Value) → Shows code known old slots → IsSlotOf code known x s → IsNumberSort s.sort → ValueHasSort v s.sort → IsSet old x v new
+pub shows_set : (code : Listing) (known : Known) (old new : Visible) (slots : Slots) (x : Identifier) (s : Slot) (v : Value) → Shows code known old slots → IsSlotOf code known x s → IsNumberType s.ty → ValueHasType v s.ty → IsSet old x v new
     → Shows code ((x, s) ∷ known) new (record slots { numbers = slice_set slots.numbers s.index (word_of v) })
 shows_set code known old new slots x s v shows own n fits set =
     let below : s.index < length slots.numbers = omega (arith, number_below code known x s n own, shows.numbers) in
@@ -184,59 +184,59 @@ shows_set code known old new slots x s v shows own n fits set =
     (length-set slots.numbers s.index (word_of v)) refl refl refl
     (λ k outside. get-set_other slots.numbers s.index k (word_of v) (λ e. outside (subst (IsPlaceOf s) (sym e) (number_place s n))))
     (λ i other. (refl, refl)) (λ i other. refl) refl (λ i other. refl)
-    (number_shown new x (record slots { numbers = slice_set slots.numbers s.index (word_of v) }) s s.sort n (record { value = v; is = set.is; kind = set.kind; sort = fits; word = get-set_same slots.numbers s.index (word_of v) below }))
+    (number_shown new x (record slots { numbers = slice_set slots.numbers s.index (word_of v) }) s s.ty n (record { value = v; is = set.is; kind = set.kind; ty = fits; word = get-set_same slots.numbers s.index (word_of v) below }))
 
 -- ---- a local reference, a field ID or a method ID is set
 
 -- a reference is written, and its level, if it is an object and the variable's own
-with_reference : (code : Listing) (known : Known) (old new : Visible) (slots : Slots) (x : Identifier) (i : ℕ) (r : Reference) (owners : List (Option ℕ)) → Shows code known old slots → IsSlotOf code known x (record { sort = Ref; index = i }) → IsReferred old x r new → length owners ≡ length slots.owners
+with_reference : (code : Listing) (known : Known) (old new : Visible) (slots : Slots) (x : Identifier) (i : ℕ) (r : Reference) (owners : List (Option ℕ)) → Shows code known old slots → IsSlotOf code known x (record { ty = Ref; index = i }) → IsReferred old x r new → length owners ≡ length slots.owners
     → ((j : ℕ) → j ≢ i → slice_get owners j ≡ slice_get slots.owners j) → ((n level : ℕ) → r ≡ Some n → new.owner x ≡ Some level → slice_get owners i ≡ Some (Some level))
-    → Shows code ((x, record { sort = Ref; index = i }) ∷ known) new (record slots { references = slice_set slots.references i r; owners = owners })
+    → Shows code ((x, record { ty = Ref; index = i }) ∷ known) new (record slots { references = slice_set slots.references i r; owners = owners })
 with_reference code known old new slots x i r owners shows own set count others owner =
     let below : i < length slots.references = omega (arith, own.within, shows.references) in
-    with_changed code known old new slots (record slots { references = slice_set slots.references i r; owners = owners }) x (record { sort = Ref; index = i }) shows own.own set.others (λ y other. statics_stay old.statics new.statics set.statics y)
+    with_changed code known old new slots (record slots { references = slice_set slots.references i r; owners = owners }) x (record { ty = Ref; index = i }) shows own.own set.others (λ y other. statics_stay old.statics new.statics set.statics y)
     refl (length-set slots.references i r) count refl (λ k outside. refl) (λ j other. (get-set_other slots.references i j r (other refl), others j (other refl))) (λ j other. refl) refl (λ j other. refl)
     (record { reference = r; is = set.reference; is_null = set.is_null; no_number = set.number; kind = set.kind; there = get-set_same slots.references i r below; owner = owner })
 
-pub shows_referred : (code : Listing) (known : Known) (old new : Visible) (slots : Slots) (x : Identifier) (i : ℕ) (r : Reference) → Shows code known old slots → IsSlotOf code known x (record { sort = Ref; index = i }) → IsReferred old x r new
-    → Shows code ((x, record { sort = Ref; index = i }) ∷ known) new (record slots { references = slice_set slots.references i r; owners = slice_set slots.owners i (new.owner x) })
+pub shows_referred : (code : Listing) (known : Known) (old new : Visible) (slots : Slots) (x : Identifier) (i : ℕ) (r : Reference) → Shows code known old slots → IsSlotOf code known x (record { ty = Ref; index = i }) → IsReferred old x r new
+    → Shows code ((x, record { ty = Ref; index = i }) ∷ known) new (record slots { references = slice_set slots.references i r; owners = slice_set slots.owners i (new.owner x) })
 shows_referred code known old new slots x i r shows own set =
     let below : i < length slots.owners = omega (arith, own.within, shows.owners) in
     with_reference code known old new slots x i r (slice_set slots.owners i (new.owner x)) shows own set (length-set slots.owners i (new.owner x)) (λ j other. get-set_other slots.owners i j (new.owner x) other) (λ n level is owner. get-set_same slots.owners i (new.owner x) below ∙ ap (λ (o : Option ℕ). Some o) owner)
 
-pub shows_field_set : (code : Listing) (known : Known) (old new : Visible) (slots : Slots) (x : Identifier) (i : ℕ) (f : Option source.FieldId) → Shows code known old slots → IsSlotOf code known x (record { sort = FieldId; index = i }) → IsFieldSet old x f new
-    → Shows code ((x, record { sort = FieldId; index = i }) ∷ known) new (record slots { fields = slice_set slots.fields i (option_map OfField f) })
+pub shows_field_set : (code : Listing) (known : Known) (old new : Visible) (slots : Slots) (x : Identifier) (i : ℕ) (f : Option source.FieldId) → Shows code known old slots → IsSlotOf code known x (record { ty = FieldId; index = i }) → IsFieldSet old x f new
+    → Shows code ((x, record { ty = FieldId; index = i }) ∷ known) new (record slots { fields = slice_set slots.fields i (option_map OfField f) })
 shows_field_set code known old new slots x i f shows own set =
     let h : Option Handle = option_map OfField f in
     let below : i < length slots.fields = omega (arith, own.within, shows.fields) in
-    with_changed code known old new slots (record slots { fields = slice_set slots.fields i h }) x (record { sort = FieldId; index = i }) shows own.own set.others (λ y other. statics_stay old.statics new.statics set.statics y)
+    with_changed code known old new slots (record slots { fields = slice_set slots.fields i h }) x (record { ty = FieldId; index = i }) shows own.own set.others (λ y other. statics_stay old.statics new.statics set.statics y)
     refl refl refl (length-set slots.fields i h) (λ k outside. refl) (λ j other. (refl, refl)) (λ j other. get-set_other slots.fields i j h (other tt)) refl (λ j other. refl)
     (record { field = f; is = set.field; is_null = set.is_null; no_number = set.number; kind = set.kind; there = get-set_same slots.fields i h below })
 
-pub shows_method_set : (code : Listing) (known : Known) (old new : Visible) (slots : Slots) (x : Identifier) (i : ℕ) (m : Option method.MethodId) → Shows code known old slots → IsSlotOf code known x (record { sort = MethodId; index = i }) → IsMethodSet old x m new
-    → Shows code ((x, record { sort = MethodId; index = i }) ∷ known) new (record slots { fields = slice_set slots.fields i (option_map OfMethod m) })
+pub shows_method_set : (code : Listing) (known : Known) (old new : Visible) (slots : Slots) (x : Identifier) (i : ℕ) (m : Option method.MethodId) → Shows code known old slots → IsSlotOf code known x (record { ty = MethodId; index = i }) → IsMethodSet old x m new
+    → Shows code ((x, record { ty = MethodId; index = i }) ∷ known) new (record slots { fields = slice_set slots.fields i (option_map OfMethod m) })
 shows_method_set code known old new slots x i m shows own set =
     let h : Option Handle = option_map OfMethod m in
     let below : i < length slots.fields = omega (arith, own.within, shows.fields) in
-    with_changed code known old new slots (record slots { fields = slice_set slots.fields i h }) x (record { sort = MethodId; index = i }) shows own.own set.others (λ y other. statics_stay old.statics new.statics set.statics y)
+    with_changed code known old new slots (record slots { fields = slice_set slots.fields i h }) x (record { ty = MethodId; index = i }) shows own.own set.others (λ y other. statics_stay old.statics new.statics set.statics y)
     refl refl refl (length-set slots.fields i h) (λ k outside. refl) (λ j other. (refl, refl)) (λ j other. get-set_other slots.fields i j h (other tt)) refl (λ j other. refl)
     (record { method = m; is = set.method; is_null = set.is_null; no_number = set.number; kind = set.kind; there = get-set_same slots.fields i h below })
 
 -- ---- a buffer is set
 
-pub shows_buffer_set : (code : Listing) (known : Known) (old new : Visible) (slots : Slots) (x : Identifier) (t : ElementType) (writable : Bool) (i : ℕ) (b : variable.Buffer) → Shows code known old slots → IsSlotOf code known x (record { sort = Buffer t writable; index = i })
-    → IsBufferSet old t x b new → Shows code ((x, record { sort = Buffer t writable; index = i }) ∷ known) new (record slots { buffers = slice_set slots.buffers i b })
+pub shows_buffer_set : (code : Listing) (known : Known) (old new : Visible) (slots : Slots) (x : Identifier) (t : ElementType) (writable : Bool) (i : ℕ) (b : variable.Buffer) → Shows code known old slots → IsSlotOf code known x (record { ty = Buffer t writable; index = i })
+    → IsBufferSet old t x b new → Shows code ((x, record { ty = Buffer t writable; index = i }) ∷ known) new (record slots { buffers = slice_set slots.buffers i b })
 shows_buffer_set code known old new slots x t writable i b shows own set =
     let below : i < length slots.buffers = omega (arith, own.within, shows.buffers) in
-    with_changed code known old new slots (record slots { buffers = slice_set slots.buffers i b }) x (record { sort = Buffer t writable; index = i }) shows own.own set.others (λ y other. statics_stay old.statics new.statics set.statics y)
+    with_changed code known old new slots (record slots { buffers = slice_set slots.buffers i b }) x (record { ty = Buffer t writable; index = i }) shows own.own set.others (λ y other. statics_stay old.statics new.statics set.statics y)
     refl refl refl refl (λ k outside. refl) (λ j other. (refl, refl)) (λ j other. refl) (length-set slots.buffers i b) (λ j other. get-set_other slots.buffers i j b (other tt))
     (record { buffer = b; is = set.buffer; is_null = set.is_null; kind = set.kind; there = get-set_same slots.buffers i b below })
 
 -- one that has its slot already
-pub shows_buffer_again : (code : Listing) (known : Known) (old new : Visible) (slots : Slots) (x : Identifier) (t : ElementType) (writable : Bool) (i : ℕ) (b : variable.Buffer) → Shows code known old slots → lookup x known ≡ Some (record { sort = Buffer t writable; index = i })
-    → IsSlotOf code known x (record { sort = Buffer t writable; index = i }) → IsBufferSet old t x b new → Shows code known new (record slots { buffers = slice_set slots.buffers i b })
+pub shows_buffer_again : (code : Listing) (known : Known) (old new : Visible) (slots : Slots) (x : Identifier) (t : ElementType) (writable : Bool) (i : ℕ) (b : variable.Buffer) → Shows code known old slots → lookup x known ≡ Some (record { ty = Buffer t writable; index = i })
+    → IsSlotOf code known x (record { ty = Buffer t writable; index = i }) → IsBufferSet old t x b new → Shows code known new (record slots { buffers = slice_set slots.buffers i b })
 shows_buffer_again code known old new slots x t writable i b shows at own set =
-    fewer_shown code known ((x, record { sort = Buffer t writable; index = i }) ∷ known) new (record slots { buffers = slice_set slots.buffers i b }) (known_among x (record { sort = Buffer t writable; index = i }) known at)
+    fewer_shown code known ((x, record { ty = Buffer t writable; index = i }) ∷ known) new (record slots { buffers = slice_set slots.buffers i b }) (known_among x (record { ty = Buffer t writable; index = i }) known at)
     (shows_buffer_set code known old new slots x t writable i b shows own set)
 
 -- ---- a static holds something else
@@ -257,11 +257,11 @@ static_holds old new x i h shown is none is_null reference =
     }
 
 -- a name that no variable has is known as a static, if at all
-no_variable_shown : (old new : Visible) (x : Identifier) (slots : Slots) (h : StaticReference) (s : Slot) (kind : Sort) → IsHeld old x h new → ShowsSlot old x slots s kind → ShowsSlot new x slots s kind
-no_variable_shown old new x slots h s sort.Word held shown = absurd (let e : Some ScalarKind ≡ None = sym shown.kind ∙ held.before.kind in cc)
+no_variable_shown : (old new : Visible) (x : Identifier) (slots : Slots) (h : StaticReference) (s : Slot) (kind : ExprType) → IsHeld old x h new → ShowsSlot old x slots s kind → ShowsSlot new x slots s kind
+no_variable_shown old new x slots h s ty.Word held shown = absurd (let e : Some ScalarKind ≡ None = sym shown.kind ∙ held.before.kind in cc)
 no_variable_shown old new x slots h s Jint held shown = absurd (let e : Some ScalarKind ≡ None = sym shown.kind ∙ held.before.kind in cc)
-no_variable_shown old new x slots h s sort.Flag held shown = absurd (let e : Some ScalarKind ≡ None = sym shown.kind ∙ held.before.kind in cc)
-no_variable_shown old new x slots h s sort.Truth held shown = tt
+no_variable_shown old new x slots h s ty.Flag held shown = absurd (let e : Some ScalarKind ≡ None = sym shown.kind ∙ held.before.kind in cc)
+no_variable_shown old new x slots h s ty.Truth held shown = tt
 no_variable_shown old new x slots h s Ref held shown = absurd (let e : Some ReferenceKind ≡ None = sym shown.kind ∙ held.before.kind in cc)
 no_variable_shown old new x slots h s Global held shown = static_holds old new x s.index h shown held.statics held.after held.is_null held.reference
 no_variable_shown old new x slots h s Weak held shown = static_holds old new x s.index h shown held.statics held.after held.is_null held.reference
@@ -279,20 +279,20 @@ static_changes code known old new slots x h shows held = record {
   fields = shows.fields;
   buffers = shows.buffers;
   each = λ y s at.
-      elim (bytes_eq y x) as (λ b. bytes_eq y x ≡ b → ShowsSlot new y slots s s.sort) [
+      elim (bytes_eq y x) as (λ b. bytes_eq y x ≡ b → ShowsSlot new y slots s s.ty) [
         | true ↦ λ e.
             let same : y ≡ x = same_name y x e in
-            subst (λ (z : Identifier). ShowsSlot new z slots s s.sort) (sym same) (no_variable_shown old new x slots h s s.sort held (subst (λ (z : Identifier). ShowsSlot old z slots s s.sort) same (shows.each y s at)))
+            subst (λ (z : Identifier). ShowsSlot new z slots s s.ty) (sym same) (no_variable_shown old new x slots h s s.ty held (subst (λ (z : Identifier). ShowsSlot old z slots s s.ty) same (shows.each y s at)))
         | false ↦ λ e.
             let other : y ≢ x = not_from_Decides (bytes_eq y x) (bytes_eq-Decides y x) e in
-            slot_stays old new y slots slots (held.others y other) s.sort s.index (λ k p. refl) (λ r. (refl, refl)) (λ r. refl) (λ b. refl) (λ r. others_assigned old new x y h held.statics other) (shows.each y s at)
+            slot_stays old new y slots slots (held.others y other) s.ty s.index (λ k p. refl) (λ r. (refl, refl)) (λ r. refl) (λ b. refl) (λ r. others_assigned old new x y h held.statics other) (shows.each y s at)
       ] refl;
 }
 
 -- ---- a variable is made NULL
 
 -- the kind of what can be NULL; a static, which has none, is there at its place
-abbrev pub KindFits : Visible → Identifier → (i : ℕ) → Sort → Option VariableKind → Type 0
+abbrev pub KindFits : Visible → Identifier → (i : ℕ) → ExprType → Option VariableKind → Type 0
 KindFits visible x i Ref kind = kind ≡ Some ReferenceKind
 KindFits visible x i Global kind = (kind ≡ None) × ShowsStatic visible x i
 KindFits visible x i Weak kind = (kind ≡ None) × ShowsStatic visible x i
@@ -305,42 +305,42 @@ KindFits visible x i s kind = Unit {0}
 nulled_stay : (old new : Visible) (x : Identifier) (kind : Option VariableKind) (k : VariableKind) → kind ≡ Some k → new.statics ≡ nulled_statics kind x old.statics → new.statics ≡ old.statics
 nulled_stay old new x kind k is same = same ∙ ap (λ (o : Option VariableKind). nulled_statics o x old.statics) is
 
-pub shows_nulled : (code : Listing) (known : Known) (old new : Visible) (slots : Slots) (x : Identifier) (s : Sort) (kind : Option VariableKind) (i : ℕ) (variable : NullableVariable) → Shows code known old slots → IsSlotOf code known x (record { sort = s; index = i }) → nullable_of s i ≡ Some variable
-    → KindFits old x i s kind → IsNulled old kind x new → Shows code ((x, record { sort = s; index = i }) ∷ known) new (with_null variable slots)
+pub shows_nulled : (code : Listing) (known : Known) (old new : Visible) (slots : Slots) (x : Identifier) (s : ExprType) (kind : Option VariableKind) (i : ℕ) (variable : NullableVariable) → Shows code known old slots → IsSlotOf code known x (record { ty = s; index = i }) → nullable_of s i ≡ Some variable
+    → KindFits old x i s kind → IsNulled old kind x new → Shows code ((x, record { ty = s; index = i }) ∷ known) new (with_null variable slots)
 shows_nulled code known old new slots x Ref kind i variable shows own same e set =
     let is : nullable.Local i ≡ variable = cc in
-    subst (λ v. Shows code ((x, record { sort = Ref; index = i }) ∷ known) new (with_null v slots)) is
+    subst (λ v. Shows code ((x, record { ty = Ref; index = i }) ∷ known) new (with_null v slots)) is
     (with_reference code known old new slots x i None slots.owners shows own (record { number = set.number; is_null = set.is_null; reference = set.reference; kind = set.same_kind ∙ e; statics = nulled_stay old new x kind ReferenceKind e set.statics; others = set.others }) refl (λ j other. refl) (λ n level is owner. absurd (let c : None ≡ Some n = is in cc)))
 shows_nulled code known old new slots x Global kind i variable shows own same e set =
     let is : nullable.Static i ≡ variable = cc in
     let assigned : new.statics ≡ assign x Empty old.statics = set.statics ∙ ap (λ (o : Option VariableKind). nulled_statics o x old.statics) e.0 in
-    subst (λ v. Shows code ((x, record { sort = Global; index = i }) ∷ known) new (with_null v slots)) is
-    (with_changed code known old new slots slots x (record { sort = Global; index = i }) shows own.own set.others (λ y other. others_assigned old new x y Empty assigned other) refl refl refl refl (λ k outside. refl) (λ j other. (refl, refl)) (λ j other. refl) refl (λ j other. refl)
+    subst (λ v. Shows code ((x, record { ty = Global; index = i }) ∷ known) new (with_null v slots)) is
+    (with_changed code known old new slots slots x (record { ty = Global; index = i }) shows own.own set.others (λ y other. others_assigned old new x y Empty assigned other) refl refl refl refl (λ k outside. refl) (λ j other. (refl, refl)) (λ j other. refl) refl (λ j other. refl)
     (static_holds old new x i Empty e.1 assigned (record { number = set.number; array_type = set.array_type; kind = set.same_kind ∙ e.0 }) set.is_null set.reference))
 shows_nulled code known old new slots x Weak kind i variable shows own same e set =
     let is : nullable.Static i ≡ variable = cc in
     let assigned : new.statics ≡ assign x Empty old.statics = set.statics ∙ ap (λ (o : Option VariableKind). nulled_statics o x old.statics) e.0 in
-    subst (λ v. Shows code ((x, record { sort = Weak; index = i }) ∷ known) new (with_null v slots)) is
-    (with_changed code known old new slots slots x (record { sort = Weak; index = i }) shows own.own set.others (λ y other. others_assigned old new x y Empty assigned other) refl refl refl refl (λ k outside. refl) (λ j other. (refl, refl)) (λ j other. refl) refl (λ j other. refl)
+    subst (λ v. Shows code ((x, record { ty = Weak; index = i }) ∷ known) new (with_null v slots)) is
+    (with_changed code known old new slots slots x (record { ty = Weak; index = i }) shows own.own set.others (λ y other. others_assigned old new x y Empty assigned other) refl refl refl refl (λ k outside. refl) (λ j other. (refl, refl)) (λ j other. refl) refl (λ j other. refl)
     (static_holds old new x i Empty e.1 assigned (record { number = set.number; array_type = set.array_type; kind = set.same_kind ∙ e.0 }) set.is_null set.reference))
 shows_nulled code known old new slots x FieldId kind i variable shows own same e set =
     let is : nullable.FieldId i ≡ variable = cc in
-    subst (λ v. Shows code ((x, record { sort = FieldId; index = i }) ∷ known) new (with_null v slots)) is
+    subst (λ v. Shows code ((x, record { ty = FieldId; index = i }) ∷ known) new (with_null v slots)) is
     (shows_field_set code known old new slots x i None shows own (record { number = set.number; is_null = set.is_null; field = set.field; kind = set.same_kind ∙ e; statics = nulled_stay old new x kind FieldKind e set.statics; others = set.others }))
 shows_nulled code known old new slots x MethodId kind i variable shows own same e set =
     let is : nullable.FieldId i ≡ variable = cc in
-    subst (λ v. Shows code ((x, record { sort = MethodId; index = i }) ∷ known) new (with_null v slots)) is
+    subst (λ v. Shows code ((x, record { ty = MethodId; index = i }) ∷ known) new (with_null v slots)) is
     (shows_method_set code known old new slots x i None shows own (record { number = set.number; is_null = set.is_null; method = set.method; kind = set.same_kind ∙ e; statics = nulled_stay old new x kind MethodKind e set.statics; others = set.others }))
 shows_nulled code known old new slots x (Buffer t writable) kind i variable shows own same e set =
     let is : nullable.Buffer i ≡ variable = cc in
-    subst (λ v. Shows code ((x, record { sort = Buffer t writable; index = i }) ∷ known) new (with_null v slots)) is
+    subst (λ v. Shows code ((x, record { ty = Buffer t writable; index = i }) ∷ known) new (with_null v slots)) is
     (shows_buffer_set code known old new slots x t writable i NoBuffer shows own (record { buffer = set.buffer; is_null = set.is_null; kind = set.same_kind ∙ e; statics = nulled_stay old new x kind (BufferKind t) e set.statics; others = set.others }))
 shows_nulled code known old new slots x s kind i variable shows own same e set = absurd (cc)
 
 -- ---- a local array
 
 -- a slot that is none of an array's is in front of it or after it
-outside_array : (t : ElementType) (size start k : ℕ) → (IsPlaceOf (record { sort = Array t size; index = start }) k → ⊥) → (b : Bool) → nat_lt k start ≡ b → start ≤ k → start + size ≤ k
+outside_array : (t : ElementType) (size start k : ℕ) → (IsPlaceOf (record { ty = Array t size; index = start }) k → ⊥) → (b : Bool) → nat_lt k start ≡ b → start ≤ k → start + size ≤ k
 outside_array t size start k outside true h above = absurd (let below = ltb-true k start h in omega arith)
 outside_array t size start k outside false h above =
     elim (nat_lt k (start + size)) as (λ b. nat_lt k (start + size) ≡ b → start + size ≤ k) [
@@ -348,19 +348,19 @@ outside_array t size start k outside false h above =
       | false ↦ λ e. ltb-false k (start + size) e
     ] refl
 
-cleared_outside : (t : ElementType) (size start k : ℕ) (numbers : List ℕ) → start + size ≤ length numbers → (IsPlaceOf (record { sort = Array t size; index = start }) k → ⊥) → (b : Bool) → nat_lt k start ≡ b
+cleared_outside : (t : ElementType) (size start k : ℕ) (numbers : List ℕ) → start + size ≤ length numbers → (IsPlaceOf (record { ty = Array t size; index = start }) k → ⊥) → (b : Bool) → nat_lt k start ≡ b
     → slice_get (cleared (record { start = start; len = size }) numbers) k ≡ slice_get numbers k
 cleared_outside t size start k numbers inside outside true h = cleared_before (record { start = start; len = size }) numbers inside k (ltb-true k start h)
 cleared_outside t size start k numbers inside outside false h =
     let above : start ≤ k = ltb-false k start h in
     cleared_after (record { start = start; len = size }) numbers inside k (outside_array t size start k outside false h above)
 
-pub shows_made : (code : Listing) (known : Known) (old new : Visible) (slots : Slots) (t : ElementType) (x : Identifier) (size start : ℕ) → Shows code known old slots → IsSlotOf code known x (record { sort = Array t size; index = start })
+pub shows_made : (code : Listing) (known : Known) (old new : Visible) (slots : Slots) (t : ElementType) (x : Identifier) (size start : ℕ) → Shows code known old slots → IsSlotOf code known x (record { ty = Array t size; index = start })
     → length (cleared (record { start = start; len = size }) slots.numbers) ≡ length slots.numbers → IsMade old t x size new
-    → Shows code ((x, record { sort = Array t size; index = start }) ∷ known) new (record slots { numbers = cleared (record { start = start; len = size }) slots.numbers })
+    → Shows code ((x, record { ty = Array t size; index = start }) ∷ known) new (record slots { numbers = cleared (record { start = start; len = size }) slots.numbers })
 shows_made code known old new slots t x size start shows own keeps made =
     let inside : start + size ≤ length slots.numbers = omega (arith, own.within.2, shows.numbers) in
-    with_changed code known old new slots (record slots { numbers = cleared (record { start = start; len = size }) slots.numbers }) x (record { sort = Array t size; index = start }) shows own.own made.others (λ y other. statics_stay old.statics new.statics made.statics y)
+    with_changed code known old new slots (record slots { numbers = cleared (record { start = start; len = size }) slots.numbers }) x (record { ty = Array t size; index = start }) shows own.own made.others (λ y other. statics_stay old.statics new.statics made.statics y)
     keeps refl refl refl
     (λ k outside. cleared_outside t size start k slots.numbers inside outside (nat_lt k start) refl)
     (λ i other. (refl, refl)) (λ i other. refl) refl (λ i other. refl)
@@ -383,14 +383,14 @@ element_set old new numbers t x start index k z word inside is fits set old_elem
     record { number = old_element.number; is = set.elements k other ∙ old_element.is; fits = old_element.fits; word = get-set_other numbers (start + index) (start + k) word (λ s. other (omega (arith, s))) ∙ old_element.word }
 
 -- an element is written
-pub shows_element_set : (code : Listing) (known : Known) (old new : Visible) (slots : Slots) (t : ElementType) (x : Identifier) (size start index : ℕ) (z : ℤ) (word : ℕ) → Shows code known old slots → lookup x known ≡ Some (record { sort = Array t size; index = start })
-    → IsSlotOf code known x (record { sort = Array t size; index = start }) → index < size → word ≡ cast_unsigned w32 (convert t z) → FitsSigned w32 (convert t z) → IsElementSet old t x index z new
+pub shows_element_set : (code : Listing) (known : Known) (old new : Visible) (slots : Slots) (t : ElementType) (x : Identifier) (size start index : ℕ) (z : ℤ) (word : ℕ) → Shows code known old slots → lookup x known ≡ Some (record { ty = Array t size; index = start })
+    → IsSlotOf code known x (record { ty = Array t size; index = start }) → index < size → word ≡ cast_unsigned w32 (convert t z) → FitsSigned w32 (convert t z) → IsElementSet old t x index z new
     → Shows code known new (record slots { numbers = slice_set slots.numbers (start + index) word })
 shows_element_set code known old new slots t x size start index z word shows at own below is fits set =
-    let array = shows.each x (record { sort = Array t size; index = start }) at in
+    let array = shows.each x (record { ty = Array t size; index = start }) at in
     let inside : start + index < length slots.numbers = omega (arith, own.within.2, shows.numbers, below) in
-    fewer_shown code known ((x, record { sort = Array t size; index = start }) ∷ known) new (record slots { numbers = slice_set slots.numbers (start + index) word }) (known_among x (record { sort = Array t size; index = start }) known at)
-    (with_changed code known old new slots (record slots { numbers = slice_set slots.numbers (start + index) word }) x (record { sort = Array t size; index = start }) shows own.own set.others (λ y other. statics_stay old.statics new.statics set.statics y)
+    fewer_shown code known ((x, record { ty = Array t size; index = start }) ∷ known) new (record slots { numbers = slice_set slots.numbers (start + index) word }) (known_among x (record { ty = Array t size; index = start }) known at)
+    (with_changed code known old new slots (record slots { numbers = slice_set slots.numbers (start + index) word }) x (record { ty = Array t size; index = start }) shows own.own set.others (λ y other. statics_stay old.statics new.statics set.statics y)
     (length-set slots.numbers (start + index) word) refl refl refl
     (λ k outside. get-set_other slots.numbers (start + index) k word (λ e. outside (omega (arith, e), omega (arith, e, below))))
     (λ i other. (refl, refl)) (λ i other. refl) refl (λ i other. refl)

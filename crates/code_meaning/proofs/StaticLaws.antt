@@ -11,9 +11,9 @@ use Rattle.semantics.specs.Thread.{Shared, Thread}
 use Rattle.semantics.specs.Value.{Gives}
 use Rattle.semantics.specs.Variable.{Variable, Scalar, LocalRef, FieldHandle, MethodHandle, Elements, LocalArray, StaticReference, Empty, Live, Weakly, Cleared, Deleted, Statics, assign}
 use Rattle.code.specs.Depth.{Listing}
-use Rattle.type_rules.specs.Sorts.{Sort, Global, Weak}
+use Rattle.type_rules.specs.ExprTypes.{ExprType, Global, Weak}
 use Rattle.code_meaning.specs.Layout.{Slot, Known}
-use Rattle.code_meaning.specs.Fits.{IsStaticSort}
+use Rattle.code_meaning.specs.Fits.{IsStaticType}
 use Rattle.code_meaning.specs.Slots.{visible_to, type_of_array, kind_of_variable, HasNoVariable, IsAsBefore, IsHeld, is_empty, static_index, Slots, ShowsSlot, Shows}
 use Rattle.code_meaning.proofs.SlotLaws.{slot_stays, static_changes}
 use Rattle.code_meaning.proofs.StaticPlaces.{assigned_stays, assigned_place, assigned_held, there_at, same_name}
@@ -81,19 +81,19 @@ module _ (own : Identifier → Option ℕ) (shared : Shared) (t : Thread) (x : I
       }
 
   -- no variable has the name of a static
-  no_variable_at : (slots : Slots) (s : Slot) (kind : Sort) → IsStaticSort kind → ShowsSlot (visible_to own shared t) x slots s kind → HasNoVariable (visible_to own shared t) x
+  no_variable_at : (slots : Slots) (s : Slot) (kind : ExprType) → IsStaticType kind → ShowsSlot (visible_to own shared t) x slots s kind → HasNoVariable (visible_to own shared t) x
   no_variable_at slots s Global e shown = shown.no_variable
   no_variable_at slots s Weak e shown = shown.no_variable
   no_variable_at slots s kind e shown = absurd e
 
   -- a variable is not known as a static
-  variable_shown : (v : Variable) → lookup x t.variables ≡ Some v → (slots : Slots) (s : Slot) → ShowsSlot (visible_to own shared t) x slots s s.sort → ShowsSlot (visible_to own after t) x slots s s.sort
+  variable_shown : (v : Variable) → lookup x t.variables ≡ Some v → (slots : Slots) (s : Slot) → ShowsSlot (visible_to own shared t) x slots s s.ty → ShowsSlot (visible_to own after t) x slots s s.ty
   variable_shown v is slots s shown =
       slot_stays (visible_to own shared t) (visible_to own after t) x slots slots
       (as_before x (hidden_null (lookup x t.variables) v _ _ is) (ap (λ (o : Option Variable). held_reference o (lookup x after.statics)) is ∙ hidden_reference v _ _ ∙ sym (ap (λ (o : Option Variable). held_reference o (lookup x shared.statics)) is)))
-      s.sort s.index (λ k p. refl) (λ e. (refl, refl)) (λ e. refl) (λ e. refl)
+      s.ty s.index (λ k p. refl) (λ e. (refl, refl)) (λ e. refl) (λ e. refl)
       (λ e. absurd (
-      let none = no_variable_at slots s s.sort e shown in
+      let none = no_variable_at slots s s.ty e shown in
       no_kind v (ap kind_of_variable (sym is) ∙ none.kind) (ap type_of_array (sym is) ∙ none.array_type)))
       shown
 
@@ -110,13 +110,13 @@ module _ (own : Identifier → Option ℕ) (shared : Shared) (t : Thread) (x : I
         fields = shows.fields;
         buffers = shows.buffers;
         each = λ y s at.
-            elim (bytes_eq y x) as (λ b. bytes_eq y x ≡ b → ShowsSlot (visible_to own after t) y slots s s.sort) [
+            elim (bytes_eq y x) as (λ b. bytes_eq y x ≡ b → ShowsSlot (visible_to own after t) y slots s s.ty) [
               | true ↦ λ e.
                   let same : y ≡ x = same_name y x e in
-                  subst (λ (z : Identifier). ShowsSlot (visible_to own after t) z slots s s.sort) (sym same) (variable_shown v is slots s (subst (λ (z : Identifier). ShowsSlot (visible_to own shared t) z slots s s.sort) same (shows.each y s at)))
+                  subst (λ (z : Identifier). ShowsSlot (visible_to own after t) z slots s s.ty) (sym same) (variable_shown v is slots s (subst (λ (z : Identifier). ShowsSlot (visible_to own shared t) z slots s s.ty) same (shows.each y s at)))
               | false ↦ λ e.
                   let other : y ≢ x = not_from_Decides (bytes_eq y x) (bytes_eq-Decides y x) e in
-                  slot_stays (visible_to own shared t) (visible_to own after t) y slots slots (others_as_before y other) s.sort s.index (λ k p. refl) (λ r. (refl, refl)) (λ r. refl) (λ b. refl) (λ r. assigned_stays x y h shared.statics other) (shows.each y s at)
+                  slot_stays (visible_to own shared t) (visible_to own after t) y slots slots (others_as_before y other) s.ty s.index (λ k p. refl) (λ r. (refl, refl)) (λ r. refl) (λ b. refl) (λ r. assigned_stays x y h shared.statics other) (shows.each y s at)
             ] refl;
       }
 

@@ -6,8 +6,8 @@ use Rattle.base.specs.Bytes.{Identifier, lookup}
 use Rattle.base.specs.Element.{ElementType, JInt, JShort, JByte, JChar}
 use Rattle.syntax.specs.Tree as tree
 use Rattle.syntax.specs.Tree.{Constant, PrefixOp, LogicalNot, Complement, ToWord, ToInt, BinaryOp, LogicalOr, LogicalAnd, BitOr, BitXor, BitAnd, Equal, NotEqual, Less, LessEqual, Greater, GreaterEqual, ShiftLeft, ShiftRight, Add, Subtract, Multiply, Divide, Remainder, Expr, Argument, RightSide, FromExpr, FromCall, Test, TestExpr, TestCall, Stmt, Block, End, Next, Function}
-use Rattle.type_rules.specs.Sorts.{Sort, Ref, Global, Weak, FieldId, MethodId, Buffer, Array, is_jint}
-use Rattle.type_rules.specs.SortRules.{variable_sort}
+use Rattle.type_rules.specs.ExprTypes.{ExprType, Ref, Global, Weak, FieldId, MethodId, Buffer, Array, is_jint}
+use Rattle.type_rules.specs.TypeRules.{variable_type}
 use Rattle.jni.specs.JniFunction.{JniFunction, parameters_for, function_named}
 use Rattle.jni.specs.Prototype.{ParameterKind, IntNumber, Mode, Passed}
 use Rattle.code.specs.declared.instr.Operand.{Operand}
@@ -35,7 +35,7 @@ use Rattle.code_meaning.specs.Layout.{Slot, Known, Layout, new_slot, entry_layou
 -- ---- variables
 
 -- a variable that can be NULL
-abbrev pub nullable_of : Sort → ℕ → Option NullableVariable
+abbrev pub nullable_of : ExprType → ℕ → Option NullableVariable
 nullable_of Ref i = Some (nullable.Local i)
 nullable_of Global i = Some (nullable.Static i)
 nullable_of Weak i = Some (nullable.Static i)
@@ -51,7 +51,7 @@ test_of equal None = []
 
 -- the same of a name
 abbrev pub null_code : Bool → Option Slot → List Instr
-null_code equal (Some s) = test_of equal (nullable_of s.sort s.index)
+null_code equal (Some s) = test_of equal (nullable_of s.ty s.index)
 null_code equal None = []
 
 -- NULL goes there
@@ -67,24 +67,24 @@ element_of JByte = element.Byte
 element_of JChar = element.Char
 
 -- an element of an array with its first slot here, or of a buffer with its slot here
-abbrev pub element_code : (line : ℕ) → Sort → ℕ → List Instr
+abbrev pub element_code : (line : ℕ) → ExprType → ℕ → List Instr
 element_code line (Array t size) i = LoadElement (record { start = i; len = size }) line ∷ []
 element_code line (Buffer t writable) i = LoadBuffer i line ∷ []
 element_code line s i = []
 
 -- such an element is written
-abbrev pub write_code : (line : ℕ) → Sort → ℕ → List Instr
+abbrev pub write_code : (line : ℕ) → ExprType → ℕ → List Instr
 write_code line (Array t size) i = StoreElement (element_of t) (record { start = i; len = size }) line ∷ []
 write_code line (Buffer t writable) i = StoreBuffer (element_of t) i line ∷ []
 write_code line s i = []
 
 -- a part that needs the slot of a name
-abbrev pub of_slot : (Sort → ℕ → List Instr) → Option Slot → List Instr
-of_slot code (Some s) = code s.sort s.index
+abbrev pub of_slot : (ExprType → ℕ → List Instr) → Option Slot → List Instr
+of_slot code (Some s) = code s.ty s.index
 of_slot code None = []
 
 -- the value of a name
-abbrev pub load_code : Sort → ℕ → List Instr
+abbrev pub load_code : ExprType → ℕ → List Instr
 load_code s i = Load i ∷ []
 
 -- ---- expressions
@@ -132,7 +132,7 @@ operator_code line signed Remainder = OperateOrTrap trapping.Remainder line
 abbrev pub is_signed : Known → Term → Bool
 is_signed known (Done (Int z)) = true
 is_signed known (term.Number n unsigned) = not unsigned
-is_signed known (Read x) = is_jint (option_map (λ s. s.sort) (lookup x known))
+is_signed known (Read x) = is_jint (option_map (λ s. s.ty) (lookup x known))
 is_signed known (term.Element x t) = true
 is_signed known (Prefix ToInt t) = true
 is_signed known t = false
@@ -166,7 +166,7 @@ expr_code known line e = term_code known line (term_of e)
 -- ---- calls
 
 -- a variable that isn't a number
-abbrev pub variable_operand : Sort → ℕ → Operand
+abbrev pub variable_operand : ExprType → ℕ → Operand
 variable_operand Ref i = operand.Local i
 variable_operand Global i = operand.Static i
 variable_operand Weak i = operand.Static i
@@ -179,12 +179,12 @@ variable_operand s i = operand.Null
 -- where the variable of a name is
 abbrev pub operand_of : Option Slot → Operand
 operand_of None = operand.Null
-operand_of (Some s) = variable_operand s.sort s.index
+operand_of (Some s) = variable_operand s.ty s.index
 
 -- where what a variable holds is found, where it may be a number
 abbrev pub passed_variable : Option Slot → Operand
 passed_variable None = operand.Null
-passed_variable (Some s) = if is_jint (Some s.sort) then operand.Number else variable_operand s.sort s.index
+passed_variable (Some s) = if is_jint (Some s.ty) then operand.Number else variable_operand s.ty s.index
 
 -- where its address leads to
 abbrev pub address_operand : Option Slot → Operand
@@ -216,10 +216,10 @@ operand_code known (p, tree.AddressOf x) = address_operand (lookup x known)
 
 -- whether a name is that of a number
 abbrev pub names_number : Known → Identifier → Bool
-names_number known x = is_jint (option_map (λ s. s.sort) (lookup x known))
+names_number known x = is_jint (option_map (λ s. s.ty) (lookup x known))
 
 -- the number that a name may be of; a reference needs no instruction
-abbrev pub number_code : Sort → ℕ → List Instr
+abbrev pub number_code : ExprType → ℕ → List Instr
 number_code s i = if is_jint (Some s) then load_code s i else []
 
 -- what a method is given, where it is a number
@@ -247,8 +247,8 @@ argument_text a = []
 abbrev pub arguments_texts : List Argument → List (List ℕ)
 arguments_texts arguments = flat_map argument_text arguments
 
--- where a result for a variable of this sort goes
-abbrev pub result_target : Sort → ℕ → Target
+-- where a result for a variable of this type goes
+abbrev pub result_target : ExprType → ℕ → Target
 result_target Ref i = target.Local i
 result_target Global i = target.Static i
 result_target Weak i = target.Static i
@@ -278,13 +278,13 @@ named_call_code known line target (Some f) arguments = call_code known line targ
 
 -- a value for a variable
 abbrev pub value_code : Known → (line : ℕ) → Slot → Expr → List Instr
-value_code known line s (tree.Named tree.Null) = store_of (nullable_of s.sort s.index)
+value_code known line s (tree.Named tree.Null) = store_of (nullable_of s.ty s.index)
 value_code known line s e = expr_code known line e ++ Store s.index ∷ []
 
 -- a right side
 abbrev pub right_code : Known → (line : ℕ) → Slot → RightSide → List Instr
 right_code known line s (FromExpr e) = value_code known line s e
-right_code known line s (FromCall c) = named_call_code known line (result_target s.sort s.index) (function_named c.function) c.arguments
+right_code known line s (FromCall c) = named_call_code known line (result_target s.ty s.index) (function_named c.function) c.arguments
 
 -- a right side for a name that is known
 abbrev pub assign_code : Known → (line : ℕ) → Option Slot → RightSide → List Instr
@@ -292,7 +292,7 @@ assign_code known line (Some s) r = right_code known line s r
 assign_code known line None r = []
 
 -- a name is returned, a number or a reference
-abbrev pub returned_code : Sort → ℕ → List Instr
+abbrev pub returned_code : ExprType → ℕ → List Instr
 returned_code Ref i = ReturnReference (Local i) ∷ []
 returned_code s i = Load i ∷ ReturnJint ∷ []
 
@@ -302,15 +302,15 @@ return_code known line (term.Named tree.Null) = ReturnReference Null ∷ []
 return_code known line (Read x) = of_slot returned_code (lookup x known)
 return_code known line t = term_code known line t ++ ReturnJint ∷ []
 
--- the two ways of an `if` after its test, of which each ends by a jump
-abbrev pub ways_code : (then' else' : List Instr) → List Instr
-ways_code then' else' = JumpIfFalse (length then' + 1) ∷ (then' ++ Jump (length else') ∷ else')
+-- the two branches of an `if` after its test, of which each ends by a jump
+abbrev pub paths_code : (then' else' : List Instr) → List Instr
+paths_code then' else' = JumpIfFalse (length then' + 1) ∷ (then' ++ Jump (length else') ∷ else')
 
--- an `if` up to the end of its first way, where it isn't known how far the jump there leads
+-- an `if` up to the end of its first branch, where it isn't known how far the jump there leads
 abbrev pub first_code : (test then' : List Instr) → List Instr
 first_code test then' = test ++ JumpIfFalse (length then' + 1) ∷ (then' ++ Jump 0 ∷ [])
 
--- a turn of a loop after its test, and the way back
+-- a turn of a loop after its test, and the path back
 abbrev pub turn_code : (test body : List Instr) → List Instr
 turn_code test body = JumpIfFalse (length body + 1) ∷ (body ++ JumpBack (length test + 1 + length body) ∷ [])
 
@@ -323,14 +323,14 @@ abbrev pub test_code : Known → (line : ℕ) → Test → List Instr
 test_code known line (TestExpr e) = expr_code known line e
 test_code known line (TestCall c) = named_call_code known line target.Test (function_named c.function) c.arguments
 
--- an `if` with the code of its ways
+-- an `if` with the code of its branches
 abbrev pub if_code : Known → (line : ℕ) → Test → (then' else' : List Instr) → List Instr
-if_code known line test then' else' = test_code known line test ++ ways_code then' (else' ++ Jump 0 ∷ [])
+if_code known line test then' else' = test_code known line test ++ paths_code then' (else' ++ Jump 0 ∷ [])
 
 abbrev mutual
   -- a statement
   pub stmt_code : Layout → Stmt → List Instr
-  stmt_code l (tree.Declare line t x r) = right_code l.known line (new_slot (variable_sort t) l) r
+  stmt_code l (tree.Declare line t x r) = right_code l.known line (new_slot (variable_type t) l) r
   stmt_code l (tree.DeclareBuffer line t x r) = right_code l.known line (new_slot (Buffer t true) l) r
   stmt_code l (tree.DeclareChars line x r) = right_code l.known line (new_slot (Buffer JChar false) l) r
   stmt_code l (tree.DeclareArray line t x size) = ClearArray (record { start = l.slots.numbers; len = size }) ∷ []

@@ -10,8 +10,8 @@ use Rattle.syntax.specs.Tree.{Block}
 use Rattle.jni.specs.Access.{Access}
 use Rattle.jni.specs.JniFunction.{JniFunction, prototype, parameters_for}
 use Rattle.jni.specs.Prototype.{ParameterKind, FieldID, MethodID, TextBytes, ArrayVariable, BufferVariable, Mode, IsCopy, ResultKind, NewLocal, GivesInt, GivesField, GivesMethod}
-use Rattle.type_rules.specs.SortRules.{is_droppable}
-use Rattle.type_rules.specs.Sorts.{Sort, Flag, Ref, FieldId, MethodId, Buffer}
+use Rattle.type_rules.specs.TypeRules.{is_droppable}
+use Rattle.type_rules.specs.ExprTypes.{ExprType, Flag, Ref, FieldId, MethodId, Buffer}
 use Rattle.class_rules.specs.Fields as source
 use Rattle.semantics.specs.Method as method
 use Rattle.semantics.specs.Object.{Reference}
@@ -40,8 +40,8 @@ use Rattle.code.specs.Depth.{Listing}
 use Rattle.code.specs.Effect.{truth_word, plain_of}
 use Rattle.code_meaning.specs.Coding.{mode_code, element_of}
 use Rattle.code_meaning.specs.Layout.{Known}
-use Rattle.code_meaning.specs.Slots.{word_of, ValueHasSort, Visible, Slots, Shows, IsSet, IsNulled, IsReferred, IsFieldSet, IsMethodSet, IsBufferSet, IsMade, IsElementSet, IsHeld, OfField, OfMethod, ShowsStatic, elements_in, with_element, slot_elements, holds_null, with_null}
-use Rattle.code_meaning.specs.Stands.{target_name, number_sort, IsBufferResult, IsStaticResult, StandsFor}
+use Rattle.code_meaning.specs.Slots.{word_of, ValueHasType, Visible, Slots, Shows, IsSet, IsNulled, IsReferred, IsFieldSet, IsMethodSet, IsBufferSet, IsMade, IsElementSet, IsHeld, OfField, OfMethod, ShowsStatic, elements_in, with_element, slot_elements, holds_null, with_null}
+use Rattle.code_meaning.specs.Stands.{target_name, number_type, IsBufferResult, IsStaticResult, StandsFor}
 use Rattle.code_meaning.specs.Fits.{IsReferenceKind, TakesNull, TakesLocal, TakesGlobal, TakesInt, IsStaticIn, IsArray, HaveOwnSlots}
 
 -- the instructions that leave a function
@@ -63,21 +63,21 @@ IsPast visible slots i index = (zs : List ℤ) × (slot_elements visible slots i
 
 -- the element at an index takes its place, or a trap leaves it there
 abbrev pub Loads : (line index : ℕ) → (stack : List ℕ) → Option ℤ → Plain → (after : List ℕ) → Type 0
-Loads line index stack (Some z) way after = (way ≡ plain.Next) × (after ≡ cast_unsigned w32 z ∷ stack)
-Loads line index stack None way after = (way ≡ plain.Trap trap.OutOfRange line) × (after ≡ index ∷ stack)
+Loads line index stack (Some z) path after = (path ≡ plain.Next) × (after ≡ cast_unsigned w32 z ∷ stack)
+Loads line index stack None path after = (path ≡ plain.Trap trap.OutOfRange line) × (after ≡ index ∷ stack)
 
 -- an instruction works on the stack alone: where it leads, and the stack after it; a null test looks at the slots and the
 -- statics too, and one on a buffer at its elements, which are written elsewhere
 abbrev pub Works : Visible → Slots → Instr → (stack : List ℕ) → Plain → (after : List ℕ) → Type 0
-Works visible slots (instr.TestNull variable equal) stack way after =
-    (null : Bool) × (holds_null visible slots variable ≡ Some null) × (way ≡ plain.Next) × (after ≡ truth_word (beq null equal) ∷ stack)
-Works visible slots (instr.LoadBuffer i line) (index ∷ stack) way after =
-    (zs : List ℤ) × (slot_elements visible slots i ≡ Some zs) × Loads line index stack (slice_get zs index) way after
-Works visible slots (instr.StoreBuffer type i line) (word ∷ index ∷ stack) way after =
-    IsPast visible slots i index × (way ≡ plain.Trap trap.OutOfRange line) × (after ≡ word ∷ index ∷ stack)
-Works visible slots i stack way after = plain_of i stack slots.numbers ≡ Some (way, after, slots.numbers)
+Works visible slots (instr.TestNull variable equal) stack path after =
+    (null : Bool) × (holds_null visible slots variable ≡ Some null) × (path ≡ plain.Next) × (after ≡ truth_word (beq null equal) ∷ stack)
+Works visible slots (instr.LoadBuffer i line) (index ∷ stack) path after =
+    (zs : List ℤ) × (slot_elements visible slots i ≡ Some zs) × Loads line index stack (slice_get zs index) path after
+Works visible slots (instr.StoreBuffer type i line) (word ∷ index ∷ stack) path after =
+    IsPast visible slots i index × (path ≡ plain.Trap trap.OutOfRange line) × (after ≡ word ∷ index ∷ stack)
+Works visible slots i stack path after = plain_of i stack slots.numbers ≡ Some (path, after, slots.numbers)
 
--- what holds at the place that a way leads to
+-- what holds at the place that a path leads to
 abbrev pub AtEnd : (ℕ → Type 0) → (place : ℕ) → Plain → Type 0
 AtEnd P place plain.Next = P (place + 1)
 AtEnd P place (plain.Skip n) = P (place + 1 + n)
@@ -140,13 +140,13 @@ module _ (code : Listing) (known : Known) (place : ℕ) (stack : List ℕ) (slot
   -- it works on the stack alone, and the place that it leads to stands for these tasks
   pub record GoesOn (tasks : List Task) : Type 0 where
     pub here : Instr
-    pub way : Plain
+    pub path : Plain
     pub after : List ℕ
     pub at : slice_get code.instrs place ≡ Some here
-    pub works : Works visible slots here stack way after
+    pub works : Works visible slots here stack path after
     pub names : Known
     pub shows : Shows code names visible slots
-    pub stands : AtEnd (λ p. StandsFor code names p after tasks) place way
+    pub stands : AtEnd (λ p. StandsFor code names p after tasks) place path
 
   -- it writes number slots, so that they show what is changed, and the next place stands for these tasks
   pub record Writes (changed : Visible → Type 0) (tasks : List Task) : Type 0 where
@@ -227,27 +227,27 @@ module _ (code : Listing) (known : Known) (place : ℕ) (stack : List ℕ) (slot
   IsOperand operand.Null actual =
       ((x : Identifier) × (actual ≡ ReferenceActual x Empty)) ⊎ (actual ≡ FieldActual None) ⊎ (actual ≡ MethodActual None) ⊎ (actual ≡ NothingActual)
   IsOperand (operand.Local i) actual =
-      (x : Identifier) × (actual ≡ ReferenceActual x (visible.sight.reference x)) × (lookup x known ≡ Some (record { sort = Ref; index = i }))
+      (x : Identifier) × (actual ≡ ReferenceActual x (visible.sight.reference x)) × (lookup x known ≡ Some (record { ty = Ref; index = i }))
   IsOperand (operand.Static i) actual =
       (x : Identifier) × (actual ≡ ReferenceActual x (visible.sight.reference x)) × IsStaticIn known x i
   IsOperand operand.Number actual = (z : ℤ) × (actual ≡ NumberActual z) × FitsSigned w32 z
   IsOperand (operand.FieldId i) actual =
-      (x : Identifier) × (actual ≡ FieldActual (visible.sight.field x)) × (lookup x known ≡ Some (record { sort = FieldId; index = i }))
+      (x : Identifier) × (actual ≡ FieldActual (visible.sight.field x)) × (lookup x known ≡ Some (record { ty = FieldId; index = i }))
   IsOperand (operand.MethodId i) actual =
-      (x : Identifier) × (actual ≡ MethodActual (visible.sight.method x)) × (lookup x known ≡ Some (record { sort = MethodId; index = i }))
+      (x : Identifier) × (actual ≡ MethodActual (visible.sight.method x)) × (lookup x known ≡ Some (record { ty = MethodId; index = i }))
   IsOperand operand.Text actual = (bytes : List ℕ) × (actual ≡ TextActual bytes)
   IsOperand (operand.Array array) actual = (x : Identifier) × (actual ≡ VariableActual x) × (t : ElementType) × IsArray known x t array.len array.start
   IsOperand (operand.Buffer i) actual =
       (x : Identifier) × (actual ≡ VariableActual x) × (t : ElementType) × (writable : Bool)
-      × (lookup x known ≡ Some (record { sort = Buffer t writable; index = i }))
+      × (lookup x known ≡ Some (record { ty = Buffer t writable; index = i }))
   IsOperand (operand.Mode mode) actual = (m : ReleaseMode) × (actual ≡ ModeActual m) × (mode ≡ mode_code m)
-  IsOperand (operand.IsCopy i) actual = (x : Identifier) × (actual ≡ VariableActual x) × (lookup x known ≡ Some (record { sort = Flag; index = i }))
+  IsOperand (operand.IsCopy i) actual = (x : Identifier) × (actual ≡ VariableActual x) × (lookup x known ≡ Some (record { ty = Flag; index = i }))
 
   -- What the call gives goes into a slot: then the slots show the variable with it, and the next place stands for these tasks.
-  pub record TakesNumber (s : Sort) (i : ℕ) (x : Identifier) (tasks : List Task) : Type 0 where
+  pub record TakesNumber (s : ExprType) (i : ℕ) (x : Identifier) (tasks : List Task) : Type 0 where
     pub within : i < length slots.numbers
     pub names : Known
-    pub shows : (v : Value) (new : Visible) → ValueHasSort v s → IsSet visible x v new
+    pub shows : (v : Value) (new : Visible) → ValueHasType v s → IsSet visible x v new
         → Shows code names new (record slots { numbers = slice_set slots.numbers i (word_of v) })
     pub stands : StandsFor code names (place + 1) [] tasks
 
@@ -295,7 +295,7 @@ module _ (code : Listing) (known : Known) (place : ℕ) (stack : List ℕ) (slot
     pub stands : StandsFor code names (place + 1) [] tasks
 
   -- The result is tested by an `if` on this line: with the truth whether it is 0 on the stack the next place stands for its
-  -- ways, and then for these tasks.
+  -- paths, and then for these tasks.
   pub record TakesTest (line : ℕ) (target : Target) (tasks : List Task) : Type 0 where
     pub then' : Block
     pub else' : Block
@@ -311,7 +311,7 @@ module _ (code : Listing) (known : Known) (place : ℕ) (stack : List ℕ) (slot
 
   -- where the result of a call in a statement on this line goes, by what the function gives, and what comes then
   abbrev pub TakesResult : (line : ℕ) → Destination → ResultKind → Target → List Task → Type 0
-  TakesResult line (destination.Number i) gives target tasks = (s : Sort) × (number_sort gives ≡ Some s)
+  TakesResult line (destination.Number i) gives target tasks = (s : ExprType) × (number_type gives ≡ Some s)
       × GoesInto ScalarKind target (λ x. TakesNumber s i x tasks)
   TakesResult line (destination.Local i) gives target tasks = (gives ≡ NewLocal) × GoesInto ReferenceKind target (λ x. TakesReference i x tasks)
   TakesResult line (destination.FieldId i) gives target tasks = (gives ≡ GivesField) × GoesInto FieldKind target (λ x. TakesField i x tasks)

@@ -9,27 +9,27 @@ use Rattle.syntax.specs.Tree.{LogicalNot, Complement, ToWord, ToInt, Expr, Argum
 use Rattle.jni.specs.Access.{Access}
 use Rattle.jni.specs.JniFunction.{JniFunction, function_named, prototype, parameters_for, takes_count}
 use Rattle.jni.specs.Prototype.{ParameterKind, Nullable, NonNull, AnyReference, ClassObject, AnyArray, ObjectArray, StringObject, NumberArray, LocalVariable, StaticVariable, WeakVariable, FieldID, MethodID, Passed, IntNumber, TextBytes, ArrayVariable, BufferVariable, Mode, IsCopy, ResultKind, NewLocal, NewGlobal, NewWeak, GivesFlag, GivesInt, GivesField, GivesMethod, GivesBuffer, GivesNothing}
-use Rattle.type_rules.specs.Sorts.{Sort, Word, Jint, Flag, Truth, Ref, Global, Weak, FieldId, MethodId, Buffer, Array, group, is_buffer_for}
-use Rattle.type_rules.specs.SortRules.{variable_sort, is_droppable, is_mode}
-use Rattle.type_rules.specs.SortGroups.{IsIndexSort, IsNumberSort, OperatorFits}
+use Rattle.type_rules.specs.ExprTypes.{ExprType, Word, Jint, Flag, Truth, Ref, Global, Weak, FieldId, MethodId, Buffer, Array, group, is_buffer_for}
+use Rattle.type_rules.specs.TypeRules.{variable_type, is_droppable, is_mode}
+use Rattle.type_rules.specs.TypeGroups.{IsIndexType, IsNumberType, OperatorFits}
 use Rattle.code.specs.declared.slots.SlotCounts.{SlotCounts}
 use Rattle.semantics.specs.Term as term
 use Rattle.semantics.specs.Term.{Term, Done, Read, And, Or, IsNull, Prefix, Binary, term_of}
 use Rattle.code_meaning.specs.Layout.{Slot, Known, Layout, width, closed, layout_after, block_layout, entry_layout}
-use Rattle.code_meaning.specs.Slots.{ValueHasSort}
+use Rattle.code_meaning.specs.Slots.{ValueHasType}
 
 -- ---- terms
 
--- a name that is known as a number variable of this sort
-abbrev pub IsVariable : Known → Identifier → Sort → Type 0
-IsVariable known x s = (i : ℕ) × (lookup x known ≡ Some (record { sort = s; index = i })) × IsNumberSort s
+-- a name that is known as a number variable of this type
+abbrev pub IsVariable : Known → Identifier → ExprType → Type 0
+IsVariable known x s = (i : ℕ) × (lookup x known ≡ Some (record { ty = s; index = i })) × IsNumberType s
 
 -- a name that is known as an array, from this slot on
 abbrev pub IsArray : Known → Identifier → ElementType → (size start : ℕ) → Type 0
-IsArray known x t size start = lookup x known ≡ Some (record { sort = Array t size; index = start })
+IsArray known x t size start = lookup x known ≡ Some (record { ty = Array t size; index = start })
 
 -- what can be compared with NULL
-abbrev pub IsNullable : Sort → Type 0
+abbrev pub IsNullable : ExprType → Type 0
 IsNullable Ref = Unit {0}
 IsNullable Global = Unit {0}
 IsNullable FieldId = Unit {0}
@@ -38,30 +38,30 @@ IsNullable (Buffer t writable) = Unit {0}
 IsNullable s = ⊥
 
 -- what has elements
-abbrev pub HasElements : Sort → Type 0
+abbrev pub HasElements : ExprType → Type 0
 HasElements (Buffer t writable) = Unit {0}
 HasElements (Array t size) = Unit {0}
 HasElements s = ⊥
 
--- a term whose parts have the sorts that their operators ask for
-abbrev pub TermHasSort : Known → Term → Sort → Type 0
-TermHasSort known (Done v) s = ValueHasSort v s
-TermHasSort known (term.Number value true) s = (value < 2 ^ 32) × (s ≡ Word)
-TermHasSort known (term.Number value false) s = (value < 2 ^ 31) × (s ≡ Jint)
-TermHasSort known (term.Named tree.True) s = s ≡ Flag
-TermHasSort known (term.Named tree.False) s = s ≡ Flag
-TermHasSort known (term.Named c) s = ⊥
-TermHasSort known (Read x) s = IsVariable known x s
-TermHasSort known (term.Element x t) s = (r : Sort) × IsIndexSort r × TermHasSort known t r
-    × ((n : Slot) × (lookup x known ≡ Some n) × HasElements n.sort) × (s ≡ Jint)
-TermHasSort known (IsNull equal x) s = ((n : Slot) × (lookup x known ≡ Some n) × IsNullable n.sort) × (s ≡ Truth)
-TermHasSort known (Prefix LogicalNot t) s = TermHasSort known t Truth × (s ≡ Truth)
-TermHasSort known (Prefix Complement t) s = TermHasSort known t Word × (s ≡ Word)
-TermHasSort known (Prefix ToWord t) s = (r : Sort) × IsNumberSort r × TermHasSort known t r × (s ≡ Word)
-TermHasSort known (Prefix ToInt t) s = (r : Sort) × IsNumberSort r × TermHasSort known t r × (s ≡ Jint)
-TermHasSort known (And a b) s = TermHasSort known a Truth × TermHasSort known b Truth × (s ≡ Truth)
-TermHasSort known (Or a b) s = TermHasSort known a Truth × TermHasSort known b Truth × (s ≡ Truth)
-TermHasSort known (Binary op a b) s = (r : Sort) × OperatorFits (group op) r s × TermHasSort known a r × TermHasSort known b r
+-- a term whose parts have the types that their operators ask for
+abbrev pub TermHasType : Known → Term → ExprType → Type 0
+TermHasType known (Done v) s = ValueHasType v s
+TermHasType known (term.Number value true) s = (value < 2 ^ 32) × (s ≡ Word)
+TermHasType known (term.Number value false) s = (value < 2 ^ 31) × (s ≡ Jint)
+TermHasType known (term.Named tree.True) s = s ≡ Flag
+TermHasType known (term.Named tree.False) s = s ≡ Flag
+TermHasType known (term.Named c) s = ⊥
+TermHasType known (Read x) s = IsVariable known x s
+TermHasType known (term.Element x t) s = (r : ExprType) × IsIndexType r × TermHasType known t r
+    × ((n : Slot) × (lookup x known ≡ Some n) × HasElements n.ty) × (s ≡ Jint)
+TermHasType known (IsNull equal x) s = ((n : Slot) × (lookup x known ≡ Some n) × IsNullable n.ty) × (s ≡ Truth)
+TermHasType known (Prefix LogicalNot t) s = TermHasType known t Truth × (s ≡ Truth)
+TermHasType known (Prefix Complement t) s = TermHasType known t Word × (s ≡ Word)
+TermHasType known (Prefix ToWord t) s = (r : ExprType) × IsNumberType r × TermHasType known t r × (s ≡ Word)
+TermHasType known (Prefix ToInt t) s = (r : ExprType) × IsNumberType r × TermHasType known t r × (s ≡ Jint)
+TermHasType known (And a b) s = TermHasType known a Truth × TermHasType known b Truth × (s ≡ Truth)
+TermHasType known (Or a b) s = TermHasType known a Truth × TermHasType known b Truth × (s ≡ Truth)
+TermHasType known (Binary op a b) s = (r : ExprType) × OperatorFits (group op) r s × TermHasType known a r × TermHasType known b r
 
 -- no part has its value yet
 abbrev pub IsUntouched : Term → Type 0
@@ -82,16 +82,16 @@ term_height (Or a b) = 1 + max (term_height a) (term_height b)
 term_height (Binary op a b) = 1 + max (term_height a) (term_height b)
 term_height t = 0
 
--- a number or a truth of this sort, before its first step
-pub record NumberFits (known : Known) (t : Term) (s : Sort) : Type 0 where
-  pub sort : TermHasSort known t s
+-- a number or a truth of this type, before its first step
+pub record NumberFits (known : Known) (t : Term) (s : ExprType) : Type 0 where
+  pub ty : TermHasType known t s
   pub untouched : IsUntouched t
   pub low : term_height t ≤ 32
 
 -- ---- slots
 
--- a slot of this sort is there; no variable is a truth
-abbrev pub IndexWithin : SlotCounts → Sort → ℕ → Type 0
+-- a slot of this type is there; no variable is a truth
+abbrev pub IndexWithin : SlotCounts → ExprType → ℕ → Type 0
 IndexWithin slots Truth i = ⊥
 IndexWithin slots Ref i = i < slots.references
 IndexWithin slots Global i = i < slots.statics
@@ -104,25 +104,25 @@ IndexWithin slots s i = i < slots.numbers
 
 -- this number slot is one of the variable's
 abbrev pub IsPlaceOf : Slot → ℕ → Type 0
-IsPlaceOf s k = (s.index ≤ k) × (k < s.index + width s.sort)
+IsPlaceOf s k = (s.index ≤ k) × (k < s.index + width s.ty)
 
--- the sorts of buffers
-abbrev pub IsBufferSort : Sort → Type 0
-IsBufferSort (Buffer t writable) = Unit {0}
-IsBufferSort s = ⊥
+-- the types of buffers
+abbrev pub IsBufferType : ExprType → Type 0
+IsBufferType (Buffer t writable) = Unit {0}
+IsBufferType s = ⊥
 
--- the sorts of field IDs and method IDs, which share their slots
-abbrev pub IsHandleSort : Sort → Type 0
-IsHandleSort FieldId = Unit {0}
-IsHandleSort MethodId = Unit {0}
-IsHandleSort s = ⊥
+-- the types of field IDs and method IDs, which share their slots
+abbrev pub IsHandleType : ExprType → Type 0
+IsHandleType FieldId = Unit {0}
+IsHandleType MethodId = Unit {0}
+IsHandleType s = ⊥
 
 -- two variables have no slot in common
 pub record AreApart (s t : Slot) : Type 0 where
   pub numbers : (k : ℕ) → IsPlaceOf s k → IsPlaceOf t k → ⊥
-  pub references : s.sort ≡ Ref → t.sort ≡ Ref → s.index ≢ t.index
-  pub fields : IsHandleSort s.sort → IsHandleSort t.sort → s.index ≢ t.index
-  pub buffers : IsBufferSort s.sort → IsBufferSort t.sort → s.index ≢ t.index
+  pub references : s.ty ≡ Ref → t.ty ≡ Ref → s.index ≢ t.index
+  pub fields : IsHandleType s.ty → IsHandleType t.ty → s.index ≢ t.index
+  pub buffers : IsBufferType s.ty → IsBufferType t.ty → s.index ≢ t.index
 
 -- no known name but this has the slot
 abbrev pub IsOwn : Known → Identifier → Slot → Type 0
@@ -134,22 +134,22 @@ HaveOwnSlots known = (x : Identifier) (s : Slot) → lookup x known ≡ Some s �
 
 -- each known name has slots of its own, which are there
 pub record IsLaidOut (known : Known) (slots : SlotCounts) : Type 0 where
-  pub within : (x : Identifier) (s : Slot) → lookup x known ≡ Some s → IndexWithin slots s.sort s.index
+  pub within : (x : Identifier) (s : Slot) → lookup x known ≡ Some s → IndexWithin slots s.ty s.index
   pub own : HaveOwnSlots known
 
--- the sorts of statics
-abbrev pub IsStaticSort : Sort → Type 0
-IsStaticSort Global = Unit {0}
-IsStaticSort Weak = Unit {0}
-IsStaticSort s = ⊥
+-- the types of statics
+abbrev pub IsStaticType : ExprType → Type 0
+IsStaticType Global = Unit {0}
+IsStaticType Weak = Unit {0}
+IsStaticType s = ⊥
 
 -- a known name is that of the static of this place
 abbrev pub IsStaticIn : Known → Identifier → ℕ → Type 0
-IsStaticIn known x i = (s : Sort) × IsStaticSort s × (lookup x known ≡ Some (record { sort = s; index = i }))
+IsStaticIn known x i = (s : ExprType) × IsStaticType s × (lookup x known ≡ Some (record { ty = s; index = i }))
 
 -- slots of statics alone, counted from 0
 abbrev pub AreStatics : Known → Type 0
-AreStatics statics = (x : Identifier) (s : Slot) → lookup x statics ≡ Some s → IsStaticSort s.sort × (s.index < length statics)
+AreStatics statics = (x : Identifier) (s : Slot) → lookup x statics ≡ Some s → IsStaticType s.ty × (s.index < length statics)
 
 -- as many of each kind at least
 pub record HasRoomFor (slots taken : SlotCounts) : Type 0 where
@@ -161,21 +161,21 @@ pub record HasRoomFor (slots taken : SlotCounts) : Type 0 where
 
 -- ---- statements
 
--- the name of a variable of this sort
-abbrev pub NameFits : Known → Sort → Expr → Type 0
-NameFits known s (tree.Variable x) = (i : ℕ) × (lookup x known ≡ Some (record { sort = s; index = i }))
+-- the name of a variable of this type
+abbrev pub NameFits : Known → ExprType → Expr → Type 0
+NameFits known s (tree.Variable x) = (i : ℕ) × (lookup x known ≡ Some (record { ty = s; index = i }))
 NameFits known s e = ⊥
 
 -- NULL, the name of a local reference, or that of a static
 abbrev pub ReferenceFits : Known → Expr → Type 0
 ReferenceFits known (tree.Named tree.Null) = Unit {0}
-ReferenceFits known (tree.Variable x) = (s : Slot) × (lookup x known ≡ Some s) × ((s.sort ≡ Ref) ⊎ (s.sort ≡ Global))
+ReferenceFits known (tree.Variable x) = (s : Slot) × (lookup x known ≡ Some s) × ((s.ty ≡ Ref) ⊎ (s.ty ≡ Global))
 ReferenceFits known e = ⊥
 
 -- the same, or the name of a weak static
 abbrev pub AnyReferenceFits : Known → Expr → Type 0
 AnyReferenceFits known (tree.Named tree.Null) = Unit {0}
-AnyReferenceFits known (tree.Variable x) = (s : Slot) × (lookup x known ≡ Some s) × ((s.sort ≡ Ref) ⊎ IsStaticSort s.sort)
+AnyReferenceFits known (tree.Variable x) = (s : Slot) × (lookup x known ≡ Some s) × ((s.ty ≡ Ref) ⊎ IsStaticType s.ty)
 AnyReferenceFits known e = ⊥
 
 -- a parameter that is a reference
@@ -232,7 +232,7 @@ MethodFits known e = NameFits known MethodId e
 -- what a method is given: NULL, the name of a `jint` or of a reference, or another number
 abbrev pub PassedFits : Known → Expr → Type 0
 PassedFits known (tree.Named tree.Null) = Unit {0}
-PassedFits known (tree.Variable x) = (s : Slot) × (lookup x known ≡ Some s) × ((s.sort ≡ Jint) ⊎ (s.sort ≡ Ref) ⊎ (s.sort ≡ Global))
+PassedFits known (tree.Variable x) = (s : Slot) × (lookup x known ≡ Some s) × ((s.ty ≡ Jint) ⊎ (s.ty ≡ Ref) ⊎ (s.ty ≡ Global))
 PassedFits known e = NumberFits known (term_of e) Jint
 
 -- the name of a local array with elements of this type
@@ -242,7 +242,7 @@ ArrayFits known t e = ⊥
 
 -- the name of a buffer that this access may fill
 abbrev pub BufferFits : Known → Access → Expr → Type 0
-BufferFits known access (tree.Variable x) = (s : Slot) × (lookup x known ≡ Some s) × IsTrue (is_buffer_for access (Some s.sort))
+BufferFits known access (tree.Variable x) = (s : Slot) × (lookup x known ≡ Some s) × IsTrue (is_buffer_for access (Some s.ty))
 BufferFits known access e = ⊥
 
 -- an argument for a parameter
@@ -272,8 +272,8 @@ pub record CallFits (known : Known) (c : Call) : Type 0 where
   pub count : takes_count function (length c.arguments) ≡ true
   pub arguments : AllZip (ArgumentFits known) (parameters_for function (length c.arguments)) c.arguments
 
--- a value for a variable of this sort
-abbrev pub ValueFits : Known → Sort → Expr → Type 0
+-- a value for a variable of this type
+abbrev pub ValueFits : Known → ExprType → Expr → Type 0
 ValueFits known Word e = NumberFits known (term_of e) Word
 ValueFits known Jint e = NumberFits known (term_of e) Jint
 ValueFits known Flag e = NumberFits known (term_of e) Flag
@@ -281,8 +281,8 @@ ValueFits known Truth e = ⊥
 ValueFits known (Array t size) e = ⊥
 ValueFits known s e = e ≡ tree.Named tree.Null
 
--- what a function gives fits a variable of this sort
-abbrev pub ResultFits : Sort → ResultKind → Type 0
+-- what a function gives fits a variable of this type
+abbrev pub ResultFits : ExprType → ResultKind → Type 0
 ResultFits s GivesInt = s ≡ Jint
 ResultFits s GivesFlag = s ≡ Flag
 ResultFits s NewLocal = s ≡ Ref
@@ -293,8 +293,8 @@ ResultFits s GivesMethod = s ≡ MethodId
 ResultFits s (GivesBuffer access) = IsTrue (is_buffer_for access (Some s))
 ResultFits s GivesNothing = ⊥
 
--- a call's result for a variable of this sort
-pub record CallGives (known : Known) (s : Sort) (c : Call) : Type 0 where
+-- a call's result for a variable of this type
+pub record CallGives (known : Known) (s : ExprType) (c : Call) : Type 0 where
   pub fits : CallFits known c
   pub result : ResultFits s (prototype fits.function).result
 
@@ -304,7 +304,7 @@ pub record CallDrops (known : Known) (c : Call) : Type 0 where
   pub result : is_droppable (prototype fits.function).result ≡ true
 
 -- a right side for such a variable
-abbrev pub RightFits : Known → Sort → RightSide → Type 0
+abbrev pub RightFits : Known → ExprType → RightSide → Type 0
 RightFits known s (FromExpr e) = ValueFits known s e
 RightFits known s (FromCall c) = CallGives known s c
 
@@ -316,7 +316,7 @@ TestFits known (TestCall c) = CallGives known Jint c
 -- what is returned: NULL, a local reference or a number
 abbrev pub ReturnFits : Known → Term → Type 0
 ReturnFits known (term.Named tree.Null) = Unit {0}
-ReturnFits known (Read x) = (s : Slot) × (lookup x known ≡ Some s) × ((s.sort ≡ Ref) ⊎ (s.sort ≡ Jint))
+ReturnFits known (Read x) = (s : Slot) × (lookup x known ≡ Some s) × ((s.ty ≡ Ref) ⊎ (s.ty ≡ Jint))
 ReturnFits known t = NumberFits known t Jint
 
 -- a name that isn't known yet
@@ -326,14 +326,14 @@ IsNew known x = lookup x known ≡ None
 abbrev mutual
   -- a statement
   pub StmtFits : Layout → Stmt → Type 0
-  StmtFits l (tree.Declare line t x r) = IsNew l.known x × RightFits l.known (variable_sort t) r
+  StmtFits l (tree.Declare line t x r) = IsNew l.known x × RightFits l.known (variable_type t) r
   StmtFits l (tree.DeclareBuffer line t x r) = IsNew l.known x × RightFits l.known (Buffer t true) r
   StmtFits l (tree.DeclareChars line x r) = IsNew l.known x × RightFits l.known (Buffer JChar false) r
   StmtFits l (tree.DeclareArray line t x size) = IsNew l.known x × (0 < size) × (size ≤ most_elements)
-  StmtFits l (tree.Assign line x r) = (s : Slot) × (lookup x l.known ≡ Some s) × RightFits l.known s.sort r
+  StmtFits l (tree.Assign line x r) = (s : Slot) × (lookup x l.known ≡ Some s) × RightFits l.known s.ty r
   StmtFits l (tree.AssignElement line x i e) =
-      ((n : Slot) × (lookup x l.known ≡ Some n) × HasElements n.sort)
-      × ((r : Sort) × IsIndexSort r × NumberFits l.known (term_of i) r) × NumberFits l.known (term_of e) Jint
+      ((n : Slot) × (lookup x l.known ≡ Some n) × HasElements n.ty)
+      × ((r : ExprType) × IsIndexType r × NumberFits l.known (term_of i) r) × NumberFits l.known (term_of e) Jint
   StmtFits l (tree.Perform line c) = CallDrops l.known c
   StmtFits l (tree.PutJint line e) = NumberFits l.known (term_of e) Jint
   StmtFits l (tree.If line test then') = TestFits l.known test × BlockFits l then'

@@ -4,16 +4,16 @@ use Rattle.base.specs.Bytes.{Identifier, ByName}
 use Rattle.base.specs.Element.{JChar}
 use Rattle.syntax.specs.Tree as tree
 use Rattle.syntax.specs.Tree.{Stmt, Block, End, Next, Parameter, ParameterType, IntParameter, ReferenceParameter, Function, Static}
-use Rattle.type_rules.specs.Sorts.{Sort, Word, Jint, Flag, Ref, Global, Weak, FieldId, MethodId, Buffer, Array}
-use Rattle.type_rules.specs.SortRules.{variable_sort, static_sort}
+use Rattle.type_rules.specs.ExprTypes.{ExprType, Word, Jint, Flag, Ref, Global, Weak, FieldId, MethodId, Buffer, Array}
+use Rattle.type_rules.specs.TypeRules.{variable_type, static_type}
 use Rattle.code.specs.declared.slots.SlotCounts.{SlotCounts}
 
 -- ---- slots
 
--- a name's sort, and the place of its slot among those of its kind, where field IDs and method IDs are one; of an array that of the
+-- a name's type, and the place of its slot among those of its kind, where field IDs and method IDs are one; of an array that of the
 -- first element
 pub record Slot : Type 0 where
-  pub sort : Sort
+  pub ty : ExprType
   pub index : ℕ
 
 -- the names that are known, the latest first
@@ -25,8 +25,8 @@ pub record Layout : Type 0 where
   pub known : Known
   pub slots : SlotCounts
 
--- how many number slots a variable of a sort takes
-abbrev pub width : Sort → ℕ
+-- how many number slots a variable of a type takes
+abbrev pub width : ExprType → ℕ
 width Word = 1
 width Jint = 1
 width Flag = 1
@@ -34,7 +34,7 @@ width (Array t size) = size
 width s = 0
 
 -- the first slot of its kind that isn't taken
-abbrev pub next_index : Sort → SlotCounts → ℕ
+abbrev pub next_index : ExprType → SlotCounts → ℕ
 next_index Ref slots = slots.references
 next_index Global slots = slots.statics
 next_index Weak slots = slots.statics
@@ -44,7 +44,7 @@ next_index (Buffer t writable) slots = slots.buffers
 next_index s slots = slots.numbers
 
 -- the slots with those of one variable more
-abbrev pub slots_after : Sort → SlotCounts → SlotCounts
+abbrev pub slots_after : ExprType → SlotCounts → SlotCounts
 slots_after Ref slots = record slots { references = slots.references + 1 }
 slots_after Global slots = record slots { statics = slots.statics + 1 }
 slots_after Weak slots = record slots { statics = slots.statics + 1 }
@@ -54,23 +54,23 @@ slots_after (Buffer t writable) slots = record slots { buffers = slots.buffers +
 slots_after s slots = record slots { numbers = slots.numbers + width s }
 
 -- the slot of a name that is declared next
-abbrev pub new_slot : Sort → Layout → Slot
-new_slot s l = record { sort = s; index = next_index s l.slots }
+abbrev pub new_slot : ExprType → Layout → Slot
+new_slot s l = record { ty = s; index = next_index s l.slots }
 
 -- one name more
-abbrev pub with_name : Identifier → Sort → Layout → Layout
+abbrev pub with_name : Identifier → ExprType → Layout → Layout
 with_name x s l = record { known = (x, new_slot s l) ∷ l.known; slots = slots_after s l.slots }
 
 -- ---- the entry
 
 -- the statics so far, with one more
 abbrev pub with_static : Static → Known → Known
-with_static s statics = (s.name, record { sort = static_sort s.type; index = length statics }) ∷ statics
+with_static s statics = (s.name, record { ty = static_type s.type; index = length statics }) ∷ statics
 
 -- the slot of a parameter, where this number of slots is taken
 abbrev pub parameter_slot : ParameterType → (numbers references : ℕ) → Slot
-parameter_slot IntParameter n r = record { sort = Jint; index = n }
-parameter_slot (ReferenceParameter type) n r = record { sort = Ref; index = r }
+parameter_slot IntParameter n r = record { ty = Jint; index = n }
+parameter_slot (ReferenceParameter type) n r = record { ty = Ref; index = r }
 
 -- how many number slots are taken after a parameter
 abbrev pub numbers_after : ParameterType → ℕ → ℕ
@@ -99,7 +99,7 @@ references_of (p ∷ rest) r = references_of rest (references_after p.type r)
 
 -- the class, which is the first reference, and the parameters
 abbrev pub entry_names : Function → Known
-entry_names f = (f.class_name, record { sort = Ref; index = 0 }) ∷ parameter_slots f.parameters 0 1
+entry_names f = (f.class_name, record { ty = Ref; index = 0 }) ∷ parameter_slots f.parameters 0 1
 
 -- the slots at a function's first statement, after these statics
 abbrev pub entry_layout : (statics : Known) → Function → Layout
@@ -117,7 +117,7 @@ closed outer inner = record { known = outer.known; slots = inner.slots }
 abbrev mutual
   -- the slots after a statement
   pub layout_after : Layout → Stmt → Layout
-  layout_after l (tree.Declare line t x r) = with_name x (variable_sort t) l
+  layout_after l (tree.Declare line t x r) = with_name x (variable_type t) l
   layout_after l (tree.DeclareBuffer line t x r) = with_name x (Buffer t true) l
   layout_after l (tree.DeclareChars line x r) = with_name x (Buffer JChar false) l
   layout_after l (tree.DeclareArray line t x size) = with_name x (Array t size) l

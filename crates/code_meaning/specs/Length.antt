@@ -61,7 +61,7 @@ abbrev pub right_steps : (ints : List Identifier) → RightSide → ℕ
 right_steps ints (FromExpr e) = value_steps e
 right_steps ints (FromCall c) = call_steps ints c
 
--- a test, and the choice of a way
+-- a test, and the choice of a path
 abbrev pub test_steps : (ints : List Identifier) → Test → ℕ
 test_steps ints (TestExpr e) = expr_steps e + 1
 test_steps ints (TestCall c) = call_steps ints c + 1
@@ -72,7 +72,7 @@ return_steps IntResult e = expr_steps e + 1
 return_steps returns e = 1
 
 abbrev mutual
-  -- a statement; the end of each way of an `if`, and that of a loop's turn, is a step
+  -- a statement; the end of each branch of an `if`, and that of a loop's turn, is a step
   pub stmt_steps : (ints : List Identifier) (returns : ResultType) → Stmt → ℕ
   stmt_steps ints returns (Declare line t x r) = right_steps ints r
   stmt_steps ints returns (DeclareBuffer line t x r) = right_steps ints r

@@ -7,8 +7,8 @@ use Rattle.base.specs.Limits.{most_elements}
 use Rattle.base.specs.Bytes.{Identifier, lookup}
 use Rattle.base.specs.Element.{ElementType}
 use Rattle.syntax.specs.Tree.{ParameterType, IntParameter, ReferenceParameter, Parameter}
-use Rattle.type_rules.specs.Sorts.{Sort, Jint, Ref, Global, Weak, FieldId, MethodId, Buffer, Array}
-use Rattle.type_rules.specs.Sorts as sort
+use Rattle.type_rules.specs.ExprTypes.{ExprType, Jint, Ref, Global, Weak, FieldId, MethodId, Buffer, Array}
+use Rattle.type_rules.specs.ExprTypes as ty
 use Rattle.class_rules.specs.Fields as source
 use Rattle.semantics.specs.Heap.{numbers_of}
 use Rattle.semantics.specs.Method as method
@@ -34,12 +34,12 @@ word_of (Int z) = cast_unsigned w32 z
 word_of (Flag b) = truth_word b
 word_of (Truth b) = truth_word b
 
--- a value of this sort, in its range
-abbrev pub ValueHasSort : Value → Sort → Type 0
-ValueHasSort (Word n) s = (n < 2 ^ 32) × (s ≡ sort.Word)
-ValueHasSort (Int z) s = FitsSigned w32 z × (s ≡ Jint)
-ValueHasSort (Flag b) s = s ≡ sort.Flag
-ValueHasSort (Truth b) s = s ≡ sort.Truth
+-- a value of this type, in its range
+abbrev pub ValueHasType : Value → ExprType → Type 0
+ValueHasType (Word n) s = (n < 2 ^ 32) × (s ≡ ty.Word)
+ValueHasType (Int z) s = FitsSigned w32 z × (s ≡ Jint)
+ValueHasType (Flag b) s = s ≡ ty.Flag
+ValueHasType (Truth b) s = s ≡ ty.Truth
 
 -- ---- what can be seen
 
@@ -224,12 +224,12 @@ pub record Slots : Type 0 where
   pub fields : List (Option Handle)
   pub buffers : List variable.Buffer
 
--- a number variable has a value of its sort, whose word is in its slot
+-- a number variable has a value of its type, whose word is in its slot
 pub record ShowsNumber (visible : Visible) (x : Identifier) (numbers : List ℕ) (s : Slot) : Type 0 where
   pub value : Value
   pub is : visible.sight.number x ≡ Gives value
   pub kind : visible.kind x ≡ Some ScalarKind
-  pub sort : ValueHasSort value s.sort
+  pub ty : ValueHasType value s.ty
   pub word : slice_get numbers s.index ≡ Some (word_of value)
 
 -- what a local reference holds is in its slot, and so is its level where it is an object and the variable's own
@@ -300,12 +300,12 @@ pub record ShowsBuffer (visible : Visible) (x : Identifier) (buffers : List vari
   pub kind : visible.kind x ≡ Some (BufferKind t)
   pub there : slice_get buffers i ≡ Some buffer
 
--- what the slots show of a name with a slot of this sort
-abbrev pub ShowsSlot : Visible → Identifier → Slots → Slot → Sort → Type 0
-ShowsSlot visible x slots s sort.Word = ShowsNumber visible x slots.numbers s
+-- what the slots show of a name with a slot of this type
+abbrev pub ShowsSlot : Visible → Identifier → Slots → Slot → ExprType → Type 0
+ShowsSlot visible x slots s ty.Word = ShowsNumber visible x slots.numbers s
 ShowsSlot visible x slots s Jint = ShowsNumber visible x slots.numbers s
-ShowsSlot visible x slots s sort.Flag = ShowsNumber visible x slots.numbers s
-ShowsSlot visible x slots s sort.Truth = Unit {0}
+ShowsSlot visible x slots s ty.Flag = ShowsNumber visible x slots.numbers s
+ShowsSlot visible x slots s ty.Truth = Unit {0}
 ShowsSlot visible x slots s Ref = ShowsReference visible x slots s.index
 ShowsSlot visible x slots s Global = ShowsStatic visible x s.index
 ShowsSlot visible x slots s Weak = ShowsStatic visible x s.index
@@ -321,7 +321,7 @@ pub record Shows (code : Listing) (known : Known) (visible : Visible) (slots : S
   pub owners : length slots.owners ≡ code.slots.references
   pub fields : length slots.fields ≡ code.slots.field_ids
   pub buffers : length slots.buffers ≡ code.slots.buffers
-  pub each : (x : Identifier) (s : Slot) → lookup x known ≡ Some s → ShowsSlot visible x slots s s.sort
+  pub each : (x : Identifier) (s : Slot) → lookup x known ≡ Some s → ShowsSlot visible x slots s s.ty
 
 -- ---- the elements of buffers
 

@@ -8,10 +8,10 @@ use Rattle.syntax.specs.Tree.{BitOr, Expr, Stmt, Block, End, Next}
 use Rattle.jni.specs.Access.{Access}
 use Rattle.jni.specs.JniFunction.{JniFunction, prototype, parameters_for}
 use Rattle.jni.specs.Prototype.{ParameterKind, FieldID, MethodID, Passed, TextBytes, ArrayVariable, BufferVariable, Mode, IsCopy, ResultKind, NewLocal, NewGlobal, NewWeak, GivesFlag, GivesInt, GivesField, GivesMethod, GivesBuffer}
-use Rattle.type_rules.specs.Sorts.{Sort, Jint, Ref, FieldId, MethodId, Buffer, Array}
-use Rattle.type_rules.specs.Sorts as sort
-use Rattle.type_rules.specs.SortRules.{is_droppable}
-use Rattle.type_rules.specs.SortGroups.{IsIndexSort, IsNumberSort}
+use Rattle.type_rules.specs.ExprTypes.{ExprType, Jint, Ref, FieldId, MethodId, Buffer, Array}
+use Rattle.type_rules.specs.ExprTypes as ty
+use Rattle.type_rules.specs.TypeRules.{is_droppable}
+use Rattle.type_rules.specs.TypeGroups.{IsIndexType, IsNumberType}
 use Rattle.semantics.specs.Arguments.{mode_of}
 use Rattle.semantics.specs.Task.{Task, SetScalar, SetElement, SetNull, MakeArray, Invoke, Print, Branch, EndIf, Loop, EndTurn, Return, ReturnValue, Impossible, Target, Declared, Assigned, Tested, Dropped, VariableKind, ScalarKind, ReferenceKind, FieldKind, MethodKind, BufferKind, Operand, NumberOperand, PassedName, Given}
 use Rattle.semantics.specs.Term as term
@@ -33,8 +33,8 @@ use Rattle.code.specs.declared.slots.SlotCounts.{SlotCounts}
 use Rattle.code.specs.Depth.{Listing}
 use Rattle.code.specs.Effect.{truth_word}
 use Rattle.code_meaning.specs.Layout.{Slot, Known, Layout, block_layout}
-use Rattle.code_meaning.specs.Coding.{mode_code, nullable_of, element_of, write_code, of_slot, term_code, expr_code, number_code, names_number, ways_code, turn_code, block_code}
-use Rattle.code_meaning.specs.Fits.{TakesNull, TakesLocal, TakesGlobal, TakesInt, IsStaticIn, IsVariable, IsArray, HasElements, TermHasSort, IsUntouched, NumberFits, IndexWithin, IsOwn, HaveOwnSlots, IsLaidOut, HasRoomFor, BlockFits}
+use Rattle.code_meaning.specs.Coding.{mode_code, nullable_of, element_of, write_code, of_slot, term_code, expr_code, number_code, names_number, paths_code, turn_code, block_code}
+use Rattle.code_meaning.specs.Fits.{TakesNull, TakesLocal, TakesGlobal, TakesInt, IsStaticIn, IsVariable, IsArray, HasElements, TermHasType, IsUntouched, NumberFits, IndexWithin, IsOwn, HaveOwnSlots, IsLaidOut, HasRoomFor, BlockFits}
 use Rattle.code_meaning.specs.Slots.{word_of}
 
 -- ---- terms
@@ -59,9 +59,9 @@ IsBegun (Binary op (Done v) b) = IsBegun b
 IsBegun (Binary op a b) = IsBegun a × IsUntouched b
 IsBegun t = Unit {0}
 
--- an expression of this sort on the way to its value, with its operands on the stack
-pub record IsUnderWay (known : Known) (s : Sort) (t : Term) (stack : List ℕ) : Type 0 where
-  pub sort : TermHasSort known t s
+-- an expression of this type on the way to its value, with its operands on the stack
+pub record IsUnderWay (known : Known) (s : ExprType) (t : Term) (stack : List ℕ) : Type 0 where
+  pub ty : TermHasType known t s
   pub begun : IsBegun t
   pub operands : stack ≡ held t
 
@@ -86,11 +86,11 @@ ComesAfter after place known = (names : Known) × AreAmong names known × after 
 
 -- a slot of the code that no known name but this has
 pub record IsSlotOf (code : Listing) (known : Known) (x : Identifier) (s : Slot) : Type 0 where
-  pub within : IndexWithin code.slots s.sort s.index
+  pub within : IndexWithin code.slots s.ty s.index
   pub own : IsOwn known x s
 
 -- an expression and the instructions after it are at the place
-abbrev pub NumberStands : Listing → Known → (place : ℕ) → (stack : List ℕ) → (line : ℕ) → Sort → Term → (after : List Instr) → Type 0
+abbrev pub NumberStands : Listing → Known → (place : ℕ) → (stack : List ℕ) → (line : ℕ) → ExprType → Term → (after : List Instr) → Type 0
 NumberStands code known place stack line s t after = IsUnderWay known s t stack × HasAt code.instrs place (term_code known line t ++ after)
 
 -- ---- variables
@@ -98,8 +98,8 @@ NumberStands code known place stack line s t after = IsUnderWay known s t stack 
 -- a number variable is set by the instruction after the number
 pub record SetStands (code : Listing) (known : Known) (place : ℕ) (stack : List ℕ) (after : After) (line : ℕ) (x : Identifier) (t : Term) : Type 0 where
   pub slot : Slot
-  pub number : IsNumberSort slot.sort
-  pub value : NumberStands code known place stack line slot.sort t (instr.Store slot.index ∷ [])
+  pub number : IsNumberType slot.ty
+  pub value : NumberStands code known place stack line slot.ty t (instr.Store slot.index ∷ [])
   pub own : IsSlotOf code known x slot
   pub further : ComesAfter after (place + length (term_code known line t) + 1) ((x, slot) ∷ known)
 
@@ -108,13 +108,13 @@ pub record SetElementStands (code : Listing) (known : Known) (place : ℕ) (stac
     (x : Identifier) (i e : Term) : Type 0 where
   pub slot : Slot
   pub there : lookup x known ≡ Some slot
-  pub elements : HasElements slot.sort
+  pub elements : HasElements slot.ty
   pub own : IsSlotOf code known x slot
-  pub index : (r : Sort) × IsIndexSort r × TermHasSort known i r
-  pub value : TermHasSort known e Jint
+  pub index : (r : ExprType) × IsIndexType r × TermHasType known i r
+  pub value : TermHasType known e Jint
   pub begun : IsBegun (Binary BitOr i e)
   pub operands : stack ≡ held e ++ held i
-  pub at : HasAt code.instrs place (term_code known line i ++ (term_code known line e ++ write_code line slot.sort slot.index))
+  pub at : HasAt code.instrs place (term_code known line i ++ (term_code known line e ++ write_code line slot.ty slot.index))
   pub further : after (place + (length (term_code known line i) + length (term_code known line e)) + 1) known
 
 -- the variable that a NULL goes to
@@ -123,20 +123,20 @@ target_name (Declared kind x) = Some x
 target_name (Assigned x) = Some x
 target_name target = None
 
--- the kind of a variable of this sort; statics and arrays have none
-abbrev pub kind_of_sort : Sort → Option VariableKind
-kind_of_sort sort.Word = Some ScalarKind
-kind_of_sort Jint = Some ScalarKind
-kind_of_sort sort.Flag = Some ScalarKind
-kind_of_sort Ref = Some ReferenceKind
-kind_of_sort FieldId = Some FieldKind
-kind_of_sort MethodId = Some MethodKind
-kind_of_sort (Buffer t writable) = Some (BufferKind t)
-kind_of_sort s = None
+-- the kind of a variable of this type; statics and arrays have none
+abbrev pub kind_of_type : ExprType → Option VariableKind
+kind_of_type ty.Word = Some ScalarKind
+kind_of_type Jint = Some ScalarKind
+kind_of_type ty.Flag = Some ScalarKind
+kind_of_type Ref = Some ReferenceKind
+kind_of_type FieldId = Some FieldKind
+kind_of_type MethodId = Some MethodKind
+kind_of_type (Buffer t writable) = Some (BufferKind t)
+kind_of_type s = None
 
 -- the variable is a new one, of the slot's kind, or the one that has the slot
 abbrev pub GoesTo : Known → Slot → Target → Type 0
-GoesTo known s (Declared kind x) = kind_of_sort s.sort ≡ Some kind
+GoesTo known s (Declared kind x) = kind_of_type s.ty ≡ Some kind
 GoesTo known s (Assigned x) = lookup x known ≡ Some s
 GoesTo known s target = ⊥
 
@@ -147,7 +147,7 @@ pub record SetNullStands (code : Listing) (known : Known) (place : ℕ) (stack :
   pub is : target_name target ≡ Some name
   pub slot : Slot
   pub variable : NullableVariable
-  pub nullable : nullable_of slot.sort slot.index ≡ Some variable
+  pub nullable : nullable_of slot.ty slot.index ≡ Some variable
   pub takes : GoesTo known slot target
   pub at : slice_get code.instrs place ≡ Some (instr.StoreNull variable)
   pub own : IsSlotOf code known name slot
@@ -159,8 +159,8 @@ pub record MakeArrayStands (code : Listing) (known : Known) (place : ℕ) (stack
   pub empty : stack ≡ []
   pub start : ℕ
   pub at : slice_get code.instrs place ≡ Some (instr.ClearArray (record { start = start; len = size }))
-  pub own : IsSlotOf code known x (record { sort = Array t size; index = start })
-  pub further : ComesAfter after (place + 1) ((x, record { sort = Array t size; index = start }) ∷ known)
+  pub own : IsSlotOf code known x (record { ty = Array t size; index = start })
+  pub further : ComesAfter after (place + 1) ((x, record { ty = Array t size; index = start }) ∷ known)
 
 -- ---- blocks
 
@@ -171,16 +171,16 @@ pub record BlockStands (code : Listing) (l : Layout) (place : ℕ) (b : Block) :
   pub laid : IsLaidOut l.known l.slots
   pub room : HasRoomFor code.slots (block_layout l b).slots
 
--- an `if` whose test is under way, with its two ways, each of which ends by a jump
+-- an `if` whose test is under way, with its two branches, each of which ends by a jump
 pub record BranchStands (code : Listing) (known : Known) (place : ℕ) (stack : List ℕ) (after : After) (line : ℕ) (t : Term) (then' else' : Block) : Type 0 where
   pub slots : SlotCounts
   pub slots_else : SlotCounts
-  pub test : IsUnderWay known sort.Truth t stack
+  pub test : IsUnderWay known ty.Truth t stack
   pub then_code : List Instr
   pub then_is : then_code ≡ block_code (record { known = known; slots = slots }) then'
   pub else_code : List Instr
   pub else_is : else_code ≡ block_code (record { known = known; slots = slots_else }) else'
-  pub at : HasAt code.instrs place (term_code known line t ++ ways_code then_code (else_code ++ instr.Jump 0 ∷ []))
+  pub at : HasAt code.instrs place (term_code known line t ++ paths_code then_code (else_code ++ instr.Jump 0 ∷ []))
   pub first : BlockStands code (record { known = known; slots = slots }) (place + length (term_code known line t) + 1) then'
   pub second : BlockStands code (record { known = known; slots = slots_else }) (place + length (term_code known line t) + 1 + length then_code + 1) else'
   pub further : after (place + length (term_code known line t) + 1 + length then_code + 1 + length else_code + 1) known
@@ -202,7 +202,7 @@ pub record NumberIsUnderWay (known : Known) (p : ParameterKind) (given : Operand
   pub kind : TakesInt p
   pub term : Term
   pub is : given ≡ NumberOperand term
-  pub sort : TermHasSort known term Jint
+  pub ty : TermHasType known term Jint
 
 -- an argument that is the name of a number, whose value isn't on the stack yet
 pub record NumberIsNamed (known : Known) (p : ParameterKind) (given : Operand) : Type 0 where
@@ -233,7 +233,7 @@ pub record BufferStands (known : Known) (i : ℕ) (p : ParameterKind) (given : O
   pub is : given ≡ Given (tree.Value (tree.Variable name))
   pub type : ElementType
   pub writable : Bool
-  pub there : lookup name known ≡ Some (record { sort = Buffer type writable; index = i })
+  pub there : lookup name known ≡ Some (record { ty = Buffer type writable; index = i })
 
 -- an argument that is a release mode
 pub record ModeStands (mode : ReleaseMode) (p : ParameterKind) (given : Operand) : Type 0 where
@@ -247,20 +247,20 @@ pub record AddressStands (known : Known) (i : ℕ) (p : ParameterKind) (given : 
   pub kind : p ≡ IsCopy
   pub name : Identifier
   pub is : given ≡ Given (tree.AddressOf name)
-  pub there : lookup name known ≡ Some (record { sort = sort.Flag; index = i })
+  pub there : lookup name known ≡ Some (record { ty = ty.Flag; index = i })
 
 -- where the instruction finds an argument, for a parameter of this kind
 abbrev pub OperandStands : Known → Where → ParameterKind × Operand → Type 0
 OperandStands known operand.Null (p, given) = NullStands p given
 OperandStands known (operand.Local i) (p, given) =
-    (x : Identifier) × TakesLocal p × (given ≡ named_operand p x) × (lookup x known ≡ Some (record { sort = Ref; index = i }))
+    (x : Identifier) × TakesLocal p × (given ≡ named_operand p x) × (lookup x known ≡ Some (record { ty = Ref; index = i }))
 OperandStands known (operand.Static i) (p, given) =
     (x : Identifier) × TakesGlobal p × (given ≡ named_operand p x) × IsStaticIn known x i
 OperandStands known operand.Number (p, given) = NumberIsUnderWay known p given ⊎ NumberIsNamed known p given
 OperandStands known (operand.FieldId i) (p, given) =
-    (x : Identifier) × (p ≡ FieldID) × (given ≡ Given (tree.Value (tree.Variable x))) × (lookup x known ≡ Some (record { sort = FieldId; index = i }))
+    (x : Identifier) × (p ≡ FieldID) × (given ≡ Given (tree.Value (tree.Variable x))) × (lookup x known ≡ Some (record { ty = FieldId; index = i }))
 OperandStands known (operand.MethodId i) (p, given) =
-    (x : Identifier) × (p ≡ MethodID) × (given ≡ Given (tree.Value (tree.Variable x))) × (lookup x known ≡ Some (record { sort = MethodId; index = i }))
+    (x : Identifier) × (p ≡ MethodID) × (given ≡ Given (tree.Value (tree.Variable x))) × (lookup x known ≡ Some (record { ty = MethodId; index = i }))
 OperandStands known operand.Text (p, given) = TextStands p given
 OperandStands known (operand.Array array) (p, given) = ArrayStands known array p given
 OperandStands known (operand.Buffer i) (p, given) = BufferStands known i p given
@@ -312,7 +312,7 @@ operand_text o = []
 abbrev pub operands_texts : List Operand → List (List ℕ)
 operands_texts operands = flat_map operand_text operands
 
--- a variable of a sort takes a call's result into its slot, and then this comes
+-- a variable of a type takes a call's result into its slot, and then this comes
 pub record ResultStands (code : Listing) (known : Known) (after : After) (place : ℕ) (s : Slot) (x : Identifier) : Type 0 where
   pub own : IsSlotOf code known x s
   pub further : ComesAfter after place ((x, s) ∷ known)
@@ -323,11 +323,11 @@ ResultGoes code known after place s kind (Declared declared x) = (declared ≡ k
 ResultGoes code known after place s kind (Assigned x) = ResultStands code known after place s x × (lookup x known ≡ Some s)
 ResultGoes code known after place s kind target = ⊥
 
--- the sort of a variable that takes what a function gives as a number
-abbrev pub number_sort : ResultKind → Option Sort
-number_sort GivesInt = Some Jint
-number_sort GivesFlag = Some sort.Flag
-number_sort kind = None
+-- the type of a variable that takes what a function gives as a number
+abbrev pub number_type : ResultKind → Option ExprType
+number_type GivesInt = Some Jint
+number_type GivesFlag = Some ty.Flag
+number_type kind = None
 
 -- what a function gives goes into a static
 abbrev pub IsStaticResult : ResultKind → Type 0
@@ -347,7 +347,7 @@ pub record TestStands (code : Listing) (known : Known) (after : After) (place : 
   pub then' : Block
   pub else' : Block
   pub is : target ≡ Tested then' else'
-  pub ways : (gave_zero : Bool) → BranchStands code known place (truth_word gave_zero ∷ []) after line (Done (Truth gave_zero)) then' else'
+  pub paths : (gave_zero : Bool) → BranchStands code known place (truth_word gave_zero ∷ []) after line (Done (Truth gave_zero)) then' else'
 
 -- what a function gives is a buffer
 abbrev pub IsBufferResult : ResultKind → Type 0
@@ -357,18 +357,18 @@ IsBufferResult gives = (access : Access) × (gives ≡ GivesBuffer access)
 abbrev pub BufferGoes : Listing → Known → After → (place : ℕ) → ElementOfCode → (i : ℕ) → Target → Type 0
 BufferGoes code known after place element i target =
     (t : ElementType) × (writable : Bool) × (element ≡ element_of t)
-    × ResultGoes code known after place (record { sort = Buffer t writable; index = i }) (BufferKind t) target
+    × ResultGoes code known after place (record { ty = Buffer t writable; index = i }) (BufferKind t) target
 
 -- where the result of a call in a statement on this line goes, as an instruction has it, and then what comes
 abbrev pub TargetStands : Listing → Known → After → (place : ℕ) → (line : ℕ) → Destination → ResultKind → Target → Type 0
 TargetStands code known after place line (destination.Number i) gives target =
-    (s : Sort) × (number_sort gives ≡ Some s) × ResultGoes code known after place (record { sort = s; index = i }) ScalarKind target
+    (s : ExprType) × (number_type gives ≡ Some s) × ResultGoes code known after place (record { ty = s; index = i }) ScalarKind target
 TargetStands code known after place line (destination.Local i) gives target = (gives ≡ NewLocal)
-    × ResultGoes code known after place (record { sort = Ref; index = i }) ReferenceKind target
+    × ResultGoes code known after place (record { ty = Ref; index = i }) ReferenceKind target
 TargetStands code known after place line (destination.FieldId i) gives target = (gives ≡ GivesField)
-    × ResultGoes code known after place (record { sort = FieldId; index = i }) FieldKind target
+    × ResultGoes code known after place (record { ty = FieldId; index = i }) FieldKind target
 TargetStands code known after place line (destination.MethodId i) gives target = (gives ≡ GivesMethod)
-    × ResultGoes code known after place (record { sort = MethodId; index = i }) MethodKind target
+    × ResultGoes code known after place (record { ty = MethodId; index = i }) MethodKind target
 TargetStands code known after place line (destination.Static i) gives target = IsStaticResult gives × StaticStands known after place i target
 TargetStands code known after place line (destination.Buffer element i) gives target = IsBufferResult gives × BufferGoes code known after place element i target
 TargetStands code known after place line destination.Test gives target = (gives ≡ GivesInt) × TestStands code known after place line target
@@ -389,9 +389,9 @@ pub record InvokeStands (code : Listing) (known : Known) (place : ℕ) (stack : 
   pub own_slots : HaveOwnSlots known
   pub goes : TargetStands code known after (place + length (operands_rest known line operands) + 1) line call.target (prototype f).result target
 
--- ---- ways and loops
+-- ---- paths and loops
 
--- the jump at the end of a way
+-- the jump at the end of a path
 pub record EndStands (code : Listing) (known : Known) (place : ℕ) (stack : List ℕ) (after : After) : Type 0 where
   pub empty : stack ≡ []
   pub skipped : ℕ
@@ -403,8 +403,8 @@ pub record LoopStands (code : Listing) (known : Known) (place : ℕ) (stack : Li
     (test : Expr) (t : Term) (body : Block) : Type 0 where
   pub slots : SlotCounts
   pub start : ℕ
-  pub under_way : IsUnderWay known sort.Truth t stack
-  pub fits : NumberFits known (term_of test) sort.Truth
+  pub under_way : IsUnderWay known ty.Truth t stack
+  pub fits : NumberFits known (term_of test) ty.Truth
   pub test_code : List Instr
   pub test_is : test_code ≡ expr_code known line test
   pub body_code : List Instr
@@ -431,7 +431,7 @@ pub record TurnStands (code : Listing) (known : Known) (place : ℕ) (stack : Li
 abbrev pub ReferenceReturned : Listing → Known → (place : ℕ) → Term → Type 0
 ReferenceReturned code known place t =
     ((t ≡ term.Named tree.Null) × (slice_get code.instrs place ≡ Some (instr.ReturnReference Null)))
-    ⊎ ((x : Identifier) × (i : ℕ) × (t ≡ Read x) × (lookup x known ≡ Some (record { sort = Ref; index = i }))
+    ⊎ ((x : Identifier) × (i : ℕ) × (t ≡ Read x) × (lookup x known ≡ Some (record { ty = Ref; index = i }))
     × (slice_get code.instrs place ≡ Some (instr.ReturnReference (Local i))))
 
 -- a value is returned
@@ -462,10 +462,10 @@ abbrev pub TasksStand : Listing → Known → (place : ℕ) → (stack : List �
 TasksStand code known place stack [] = Unit {0}
 TasksStand code known place stack (task ∷ rest) = TaskStands code known place stack (λ p names. TasksStand code names p [] rest) task
 
--- ---- every way returns
+-- ---- every path returns
 
 abbrev mutual
-  -- whether each way through a statement returns
+  -- whether each path through a statement returns
   pub stmt_returns : Stmt → Bool
   stmt_returns (tree.IfElse line test then' else') = block_returns then' && block_returns else'
   stmt_returns (tree.Return line) = true
@@ -486,7 +486,7 @@ task_returns (ReturnValue line t) = true
 task_returns Impossible = true
 task_returns task = false
 
--- The place stands for the tasks still to do from there on, and every way through them returns. So no place stands for
+-- The place stands for the tasks still to do from there on, and every path through them returns. So no place stands for
 -- nothing.
 pub record StandsFor (code : Listing) (known : Known) (place : ℕ) (stack : List ℕ) (tasks : List Task) : Type 0 where
   pub stand : TasksStand code known place stack tasks

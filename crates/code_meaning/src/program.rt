@@ -38,7 +38,7 @@ impl<'a> Program<'a> {
     ghost use Rattle.std.specs.Option.{option_copied};
     ghost use Rattle.syntax.specs.Limits.{IsTree};
     ghost use Rattle.syntax.specs.Views.{unit_tree};
-    ghost use Rattle.type_rules.specs.SortRules.{IsSorted};
+    ghost use Rattle.type_rules.specs.TypeRules.{IsWellTyped};
     ghost use Rattle.region_rules.specs.Regions.{HasRegions};
     ghost use Rattle.code_meaning.specs.Lowered.{IsLowered};
 
@@ -56,7 +56,7 @@ impl<'a> Program<'a> {
         ensures items { result.now ≡ self.now.unit }
         ensures lowered { IsLowered self.now }
         ensures tree { IsTree (unit_tree result.now) }
-        ensures sorted { IsSorted (unit_tree result.now) }
+        ensures well_typed { IsWellTyped (unit_tree result.now) }
         ensures regions { HasRegions (unit_tree result.now) }
     {
         self.checked.items()

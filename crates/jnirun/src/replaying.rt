@@ -76,7 +76,7 @@ fn replay_world<W: Sink>(
 ///
 /// On `Ok` what was written is what a run with this journal writes, and none of it waits in the sink. A fault is one
 /// that the texts earn, and nothing is written then: 91 has the number of the first entry that isn't possible, counted
-/// from 1. The texts are read in their order: the program is scanned, parsed, and checked for sorts and regions, then
+/// from 1. The texts are read in their order: the program is scanned, parsed, and checked for types and regions, then
 /// the world and the journal are read, then they are loaded and the entries taken. No code is made, so no function is
 /// too long.
 pub fn replay_text<W: Sink>(

@@ -154,7 +154,7 @@ fn run_checked<W: Sink>(
 /// On `Ok` what was written is the report of the source run that the journal names, and that journal, which has the
 /// schedule's steps in order, with clearings of weak references to unreachable objects between them; none of it waits
 /// in the sink. A fault is one that the texts earn, and nothing is written then. The texts are read in their order: the
-/// program is scanned, parsed, checked for sorts and regions and lowered, then the world and the schedule are read, then
+/// program is scanned, parsed, checked for types and regions and lowered, then the world and the schedule are read, then
 /// they are loaded.
 pub fn run_text<W: Sink>(
     alloc: Global,

@@ -7,18 +7,18 @@ use Rattle.base.specs.Bytes.{Identifier, lookup}
 use Rattle.syntax.specs.Limits.{numbers_in_range, block_height, block_well_formed, IsTree}
 use Rattle.syntax.specs.Parts.{functions_of, statements_of, own_expressions, parameter_names}
 use Rattle.syntax.specs.Tree.{ParameterType, IntParameter, ReferenceParameter, Parameter, Function, Void, Item, StaticItem, FunctionItem, SourceUnit}
-use Rattle.type_rules.specs.Sorts.{Sort, Jint, Ref, Global, Weak, Scope}
-use Rattle.type_rules.specs.SortRules.{IsSorted, Place, StaticForm, HeadForm, has_name, has_repeated, parameter_sort, places_of, function_places, item_places, static_sort}
+use Rattle.type_rules.specs.ExprTypes.{ExprType, Jint, Ref, Global, Weak, Scope}
+use Rattle.type_rules.specs.TypeRules.{IsWellTyped, Place, StaticForm, HeadForm, has_name, has_repeated, parameter_type, places_of, function_places, item_places, static_type}
 use Rattle.code.specs.declared.instr.Instr.TheVariants as instr
 use Rattle.region_rules.specs.Regions.{AcceptedFunction, HasRegions}
 use Rattle.code_meaning.specs.Layout.{Slot, Known, with_static, parameter_slot, parameter_slots, numbers_after, references_after, entry_layout}
 use Rattle.code_meaning.specs.Coding.{block_code, function_code}
-use Rattle.code_meaning.specs.Fits.{AreStatics, FunctionFits, IsStaticSort}
+use Rattle.code_meaning.specs.Fits.{AreStatics, FunctionFits, IsStaticType}
 use Rattle.code_meaning.specs.Length.{function_steps, int_names}
 use Rattle.code_meaning.specs.Stands.{block_returns}
 use Rattle.code_meaning.proofs.SlotLaws.{first_or_after}
 use Rattle.lower.proofs.EntryLayouts.{no_statics, one_static_more}
-use Rattle.lower.proofs.SortFacts.{scope_of, HasNoTruth}
+use Rattle.lower.proofs.TypeFacts.{scope_of, HasNoTruth}
 use Rattle.type_rules.proofs.PlaceLists.{AreUnbroken, first_unbroken, front_unbroken, back_unbroken, rest_unbroken}
 use Rattle.type_rules.proofs.KeptPlaces.{static_kept}
 use Rattle.lower.proofs.Tests.{and_left, and_right, or_right}
@@ -36,15 +36,15 @@ AllFit statics (FunctionItem f ∷ items) = AreStatics statics × FunctionFits s
 
 -- ---- the names at a function's beginning
 
-slot_sort : (type : ParameterType) (n r : ℕ) → parameter_sort type ≡ (parameter_slot type n r).sort
-slot_sort IntParameter n r = refl
-slot_sort (ReferenceParameter t) n r = refl
+slot_type : (type : ParameterType) (n r : ℕ) → parameter_type type ≡ (parameter_slot type n r).ty
+slot_type IntParameter n r = refl
+slot_type (ReferenceParameter t) n r = refl
 
-parameter_scope : (ps : List Parameter) (n r : ℕ) (statics : Known) → map {B = Identifier × Sort} (λ p. (p.name, parameter_sort p.type)) ps ++ scope_of statics ≡ scope_of (parameter_slots ps n r ++ statics)
+parameter_scope : (ps : List Parameter) (n r : ℕ) (statics : Known) → map {B = Identifier × ExprType} (λ p. (p.name, parameter_type p.type)) ps ++ scope_of statics ≡ scope_of (parameter_slots ps n r ++ statics)
 parameter_scope [] n r statics = refl
 parameter_scope (p ∷ ps) n r statics =
-    ap (λ (s : Sort). (p.name, s) ∷ (map {B = Identifier × Sort} (λ p. (p.name, parameter_sort p.type)) ps ++ scope_of statics)) (slot_sort p.type n r)
-    ∙ ap (λ (scope : Scope). (p.name, (parameter_slot p.type n r).sort) ∷ scope) (parameter_scope ps (numbers_after p.type n) (references_after p.type r) statics)
+    ap (λ (s : ExprType). (p.name, s) ∷ (map {B = Identifier × ExprType} (λ p. (p.name, parameter_type p.type)) ps ++ scope_of statics)) (slot_type p.type n r)
+    ∙ ap (λ (scope : Scope). (p.name, (parameter_slot p.type n r).ty) ∷ scope) (parameter_scope ps (numbers_after p.type n) (references_after p.type r) statics)
 
 statics_taken : (statics : Known) → AreTaken (map (λ s. s.0) (scope_of statics)) statics
 statics_taken [] x h = refl
@@ -57,61 +57,61 @@ parameters_taken (p ∷ ps) n r statics =
     let further_r = references_after p.type r in
     taken_first (map (λ p. p.name) ps ++ map (λ s. s.0) (scope_of statics)) (parameter_slots ps further_n further_r ++ statics) p.name (parameter_slot p.type n r) (parameters_taken ps further_n further_r statics)
 
--- the sorts that names have there
-abbrev IsEntrySort : Sort → Type 0
-IsEntrySort Jint = Unit {0}
-IsEntrySort Ref = Unit {0}
-IsEntrySort Global = Unit {0}
-IsEntrySort Weak = Unit {0}
-IsEntrySort s = ⊥
+-- the types that names have there
+abbrev IsEntryType : ExprType → Type 0
+IsEntryType Jint = Unit {0}
+IsEntryType Ref = Unit {0}
+IsEntryType Global = Unit {0}
+IsEntryType Weak = Unit {0}
+IsEntryType s = ⊥
 
-abbrev HaveEntrySorts : Known → Type 0
-HaveEntrySorts known = (x : Identifier) (s : Slot) → lookup x known ≡ Some s → IsEntrySort s.sort
+abbrev HaveEntryTypes : Known → Type 0
+HaveEntryTypes known = (x : Identifier) (s : Slot) → lookup x known ≡ Some s → IsEntryType s.ty
 
-entry_sort_first : (x : Identifier) (slot : Slot) (known : Known) → IsEntrySort slot.sort → HaveEntrySorts known → HaveEntrySorts ((x, slot) ∷ known)
-entry_sort_first x slot known new h y s at =
-    first_or_after x y slot s known (IsEntrySort s.sort) (λ same is. subst (λ (t : Slot). IsEntrySort t.sort) is new) (λ other found. h y s found) at
+entry_type_first : (x : Identifier) (slot : Slot) (known : Known) → IsEntryType slot.ty → HaveEntryTypes known → HaveEntryTypes ((x, slot) ∷ known)
+entry_type_first x slot known new h y s at =
+    first_or_after x y slot s known (IsEntryType s.ty) (λ same is. subst (λ (t : Slot). IsEntryType t.ty) is new) (λ other found. h y s found) at
 
-parameter_entry_sort : (type : ParameterType) (n r : ℕ) → IsEntrySort (parameter_slot type n r).sort
-parameter_entry_sort IntParameter n r = tt
-parameter_entry_sort (ReferenceParameter t) n r = tt
+parameter_entry_type : (type : ParameterType) (n r : ℕ) → IsEntryType (parameter_slot type n r).ty
+parameter_entry_type IntParameter n r = tt
+parameter_entry_type (ReferenceParameter t) n r = tt
 
-static_entry_sort : (s : Sort) → IsStaticSort s → IsEntrySort s
-static_entry_sort Global h = tt
-static_entry_sort Weak h = tt
-static_entry_sort s h = absurd h
+static_entry_type : (s : ExprType) → IsStaticType s → IsEntryType s
+static_entry_type Global h = tt
+static_entry_type Weak h = tt
+static_entry_type s h = absurd h
 
-parameter_sorts : (ps : List Parameter) (n r : ℕ) (statics : Known) → AreStatics statics → HaveEntrySorts (parameter_slots ps n r ++ statics)
-parameter_sorts [] n r statics h x s at = static_entry_sort s.sort (h x s at).0
-parameter_sorts (p ∷ ps) n r statics h x s at =
+parameter_types : (ps : List Parameter) (n r : ℕ) (statics : Known) → AreStatics statics → HaveEntryTypes (parameter_slots ps n r ++ statics)
+parameter_types [] n r statics h x s at = static_entry_type s.ty (h x s at).0
+parameter_types (p ∷ ps) n r statics h x s at =
     let further_n = numbers_after p.type n in
     let further_r = references_after p.type r in
-    entry_sort_first p.name (parameter_slot p.type n r) (parameter_slots ps further_n further_r ++ statics) (parameter_entry_sort p.type n r) (parameter_sorts ps further_n further_r statics h) x s at
+    entry_type_first p.name (parameter_slot p.type n r) (parameter_slots ps further_n further_r ++ statics) (parameter_entry_type p.type n r) (parameter_types ps further_n further_r statics h) x s at
 
-entry_sorts : (statics : Known) (f : Function) → AreStatics statics → HaveEntrySorts (entry_layout statics f).known
-entry_sorts statics f h = entry_sort_first f.class_name (record { sort = Ref; index = 0 }) (parameter_slots f.parameters 0 1 ++ statics) tt (parameter_sorts f.parameters 0 1 statics h)
+entry_types : (statics : Known) (f : Function) → AreStatics statics → HaveEntryTypes (entry_layout statics f).known
+entry_types statics f h = entry_type_first f.class_name (record { ty = Ref; index = 0 }) (parameter_slots f.parameters 0 1 ++ statics) tt (parameter_types f.parameters 0 1 statics h)
 
-entry_no_truth : (known : Known) → HaveEntrySorts known → HasNoTruth known
-entry_no_truth known h x s at e = subst IsEntrySort e (h x s at)
+entry_no_truth : (known : Known) → HaveEntryTypes known → HasNoTruth known
+entry_no_truth known h x s at e = subst IsEntryType e (h x s at)
 
 -- ---- functions
 
 module _ (statics : Known) (f : Function) (known : AreStatics statics) where
-  -- the sorts of the body, after the class and the parameters
+  -- the types of the body, after the class and the parameters
   abbrev BodyIsKept : Type 0
   BodyIsKept = AreUnbroken (places_of f.result (scope_of (entry_layout statics f).known) (parameter_names f ++ map (λ s. s.0) (scope_of statics)) f.body)
 
   body_kept : (names : List Identifier) → AreUnbroken (function_places names (scope_of statics) f) → BodyIsKept
-  body_kept names sorted =
+  body_kept names well_typed =
       let taken = parameter_names f ++ map (λ s. s.0) (scope_of statics) in
-      let scope : Scope = (f.class_name, Ref) ∷ (map {B = Identifier × Sort} (λ p. (p.name, parameter_sort p.type)) f.parameters ++ scope_of statics) in
-      let inside : AreUnbroken (places_of f.result scope taken f.body) = rest_unbroken (record { line = f.line; known = scope_of statics; taken = names; returns = f.result; form = HeadForm f }) (places_of f.result scope taken f.body) sorted in
+      let scope : Scope = (f.class_name, Ref) ∷ (map {B = Identifier × ExprType} (λ p. (p.name, parameter_type p.type)) f.parameters ++ scope_of statics) in
+      let inside : AreUnbroken (places_of f.result scope taken f.body) = rest_unbroken (record { line = f.line; known = scope_of statics; taken = names; returns = f.result; form = HeadForm f }) (places_of f.result scope taken f.body) well_typed in
       let same : scope ≡ scope_of (entry_layout statics f).known = ap (λ (further : Scope). (f.class_name, Ref) ∷ further) (parameter_scope f.parameters 0 1 statics) in
       subst (λ (s : Scope). AreUnbroken (places_of f.result s taken f.body)) same inside
 
   -- the names that are known at the body's beginning are taken
   entry_taken : AreTaken (parameter_names f ++ map (λ s. s.0) (scope_of statics)) (entry_layout statics f).known
-  entry_taken = taken_first (map (λ p. p.name) f.parameters ++ map (λ s. s.0) (scope_of statics)) (parameter_slots f.parameters 0 1 ++ statics) f.class_name (record { sort = Ref; index = 0 }) (parameters_taken f.parameters 0 1 statics)
+  entry_taken = taken_first (map (λ p. p.name) f.parameters ++ map (λ s. s.0) (scope_of statics)) (parameter_slots f.parameters 0 1 ++ statics) f.class_name (record { ty = Ref; index = 0 }) (parameters_taken f.parameters 0 1 statics)
 
   function_counted : FunctionFits statics f → BodyIsKept → has_repeated (parameter_names f ++ map (λ s. s.0) (scope_of statics)) ≡ false → length (function_code statics f) ≡ function_steps f + 1
   function_counted fits kept once =
@@ -120,17 +120,17 @@ module _ (statics : Known) (f : Function) (known : AreStatics statics) where
       omega (arith, length-append (block_code l f.body) (instr.Return ∷ []))
 
   function_fits : BodyIsKept → AreInRange (statements_of f.body) → block_well_formed f.body ≡ true → block_height f.body ≤ 32 → FunctionFits statics f
-  function_fits sorted numbers formed low =
+  function_fits well_typed numbers formed low =
       let l = entry_layout statics f in
-      let sorts = entry_sorts statics f known in
+      let types = entry_types statics f known in
       let taken = parameter_names f ++ map (λ s. s.0) (scope_of statics) in
       block_fits f.body l taken f.result (record {
-        sorted = sorted;
+        well_typed = well_typed;
         numbers = numbers;
         formed = formed;
         low = low;
         names = entry_taken;
-        no_truth = entry_no_truth l.known sorts;
+        no_truth = entry_no_truth l.known types;
       })
 
 -- ---- items
@@ -139,7 +139,7 @@ module _ (statics : Known) (f : Function) (known : AreStatics statics) where
 abbrev functions_in : List Item → List Function
 functions_in items = functions_of (record { items = items })
 
--- what the limits and the ways of an accepted unit say of its functions
+-- what the limits and the paths of an accepted unit say of its functions
 record HoldAll (items : List Item) : Type 0 where
   numbers : list_all (λ f. list_all (λ s. list_all numbers_in_range (own_expressions s)) (statements_of f.body)) (functions_in items) ≡ true
   formed : list_all (λ f. block_well_formed f.body) (functions_in items) ≡ true
@@ -147,18 +147,18 @@ record HoldAll (items : List Item) : Type 0 where
   regions : AllByRecursion AcceptedFunction (functions_in items)
 
 all_fit : (items : List Item) (names : List Identifier) (statics : Known) → AreStatics statics → AreTaken names statics → AreUnbroken (item_places names (scope_of statics) items) → HoldAll items → AllFit statics items
-all_fit [] names statics known taken sorted h = tt
-all_fit (StaticItem s ∷ items) names statics known taken sorted h =
+all_fit [] names statics known taken well_typed h = tt
+all_fit (StaticItem s ∷ items) names statics known taken well_typed h =
     let place : Place = record { line = s.line; known = scope_of statics; taken = names; returns = Void; form = StaticForm s } in
     let further = item_places (s.name ∷ names) (scope_of (with_static s statics)) items in (
-      taken s.name (static_kept s.line (scope_of statics) names Void s (first_unbroken place further sorted)),
-      all_fit items (s.name ∷ names) (with_static s statics) (one_static_more s statics known) (taken_first names statics s.name (record { sort = static_sort s.type; index = length statics }) taken) (rest_unbroken place further sorted)
+      taken s.name (static_kept s.line (scope_of statics) names Void s (first_unbroken place further well_typed)),
+      all_fit items (s.name ∷ names) (with_static s statics) (one_static_more s statics known) (taken_first names statics s.name (record { ty = static_type s.type; index = length statics }) taken) (rest_unbroken place further well_typed)
           (record { numbers = h.numbers; formed = h.formed; low = h.low; regions = h.regions }),
     )
-all_fit (FunctionItem f ∷ items) names statics known taken sorted h =
+all_fit (FunctionItem f ∷ items) names statics known taken well_typed h =
     let further = item_places (f.name ∷ names) (scope_of statics) items in
     let all = functions_in items in
-    let whole = front_unbroken (function_places names (scope_of statics) f) further sorted in
+    let whole = front_unbroken (function_places names (scope_of statics) f) further well_typed in
     let kept = body_kept statics f known names whole in
     let fits = function_fits statics f known kept
     (and_left _ (list_all (λ f. list_all (λ s. list_all numbers_in_range (own_expressions s)) (statements_of f.body)) all) h.numbers)
@@ -168,7 +168,7 @@ all_fit (FunctionItem f ∷ items) names statics known taken sorted h =
       fits,
       function_returns f h.regions.0,
       function_counted statics f known fits kept (head_once names (scope_of statics) f whole),
-      all_fit items (f.name ∷ names) statics known (λ x none. taken x (or_right (bytes_eq x f.name) (has_name names x) none)) (back_unbroken (function_places names (scope_of statics) f) further sorted) (record {
+      all_fit items (f.name ∷ names) statics known (λ x none. taken x (or_right (bytes_eq x f.name) (has_name names x) none)) (back_unbroken (function_places names (scope_of statics) f) further well_typed) (record {
         numbers = and_right (list_all (λ s. list_all numbers_in_range (own_expressions s)) (statements_of f.body)) _ h.numbers;
         formed = and_right (block_well_formed f.body) _ h.formed;
         low = and_right (nat_le (block_height f.body) 32) _ h.low;
@@ -176,5 +176,5 @@ all_fit (FunctionItem f ∷ items) names statics known taken sorted h =
       }),
     )
 
-pub accepted_fits : (unit : SourceUnit) → IsTree unit → IsSorted unit → HasRegions unit → AllFit [] unit.items
-accepted_fits unit tree sorted regions = all_fit unit.items [] [] no_statics (λ x none. refl) sorted (record { numbers = tree.numbers; formed = tree.forms; low = tree.low; regions = regions })
+pub accepted_fits : (unit : SourceUnit) → IsTree unit → IsWellTyped unit → HasRegions unit → AllFit [] unit.items
+accepted_fits unit tree well_typed regions = all_fit unit.items [] [] no_statics (λ x none. refl) well_typed (record { numbers = tree.numbers; formed = tree.forms; low = tree.low; regions = regions })

@@ -10,9 +10,9 @@ use Rattle.base.specs.Bytes.{Identifier, lookup}
 use Rattle.base.specs.Element.{ElementType}
 use Rattle.syntax.specs.Tree as tree
 use Rattle.syntax.specs.Tree.{Expr, Block, BitOr}
-use Rattle.type_rules.specs.Sorts.{Sort, Jint, Ref, Buffer, Array}
-use Rattle.type_rules.specs.Sorts as sort
-use Rattle.type_rules.specs.SortGroups.{IsIndexSort}
+use Rattle.type_rules.specs.ExprTypes.{ExprType, Jint, Ref, Buffer, Array}
+use Rattle.type_rules.specs.ExprTypes as ty
+use Rattle.type_rules.specs.TypeGroups.{IsIndexType}
 use Rattle.code.specs.declared.instr.ReferenceOperand.TheVariants.{Null, Local}
 use Rattle.code.specs.declared.instr.Instr.TheVariants as instr
 use Rattle.code.specs.declared.instr.Plain.TheVariants as plain
@@ -28,9 +28,9 @@ use Rattle.semantics.specs.Term.{Term, Done, Read, term_of}
 use Rattle.semantics.specs.Value.{Value, Word, Int, Flag, Truth, OutOfRange, Gives, Traps}
 use Rattle.semantics.specs.Variable as variable
 use Rattle.code_meaning.specs.Layout.{Slot, Known, Layout}
-use Rattle.code_meaning.specs.Coding.{element_of, write_code, term_code, ways_code, turn_code, block_code}
-use Rattle.code_meaning.specs.Slots.{word_of, ValueHasSort, Visible, Slots, is_no_buffer, ShowsBuffer, Shows, elements_in, SeesBuffers, with_element}
-use Rattle.code_meaning.specs.Fits.{HasElements, TermHasSort}
+use Rattle.code_meaning.specs.Coding.{element_of, write_code, term_code, paths_code, turn_code, block_code}
+use Rattle.code_meaning.specs.Slots.{word_of, ValueHasType, Visible, Slots, is_no_buffer, ShowsBuffer, Shows, elements_in, SeesBuffers, with_element}
+use Rattle.code_meaning.specs.Fits.{HasElements, TermHasType}
 use Rattle.code_meaning.specs.Stands.{held, HasAt, AreAmong, IsSlotOf, NumberStands, BlockStands, LoopStands, TasksStand, StandsFor, ReferenceReturned, task_returns}
 use Rattle.code_meaning.specs.Does.{Works, WritesBuffer, Stops, DoesEffect}
 use Rattle.code_meaning.proofs.SlotLaws.{fewer_shown, shows_buffer_again, shows_element_set}
@@ -38,20 +38,20 @@ use Rattle.lower.proofs.CodePlaces.{has_front, has_back}
 use Rattle.lower.proofs.TermSteps.{negative_past, none_negative, seen_as, slot_has, shows_number, untouched_held, begun_left, left_first}
 use Rattle.lower.proofs.Bodies.{number_begins, begins}
 use Rattle.code_meaning.proofs.ElementWords.{element_words, convert_fits}
-use Rattle.lower.proofs.WaysReturn.{then_returns, else_returns, any_after}
+use Rattle.lower.proofs.PathsReturn.{then_returns, else_returns, any_after}
 use Rattle.lower.proofs.Steps.{step_inside, put_step, set_step, null_step, made_step}
 use Rattle.lower.proofs.CallSteps.{call_step}
 
 -- The place, with these names known, these operands and these slots, which show what can be seen.
 module _ (code : Listing) (known : Known) (place : ℕ) (stack : List ℕ) (slots : Slots) (visible : Visible) (shows : Shows code known visible slots) (sees : SeesBuffers visible slots.buffers) where
-  -- ---- the end of a way
+  -- ---- the end of a path
 
   end_step : (rest : List Task) → StandsFor code known place stack (EndIf ∷ rest) → DoesEffect code known place stack slots visible rest (effect_of visible.sight EndIf)
   end_step rest h =
       let d = h.stand in
       record {
         here = instr.Jump d.skipped;
-        way = plain.Skip d.skipped;
+        path = plain.Skip d.skipped;
         after = [];
         at = d.at;
         works = rw d.empty refl;
@@ -65,7 +65,7 @@ module _ (code : Listing) (known : Known) (place : ℕ) (stack : List ℕ) (slot
       let d = h.stand in
       record {
         here = instr.JumpBack d.back;
-        way = plain.Back d.back;
+        path = plain.Back d.back;
         after = [];
         at = d.at;
         works = rw d.empty refl;
@@ -77,9 +77,9 @@ module _ (code : Listing) (known : Known) (place : ℕ) (stack : List ℕ) (slot
   -- ---- `if`
 
   -- the block that is entered, and the jump at its end
-  way_taken : (b : Block) (l : Layout) (p skipped : ℕ) (rest : List Task) → l.known ≡ known → BlockStands code l p b → slice_get code.instrs (p + length (block_code l b)) ≡ Some (instr.Jump skipped) → TasksStand code known (p + length (block_code l b) + 1 + skipped) [] rest
+  path_taken : (b : Block) (l : Layout) (p skipped : ℕ) (rest : List Task) → l.known ≡ known → BlockStands code l p b → slice_get code.instrs (p + length (block_code l b)) ≡ Some (instr.Jump skipped) → TasksStand code known (p + length (block_code l b) + 1 + skipped) [] rest
       → TasksStand code known p [] (tasks_of b ++ EndIf ∷ rest)
-  way_taken b l p skipped rest same stands at further =
+  path_taken b l p skipped rest same stands at further =
       subst (λ names. TasksStand code names p [] (tasks_of b ++ EndIf ∷ rest)) same
       (begins code b l p (EndIf ∷ rest) stands
       (λ names among. record { empty = refl; skipped = skipped; at = at; further = (known, subst (λ k. AreAmong k names) same among, further) }))
@@ -98,14 +98,14 @@ module _ (code : Listing) (known : Known) (place : ℕ) (stack : List ℕ) (slot
       let further = subst (λ p. TasksStand code known p [] rest) end d.further in
       record {
         here = instr.JumpIfFalse (length A + 1);
-        way = plain.Next;
+        path = plain.Next;
         after = [];
         at = d.at.0;
         works = rw d.test.operands refl;
         names = known;
         shows = shows;
         stands = rw (append_assoc (tasks_of then') (EndIf ∷ []) rest) (record {
-          stand = way_taken then' l (place + 1) (length B) rest refl own at further;
+          stand = path_taken then' l (place + 1) (length B) rest refl own at further;
           returns = then_returns then' else' rest (EndIf ∷ rest) (λ e. e) h.returns;
         });
       }
@@ -126,14 +126,14 @@ module _ (code : Listing) (known : Known) (place : ℕ) (stack : List ℕ) (slot
       let further = subst (λ p. TasksStand code known p [] rest) end d.further in
       record {
         here = instr.JumpIfFalse (length A + 1);
-        way = plain.Skip (length A + 1);
+        path = plain.Skip (length A + 1);
         after = [];
         at = d.at.0;
         works = rw d.test.operands refl;
         names = known;
         shows = shows;
         stands = rw (append_assoc (tasks_of else') (EndIf ∷ []) rest) (record {
-          stand = way_taken else' l (place + 1 + (length A + 1)) 0 rest refl own at further;
+          stand = path_taken else' l (place + 1 + (length A + 1)) 0 rest refl own at further;
           returns = else_returns then' else' rest (EndIf ∷ rest) (λ e. e) h.returns;
         });
       }
@@ -141,20 +141,20 @@ module _ (code : Listing) (known : Known) (place : ℕ) (stack : List ℕ) (slot
   branch_step : (line : ℕ) (t : Term) (then' else' : Block) (rest : List Task) → StandsFor code known place stack (Branch line t then' else' ∷ rest) → DoesEffect code known place stack slots visible rest (effect_of visible.sight (Branch line t then' else'))
   branch_step line (Done (Truth true)) then' else' rest h = branch_true line then' else' rest h
   branch_step line (Done (Truth false)) then' else' rest h = branch_false line then' else' rest h
-  branch_step line (Done (Word n)) then' else' rest h = absurd (let e : sort.Truth ≡ sort.Word = h.stand.test.sort.1 in cc)
-  branch_step line (Done (Int z)) then' else' rest h = absurd (let e : sort.Truth ≡ Jint = h.stand.test.sort.1 in cc)
-  branch_step line (Done (Flag b)) then' else' rest h = absurd (let e : sort.Truth ≡ sort.Flag = h.stand.test.sort in cc)
+  branch_step line (Done (Word n)) then' else' rest h = absurd (let e : ty.Truth ≡ ty.Word = h.stand.test.ty.1 in cc)
+  branch_step line (Done (Int z)) then' else' rest h = absurd (let e : ty.Truth ≡ Jint = h.stand.test.ty.1 in cc)
+  branch_step line (Done (Flag b)) then' else' rest h = absurd (let e : ty.Truth ≡ ty.Flag = h.stand.test.ty in cc)
   branch_step line t then' else' rest h =
       let d = h.stand in
-      step_inside code known place stack slots visible shows sees line t sort.Truth [] (ways_code d.then_code (d.else_code ++ instr.Jump 0 ∷ [])) (λ u. Branch line u then' else') rest tt d.test.sort d.test.begun (d.test.operands ∙ sym (append-nil (held t))) d.at (λ u. h.returns)
-      (λ p u sorted begun at size.
+      step_inside code known place stack slots visible shows sees line t ty.Truth [] (paths_code d.then_code (d.else_code ++ instr.Jump 0 ∷ [])) (λ u. Branch line u then' else') rest tt d.test.ty d.test.begun (d.test.operands ∙ sym (append-nil (held t))) d.at (λ u. h.returns)
+      (λ p u well_typed begun at size.
       let first : place + length (term_code known line t) + 1 ≡ p + length (term_code known line u) + 1 = omega (arith, size) in
       let second : place + length (term_code known line t) + 1 + length d.then_code + 1 ≡ p + length (term_code known line u) + 1 + length d.then_code + 1 = omega (arith, size) in
       let end : place + length (term_code known line t) + 1 + length d.then_code + 1 + length d.else_code + 1 ≡ p + length (term_code known line u) + 1 + length d.then_code + 1 + length d.else_code + 1 = omega (arith, size) in
       record {
         slots = d.slots;
         slots_else = d.slots_else;
-        test = record { sort = sorted; begun = begun; operands = append-nil (held u) };
+        test = record { ty = well_typed; begun = begun; operands = append-nil (held u) };
         then_code = d.then_code;
         then_is = d.then_is;
         else_code = d.else_code;
@@ -174,7 +174,7 @@ module _ (code : Listing) (known : Known) (place : ℕ) (stack : List ℕ) (slot
       subst (λ n. TasksStand code known n [] (Loop line test (term_of test) body ∷ rest)) (sym same) (record {
         slots = d.slots;
         start = d.start;
-        under_way = number_begins known (term_of test) sort.Truth d.fits;
+        under_way = number_begins known (term_of test) ty.Truth d.fits;
         fits = d.fits;
         test_code = d.test_code;
         test_is = d.test_is;
@@ -203,7 +203,7 @@ module _ (code : Listing) (known : Known) (place : ℕ) (stack : List ℕ) (slot
       let inside : length d.test_code + 1 + length B ≤ place + 1 + length (block_code l body) = omega (arith, d.meets, ap length d.body_is) in
       record {
         here = instr.JumpIfFalse (length B + 1);
-        way = plain.Next;
+        path = plain.Next;
         after = [];
         at = subst (λ p. slice_get code.instrs p ≡ Some (instr.JumpIfFalse (length B + 1))) here turn.0;
         works = rw d.under_way.operands refl;
@@ -231,7 +231,7 @@ module _ (code : Listing) (known : Known) (place : ℕ) (stack : List ℕ) (slot
       let end : d.start + length d.test_code + 1 + length d.body_code + 1 ≡ place + 1 + (length d.body_code + 1) = omega (arith, d.meets) in
       record {
         here = instr.JumpIfFalse (length d.body_code + 1);
-        way = plain.Skip (length d.body_code + 1);
+        path = plain.Skip (length d.body_code + 1);
         after = [];
         at = subst (λ p. slice_get code.instrs p ≡ Some (instr.JumpIfFalse (length d.body_code + 1))) here turn.0;
         works = rw d.under_way.operands refl;
@@ -243,17 +243,17 @@ module _ (code : Listing) (known : Known) (place : ℕ) (stack : List ℕ) (slot
   loop_step : (line : ℕ) (test : Expr) (t : Term) (body : Block) (rest : List Task) → StandsFor code known place stack (Loop line test t body ∷ rest) → DoesEffect code known place stack slots visible rest (effect_of visible.sight (Loop line test t body))
   loop_step line test (Done (Truth true)) body rest h = loop_true line test body rest h
   loop_step line test (Done (Truth false)) body rest h = loop_false line test body rest h
-  loop_step line test (Done (Word n)) body rest h = absurd (let e : sort.Truth ≡ sort.Word = h.stand.under_way.sort.1 in cc)
-  loop_step line test (Done (Int z)) body rest h = absurd (let e : sort.Truth ≡ Jint = h.stand.under_way.sort.1 in cc)
-  loop_step line test (Done (Flag b)) body rest h = absurd (let e : sort.Truth ≡ sort.Flag = h.stand.under_way.sort in cc)
+  loop_step line test (Done (Word n)) body rest h = absurd (let e : ty.Truth ≡ ty.Word = h.stand.under_way.ty.1 in cc)
+  loop_step line test (Done (Int z)) body rest h = absurd (let e : ty.Truth ≡ Jint = h.stand.under_way.ty.1 in cc)
+  loop_step line test (Done (Flag b)) body rest h = absurd (let e : ty.Truth ≡ ty.Flag = h.stand.under_way.ty in cc)
   loop_step line test t body rest h =
       let d = h.stand in
-      step_inside code known place stack slots visible shows sees line t sort.Truth [] [] (λ u. Loop line test u body) rest tt d.under_way.sort d.under_way.begun (d.under_way.operands ∙ sym (append-nil (held t)))
+      step_inside code known place stack slots visible shows sees line t ty.Truth [] [] (λ u. Loop line test u body) rest tt d.under_way.ty d.under_way.begun (d.under_way.operands ∙ sym (append-nil (held t)))
       (subst (HasAt code.instrs place) (sym (append-nil (term_code known line t))) d.here) (λ u. h.returns)
-      (λ p u sorted begun at size. record {
+      (λ p u well_typed begun at size. record {
         slots = d.slots;
         start = d.start;
-        under_way = record { sort = sorted; begun = begun; operands = append-nil (held u) };
+        under_way = record { ty = well_typed; begun = begun; operands = append-nil (held u) };
         fits = d.fits;
         test_code = d.test_code;
         test_is = d.test_is;
@@ -271,21 +271,21 @@ module _ (code : Listing) (known : Known) (place : ℕ) (stack : List ℕ) (slot
   return_step : (line : ℕ) (t : Term) (rest : List Task) → NumberStands code known place stack line Jint t (instr.ReturnJint ∷ []) → IsTrue (list_any task_returns (ReturnValue line t ∷ rest)) → DoesEffect code known place stack slots visible rest (with_value visible.sight line (λ v. Returns (ScalarResult v)) (ReturnValue line) t)
   return_step line (Done v) rest h returns = record { here = instr.ReturnJint; at = h.1.0; returns = tt }
   return_step line t rest h returns =
-      step_inside code known place stack slots visible shows sees line t Jint [] (instr.ReturnJint ∷ []) (ReturnValue line) rest tt h.0.sort h.0.begun (h.0.operands ∙ sym (append-nil (held t))) h.1 (λ u. refl)
-      (λ p u sorted begun at size. inl (record { sort = sorted; begun = begun; operands = append-nil (held u) }, at))
+      step_inside code known place stack slots visible shows sees line t Jint [] (instr.ReturnJint ∷ []) (ReturnValue line) rest tt h.0.ty h.0.begun (h.0.operands ∙ sym (append-nil (held t))) h.1 (λ u. refl)
+      (λ p u well_typed begun at size. inl (record { ty = well_typed; begun = begun; operands = append-nil (held u) }, at))
 
   -- a `jint` is worked out before it is returned
-  returned_number : (line : ℕ) (t : Term) → TermHasSort known t Jint → return_effect visible.sight line t ≡ with_value visible.sight line (λ v. Returns (ScalarResult v)) (ReturnValue line) t
+  returned_number : (line : ℕ) (t : Term) → TermHasType known t Jint → return_effect visible.sight line t ≡ with_value visible.sight line (λ v. Returns (ScalarResult v)) (ReturnValue line) t
   returned_number line (term.Named tree.Null) h = absurd h
-  returned_number line (Read x) h = let shown = shows_number known line slots visible x (record { sort = Jint; index = h.0 }) Jint tt (shows.each x (record { sort = Jint; index = h.0 }) h.1) in rw shown.is refl
+  returned_number line (Read x) h = let shown = shows_number known line slots visible x (record { ty = Jint; index = h.0 }) Jint tt (shows.each x (record { ty = Jint; index = h.0 }) h.1) in rw shown.is refl
   returned_number line t h = refl
 
   returned_step : (line : ℕ) (t : Term) (rest : List Task) → NumberStands code known place stack line Jint t (instr.ReturnJint ∷ []) ⊎ ReferenceReturned code known place t → IsTrue (list_any task_returns (ReturnValue line t ∷ rest))
       → DoesEffect code known place stack slots visible rest (return_effect visible.sight line t)
-  returned_step line t rest (inl h) returns = subst (DoesEffect code known place stack slots visible rest) (sym (returned_number line t h.0.sort)) (return_step line t rest h returns)
+  returned_step line t rest (inl h) returns = subst (DoesEffect code known place stack slots visible rest) (sym (returned_number line t h.0.ty)) (return_step line t rest h returns)
   returned_step line t rest (inr (inl (is, at))) returns = subst (λ u. DoesEffect code known place stack slots visible rest (return_effect visible.sight line u)) (sym is) (record { here = instr.ReturnReference Null; at = at; returns = tt })
   returned_step line t rest (inr (inr (x, i, is, found, at))) returns =
-      let shown = shows.each x (record { sort = Ref; index = i }) found in
+      let shown = shows.each x (record { ty = Ref; index = i }) found in
       subst (λ u. DoesEffect code known place stack slots visible rest (return_effect visible.sight line u)) (sym is) (rw shown.no_number (record { here = instr.ReturnReference (Local i); at = at; returns = tt }))
 
   -- ---- elements
@@ -294,17 +294,17 @@ module _ (code : Listing) (known : Known) (place : ℕ) (stack : List ℕ) (slot
   record IsReady (line : ℕ) (x : Identifier) (v : Value) (z : ℤ) (rest : List Task) (s : Slot) : Type 0 where
     there : lookup x known ≡ Some s
     own : IsSlotOf code known x s
-    index : (r : Sort) × IsIndexSort r × ValueHasSort v r
+    index : (r : ExprType) × IsIndexType r × ValueHasType v r
     fits : FitsSigned w32 z
     operands : stack ≡ cast_unsigned w32 z ∷ word_of v ∷ []
-    at : HasAt code.instrs place (write_code line s.sort s.index)
+    at : HasAt code.instrs place (write_code line s.ty s.index)
     stands : StandsFor code known (place + 1) [] rest
 
   -- of an array, at an index that isn't negative
-  array_written : (line : ℕ) (x : Identifier) (v : Value) (z : ℤ) (rest : List Task) (t : ElementType) (size start k : ℕ) → IsReady line x v z rest (record { sort = Array t size; index = start }) → word_of v ≡ k → term.index_of v ≡ Gives k → (b : Bool) → nat_lt k size ≡ b
+  array_written : (line : ℕ) (x : Identifier) (v : Value) (z : ℤ) (rest : List Task) (t : ElementType) (size start k : ℕ) → IsReady line x v z rest (record { ty = Array t size; index = start }) → word_of v ≡ k → term.index_of v ≡ Gives k → (b : Bool) → nat_lt k size ≡ b
       → DoesEffect code known place stack slots visible rest (element_effect visible.sight line x v (Int z))
   array_written line x v z rest t size start k d word index true below =
-      let shown = shows.each x (record { sort = Array t size; index = start }) d.there in
+      let shown = shows.each x (record { ty = Array t size; index = start }) d.there in
       let small : k < size = ltb-true k size below in
       let element = shown.elements k small in
       let inside : start + k < length slots.numbers = omega (arith, d.own.within.2, shows.numbers, small) in
@@ -322,7 +322,7 @@ module _ (code : Listing) (known : Known) (place : ℕ) (stack : List ℕ) (slot
         },
       ))
   array_written line x v z rest t size start k d word index false below =
-      let shown = shows.each x (record { sort = Array t size; index = start }) d.there in
+      let shown = shows.each x (record { ty = Array t size; index = start }) d.there in
       rw (index, shown.past k (ltb-false k size below)) (record {
         here = instr.StoreElement (element_of t) (record { start = start; len = size }) line;
         trap = trap.OutOfRange;
@@ -331,12 +331,12 @@ module _ (code : Listing) (known : Known) (place : ℕ) (stack : List ℕ) (slot
         works = rw (d.operands, word, below) refl;
       })
 
-  write_array : (line : ℕ) (x : Identifier) (v : Value) (z : ℤ) (rest : List Task) (t : ElementType) (size start : ℕ) → IsReady line x v z rest (record { sort = Array t size; index = start })
+  write_array : (line : ℕ) (x : Identifier) (v : Value) (z : ℤ) (rest : List Task) (t : ElementType) (size start : ℕ) → IsReady line x v z rest (record { ty = Array t size; index = start })
       → DoesEffect code known place stack slots visible rest (element_effect visible.sight line x v (Int z))
   write_array line x (Word n) z rest t size start d = array_written line x (Word n) z rest t size start n d refl refl (nat_lt n size) refl
   write_array line x (Int (pos n)) z rest t size start d = array_written line x (Int (pos n)) z rest t size start n d refl refl (nat_lt n size) refl
   write_array line x (Int (negsuc n)) z rest t size start d =
-      let shown = shows.each x (record { sort = Array t size; index = start }) d.there in
+      let shown = shows.each x (record { ty = Array t size; index = start }) d.there in
       record {
         here = instr.StoreElement (element_of t) (record { start = start; len = size }) line;
         trap = trap.OutOfRange;
@@ -344,11 +344,11 @@ module _ (code : Listing) (known : Known) (place : ℕ) (stack : List ℕ) (slot
         at = d.at.0;
         works = rw (d.operands, negative_past n size d.index.2.0 shown.few) refl;
       }
-  write_array line x (Flag b) z rest t size start d = absurd (subst IsIndexSort d.index.2 d.index.1)
-  write_array line x (Truth b) z rest t size start d = absurd (subst IsIndexSort d.index.2 d.index.1)
+  write_array line x (Flag b) z rest t size start d = absurd (subst IsIndexType d.index.2 d.index.1)
+  write_array line x (Truth b) z rest t size start d = absurd (subst IsIndexType d.index.2 d.index.1)
 
   -- of a buffer that has none there
-  buffer_stops : (line : ℕ) (x : Identifier) (v : Value) (z : ℤ) (rest : List Task) (t : ElementType) (writable : Bool) (i : ℕ) → IsReady line x v z rest (record { sort = Buffer t writable; index = i }) → (h : ShowsBuffer visible x slots.buffers t i)
+  buffer_stops : (line : ℕ) (x : Identifier) (v : Value) (z : ℤ) (rest : List Task) (t : ElementType) (writable : Bool) (i : ℕ) → IsReady line x v z rest (record { ty = Buffer t writable; index = i }) → (h : ShowsBuffer visible x slots.buffers t i)
       → slice_get (elements_in h.buffer visible.numbers) (word_of v) ≡ None → Stops code known place stack slots visible OutOfRange line
   buffer_stops line x v z rest t writable i d h none = record {
     here = instr.StoreBuffer (element_of t) i line;
@@ -360,7 +360,7 @@ module _ (code : Listing) (known : Known) (place : ℕ) (stack : List ℕ) (slot
   }
 
   -- of a buffer that has one
-  buffer_writes : (line : ℕ) (x : Identifier) (v : Value) (z old : ℤ) (rest : List Task) (t : ElementType) (writable : Bool) (i k : ℕ) → IsReady line x v z rest (record { sort = Buffer t writable; index = i }) → (h : ShowsBuffer visible x slots.buffers t i) → word_of v ≡ k
+  buffer_writes : (line : ℕ) (x : Identifier) (v : Value) (z old : ℤ) (rest : List Task) (t : ElementType) (writable : Bool) (i k : ℕ) → IsReady line x v z rest (record { ty = Buffer t writable; index = i }) → (h : ShowsBuffer visible x slots.buffers t i) → word_of v ≡ k
       → slice_get (elements_in h.buffer visible.numbers) k ≡ Some old → WritesBuffer code known place stack slots visible x k z rest
   buffer_writes line x v z old rest t writable i k d h word found = record {
     type = t;
@@ -378,7 +378,7 @@ module _ (code : Listing) (known : Known) (place : ℕ) (stack : List ℕ) (slot
   }
 
   -- at an index that isn't negative
-  buffer_written : (line : ℕ) (x : Identifier) (v : Value) (z : ℤ) (rest : List Task) (t : ElementType) (writable : Bool) (i k : ℕ) → IsReady line x v z rest (record { sort = Buffer t writable; index = i }) → (h : ShowsBuffer visible x slots.buffers t i) → word_of v ≡ k → term.index_of v ≡ Gives k
+  buffer_written : (line : ℕ) (x : Identifier) (v : Value) (z : ℤ) (rest : List Task) (t : ElementType) (writable : Bool) (i k : ℕ) → IsReady line x v z rest (record { ty = Buffer t writable; index = i }) → (h : ShowsBuffer visible x slots.buffers t i) → word_of v ≡ k → term.index_of v ≡ Gives k
       → (null : Bool) → is_no_buffer h.buffer ≡ null → (found : Option ℤ) → slice_get (elements_in h.buffer visible.numbers) k ≡ found → DoesEffect code known place stack slots visible rest (element_effect visible.sight line x v (Int z))
   buffer_written line x v z rest t writable i k d h word index true null found is = rw (index, seen_as known line slots visible sees x t i k h true null) tt
   buffer_written line x v z rest t writable i k d h word index false null (Some old) is =
@@ -388,24 +388,24 @@ module _ (code : Listing) (known : Known) (place : ℕ) (stack : List ℕ) (slot
       let seen : visible.sight.element x k ≡ Traps OutOfRange = seen_as known line slots visible sees x t i k h false null ∙ ap in_range is in
       rw (index, seen) (buffer_stops line x v z rest t writable i d h (ap (slice_get (elements_in h.buffer visible.numbers)) word ∙ is))
 
-  write_buffer : (line : ℕ) (x : Identifier) (v : Value) (z : ℤ) (rest : List Task) (t : ElementType) (writable : Bool) (i : ℕ) → IsReady line x v z rest (record { sort = Buffer t writable; index = i }) → ShowsBuffer visible x slots.buffers t i
+  write_buffer : (line : ℕ) (x : Identifier) (v : Value) (z : ℤ) (rest : List Task) (t : ElementType) (writable : Bool) (i : ℕ) → IsReady line x v z rest (record { ty = Buffer t writable; index = i }) → ShowsBuffer visible x slots.buffers t i
       → DoesEffect code known place stack slots visible rest (element_effect visible.sight line x v (Int z))
   write_buffer line x (Word n) z rest t writable i d h = buffer_written line x (Word n) z rest t writable i n d h refl refl (is_no_buffer h.buffer) refl (slice_get (elements_in h.buffer visible.numbers) n) refl
   write_buffer line x (Int (pos n)) z rest t writable i d h = buffer_written line x (Int (pos n)) z rest t writable i n d h refl refl (is_no_buffer h.buffer) refl (slice_get (elements_in h.buffer visible.numbers) n) refl
   write_buffer line x (Int (negsuc n)) z rest t writable i d h = buffer_stops line x (Int (negsuc n)) z rest t writable i d h (none_negative known line slots visible sees i h.buffer n h.there d.index.2.0)
-  write_buffer line x (Flag b) z rest t writable i d h = absurd (subst IsIndexSort d.index.2 d.index.1)
-  write_buffer line x (Truth b) z rest t writable i d h = absurd (subst IsIndexSort d.index.2 d.index.1)
+  write_buffer line x (Flag b) z rest t writable i d h = absurd (subst IsIndexType d.index.2 d.index.1)
+  write_buffer line x (Truth b) z rest t writable i d h = absurd (subst IsIndexType d.index.2 d.index.1)
 
-  write_step : (line : ℕ) (x : Identifier) (v : Value) (z : ℤ) (rest : List Task) (s : Sort) (i : ℕ) → HasElements s → IsReady line x v z rest (record { sort = s; index = i }) → DoesEffect code known place stack slots visible rest (element_effect visible.sight line x v (Int z))
+  write_step : (line : ℕ) (x : Identifier) (v : Value) (z : ℤ) (rest : List Task) (s : ExprType) (i : ℕ) → HasElements s → IsReady line x v z rest (record { ty = s; index = i }) → DoesEffect code known place stack slots visible rest (element_effect visible.sight line x v (Int z))
   write_step line x v z rest (Array t size) i has d = write_array line x v z rest t size i d
-  write_step line x v z rest (Buffer t writable) i has d = write_buffer line x v z rest t writable i d (shows.each x (record { sort = Buffer t writable; index = i }) d.there)
+  write_step line x v z rest (Buffer t writable) i has d = write_buffer line x v z rest t writable i d (shows.each x (record { ty = Buffer t writable; index = i }) d.there)
   write_step line x v z rest s i has d = absurd has
 
   element_step : (line : ℕ) (x : Identifier) (i e : Term) (rest : List Task) → StandsFor code known place stack (SetElement line x i e ∷ rest) → DoesEffect code known place stack slots visible rest (effect_of visible.sight (SetElement line x i e))
   element_step line x (Done v) (Done (Int z)) rest h =
       let d = h.stand in
       let none : place + (0 + 0) + 1 ≡ place + 1 = omega arith in
-      write_step line x v z rest d.slot.sort d.slot.index d.elements (record {
+      write_step line x v z rest d.slot.ty d.slot.index d.elements (record {
         there = d.there;
         own = d.own;
         index = d.index;
@@ -414,13 +414,13 @@ module _ (code : Listing) (known : Known) (place : ℕ) (stack : List ℕ) (slot
         at = d.at;
         stands = record { stand = subst (λ p. TasksStand code known p [] rest) none d.further; returns = h.returns };
       })
-  element_step line x (Done v) (Done (Word n)) rest h = absurd (let c : Jint ≡ sort.Word = h.stand.value.1 in cc)
-  element_step line x (Done v) (Done (Flag b)) rest h = absurd (let c : Jint ≡ sort.Flag = h.stand.value in cc)
-  element_step line x (Done v) (Done (Truth b)) rest h = absurd (let c : Jint ≡ sort.Truth = h.stand.value in cc)
+  element_step line x (Done v) (Done (Word n)) rest h = absurd (let c : Jint ≡ ty.Word = h.stand.value.1 in cc)
+  element_step line x (Done v) (Done (Flag b)) rest h = absurd (let c : Jint ≡ ty.Flag = h.stand.value in cc)
+  element_step line x (Done v) (Done (Truth b)) rest h = absurd (let c : Jint ≡ ty.Truth = h.stand.value in cc)
   element_step line x (Done v) e rest h =
       let d = h.stand in
-      step_inside code known place stack slots visible shows sees line e Jint (word_of v ∷ []) (write_code line d.slot.sort d.slot.index) (SetElement line x (Done v)) rest tt d.value d.begun d.operands d.at (λ u. h.returns)
-      (λ p u sorted begun at size.
+      step_inside code known place stack slots visible shows sees line e Jint (word_of v ∷ []) (write_code line d.slot.ty d.slot.index) (SetElement line x (Done v)) rest tt d.value d.begun d.operands d.at (λ u. h.returns)
+      (λ p u well_typed begun at size.
       let end : place + (0 + length (term_code known line e)) + 1 ≡ p + (0 + length (term_code known line u)) + 1 = omega (arith, size) in
       record {
         slot = d.slot;
@@ -428,7 +428,7 @@ module _ (code : Listing) (known : Known) (place : ℕ) (stack : List ℕ) (slot
         elements = d.elements;
         own = d.own;
         index = d.index;
-        value = sorted;
+        value = well_typed;
         begun = begun;
         operands = refl;
         at = at;
@@ -437,16 +437,16 @@ module _ (code : Listing) (known : Known) (place : ℕ) (stack : List ℕ) (slot
   element_step line x i e rest h =
       let d = h.stand in
       let parts = left_first BitOr i e tt d.begun in
-      step_inside code known place stack slots visible shows sees line i d.index.0 [] (term_code known line e ++ write_code line d.slot.sort d.slot.index) (λ u. SetElement line x u e) rest tt d.index.2 parts.0
+      step_inside code known place stack slots visible shows sees line i d.index.0 [] (term_code known line e ++ write_code line d.slot.ty d.slot.index) (λ u. SetElement line x u e) rest tt d.index.2 parts.0
       (d.operands ∙ ap (λ q. q ++ held i) (untouched_held e parts.1) ∙ sym (append-nil (held i))) d.at (λ u. h.returns)
-      (λ p u sorted begun at size.
+      (λ p u well_typed begun at size.
       let end : place + (length (term_code known line i) + length (term_code known line e)) + 1 ≡ p + (length (term_code known line u) + length (term_code known line e)) + 1 = omega (arith, size) in
       record {
         slot = d.slot;
         there = d.there;
         elements = d.elements;
         own = d.own;
-        index = (d.index.0, d.index.1, sorted);
+        index = (d.index.0, d.index.1, well_typed);
         value = d.value;
         begun = begun_left BitOr u e begun parts.1;
         operands = append-nil (held u) ∙ sym (ap (λ q. q ++ held u) (untouched_held e parts.1));

@@ -12,10 +12,10 @@ use Rattle.syntax.specs.Tree.{Expr, Argument, RightSide, FromExpr, FromCall, Tes
 use Rattle.jni.specs.Access.{Access, ElementsCopy, ArrayView, CharsCopy, CharsView}
 use Rattle.jni.specs.JniFunction.{function_named, prototype, parameters_for}
 use Rattle.jni.specs.Prototype.{ParameterKind, LocalVariable, StaticVariable, FieldID, MethodID, Passed, IntNumber, TextBytes, ArrayVariable, BufferVariable, Mode, IsCopy, ResultKind, NewLocal, NewGlobal, GivesFlag, GivesInt, GivesField, GivesMethod, GivesBuffer, GivesNothing, AnyReference, WeakVariable, NewWeak}
-use Rattle.type_rules.specs.Sorts.{Sort, Jint, Ref, Global, Weak, FieldId, MethodId, Buffer, Array, is_buffer_for}
-use Rattle.type_rules.specs.Sorts as sort
-use Rattle.type_rules.specs.SortRules.{variable_sort}
-use Rattle.type_rules.specs.SortGroups.{IsNumberSort}
+use Rattle.type_rules.specs.ExprTypes.{ExprType, Jint, Ref, Global, Weak, FieldId, MethodId, Buffer, Array, is_buffer_for}
+use Rattle.type_rules.specs.ExprTypes as ty
+use Rattle.type_rules.specs.TypeRules.{variable_type}
+use Rattle.type_rules.specs.TypeGroups.{IsNumberType}
 use Rattle.code.specs.declared.instr.Target.{Target as Destination}
 use Rattle.code.specs.declared.instr.NullableVariable.{NullableVariable}
 use Rattle.code.specs.declared.instr.NullableVariable.TheVariants as nullable
@@ -28,9 +28,9 @@ use Rattle.semantics.specs.Term as term
 use Rattle.semantics.specs.Term.{Term, Done, Read, Binary, term_of}
 use Rattle.semantics.specs.Task.{Task, SetScalar, Branch, ReturnValue, Target, Declared, Assigned, Tested, Dropped, VariableKind, ScalarKind, ReferenceKind, FieldKind, MethodKind, BufferKind, kind_of, set_task, invocation, call_task, right_side_task, if_task, task_of, tasks_of, operand, passed_operand, PassedName, Given, Operand}
 use Rattle.code_meaning.specs.Layout.{Slot, Known, Layout, new_slot, closed, layout_after, block_layout}
-use Rattle.code_meaning.specs.Coding.{nullable_of, store_of, write_code, of_slot, operand_of, passed_variable, passed_code, passed_rest, address_operand, term_code, expr_code, value_code, right_code, assign_code, returned_code, return_code, ways_code, turn_code, loop_code, if_code, stmt_code, block_code, named_call_code, operand_code, argument_code, arguments_code, argument_text, arguments_texts, result_target}
-use Rattle.code_meaning.specs.Fits.{HasElements, IsUntouched, NumberFits, IndexWithin, IsLaidOut, HaveOwnSlots, HasRoomFor, IsVariable, TakesLocal, TakesGlobal, NameFits, ArrayFits, BufferFits, ArgumentFits, ValueFits, RightFits, TestFits, ReturnFits, StmtFits, BlockFits, CallFits, ReferenceFits, FieldFits, MethodFits, PassedFits, ResultFits, AnyReferenceFits, IsStaticSort}
-use Rattle.code_meaning.specs.Stands.{held, IsBegun, IsUnderWay, HasAt, AreAmong, IsSlotOf, kind_of_sort, GoesTo, ResultStands, ResultGoes, StaticStands, TargetStands, operand_text, operands_texts, target_name, BlockStands, TasksStand, named_operand, OperandStands, AreUntouched, operand_rest, operands_rest}
+use Rattle.code_meaning.specs.Coding.{nullable_of, store_of, write_code, of_slot, operand_of, passed_variable, passed_code, passed_rest, address_operand, term_code, expr_code, value_code, right_code, assign_code, returned_code, return_code, paths_code, turn_code, loop_code, if_code, stmt_code, block_code, named_call_code, operand_code, argument_code, arguments_code, argument_text, arguments_texts, result_target}
+use Rattle.code_meaning.specs.Fits.{HasElements, IsUntouched, NumberFits, IndexWithin, IsLaidOut, HaveOwnSlots, HasRoomFor, IsVariable, TakesLocal, TakesGlobal, NameFits, ArrayFits, BufferFits, ArgumentFits, ValueFits, RightFits, TestFits, ReturnFits, StmtFits, BlockFits, CallFits, ReferenceFits, FieldFits, MethodFits, PassedFits, ResultFits, AnyReferenceFits, IsStaticType}
+use Rattle.code_meaning.specs.Stands.{held, IsBegun, IsUnderWay, HasAt, AreAmong, IsSlotOf, kind_of_type, GoesTo, ResultStands, ResultGoes, StaticStands, TargetStands, operand_text, operands_texts, target_name, BlockStands, TasksStand, named_operand, OperandStands, AreUntouched, operand_rest, operands_rest}
 use Rattle.code_meaning.proofs.SlotLaws.{known_among, known_again, all_among}
 use Rattle.lower.proofs.CallCounts.{parameters_count}
 use Rattle.lower.proofs.CodePlaces.{has_front, has_back}
@@ -39,44 +39,44 @@ use Rattle.lower.proofs.Layouts.{block_grows, room_before, room_at_least, index_
 
 -- ---- expressions
 
-pub number_begins : (known : Known) (t : Term) (s : Sort) → NumberFits known t s → IsUnderWay known s t []
-number_begins known t s h = record { sort = h.sort; begun = untouched_begun t h.untouched; operands = sym (untouched_held t h.untouched) }
+pub number_begins : (known : Known) (t : Term) (s : ExprType) → NumberFits known t s → IsUnderWay known s t []
+number_begins known t s h = record { ty = h.ty; begun = untouched_begun t h.untouched; operands = sym (untouched_held t h.untouched) }
 
 -- a number for a variable is worked out before the variable is set
-set_is : (known : Known) (line : ℕ) (target : Target) (x : Identifier) (e : Expr) (s : Sort) → NumberFits known (term_of e) s → set_task line target x e ≡ SetScalar line x (term_of e)
-set_is known line target x (tree.Named tree.Null) s h = absurd h.sort
+set_is : (known : Known) (line : ℕ) (target : Target) (x : Identifier) (e : Expr) (s : ExprType) → NumberFits known (term_of e) s → set_task line target x e ≡ SetScalar line x (term_of e)
+set_is known line target x (tree.Named tree.Null) s h = absurd h.ty
 set_is known line target x e s h = refl
 
-pub value_is : (known : Known) (line : ℕ) (slot : Slot) (e : Expr) (s : Sort) → NumberFits known (term_of e) s → value_code known line slot e ≡ expr_code known line e ++ instr.Store slot.index ∷ []
-value_is known line slot (tree.Named tree.Null) s h = absurd h.sort
+pub value_is : (known : Known) (line : ℕ) (slot : Slot) (e : Expr) (s : ExprType) → NumberFits known (term_of e) s → value_code known line slot e ≡ expr_code known line e ++ instr.Store slot.index ∷ []
+value_is known line slot (tree.Named tree.Null) s h = absurd h.ty
 value_is known line slot e s h = refl
 
 -- a buffer for an access is a buffer
-pub buffer_sort : (access : Access) (s : Sort) → is_buffer_for access (Some s) ≡ true → (t : ElementType) × (writable : Bool) × (s ≡ Buffer t writable)
-buffer_sort access (Buffer t writable) h = (t, writable, refl)
-buffer_sort (ElementsCopy t) s h = absurd (cc)
-buffer_sort ArrayView s h = absurd (cc)
-buffer_sort CharsCopy s h = absurd (cc)
-buffer_sort CharsView s h = absurd (cc)
+pub buffer_type : (access : Access) (s : ExprType) → is_buffer_for access (Some s) ≡ true → (t : ElementType) × (writable : Bool) × (s ≡ Buffer t writable)
+buffer_type access (Buffer t writable) h = (t, writable, refl)
+buffer_type (ElementsCopy t) s h = absurd (cc)
+buffer_type ArrayView s h = absurd (cc)
+buffer_type CharsCopy s h = absurd (cc)
+buffer_type CharsView s h = absurd (cc)
 
 -- ---- right sides
 
 -- The names known at the place, and what comes after: the rest of the tasks, where these names are known.
 module _ (code : Listing) (known : Known) (line place : ℕ) (tail : List Task) where
-  number_set : (target : Target) (x : Identifier) (slot : Slot) (e : Expr) (names : Known) → IsNumberSort slot.sort → NumberFits known (term_of e) slot.sort → HasAt code.instrs place (value_code known line slot e) → IsSlotOf code known x slot → AreAmong names ((x, slot) ∷ known)
+  number_set : (target : Target) (x : Identifier) (slot : Slot) (e : Expr) (names : Known) → IsNumberType slot.ty → NumberFits known (term_of e) slot.ty → HasAt code.instrs place (value_code known line slot e) → IsSlotOf code known x slot → AreAmong names ((x, slot) ∷ known)
       → TasksStand code names (place + length (value_code known line slot e)) [] tail → TasksStand code known place [] (set_task line target x e ∷ tail)
   number_set target x slot e names n fits at own among further =
-      let is = value_is known line slot e slot.sort fits in
+      let is = value_is known line slot e slot.ty fits in
       let size : place + length (value_code known line slot e) ≡ place + length (expr_code known line e) + 1 = omega (arith, ap length is, length-append (expr_code known line e) (instr.Store slot.index ∷ [])) in
-      subst (λ task. TasksStand code known place [] (task ∷ tail)) (sym (set_is known line target x e slot.sort fits)) (record {
+      subst (λ task. TasksStand code known place [] (task ∷ tail)) (sym (set_is known line target x e slot.ty fits)) (record {
         slot = slot;
         number = n;
-        value = (number_begins known (term_of e) slot.sort fits, subst (HasAt code.instrs place) is at);
+        value = (number_begins known (term_of e) slot.ty fits, subst (HasAt code.instrs place) is at);
         own = own;
         further = (names, among, subst (λ p. TasksStand code names p [] tail) size further);
       })
 
-  null_set : (target : Target) (x : Identifier) (slot : Slot) (e : Expr) (variable : NullableVariable) (names : Known) → e ≡ tree.Named tree.Null → nullable_of slot.sort slot.index ≡ Some variable → target_name target ≡ Some x → GoesTo known slot target → HasAt code.instrs place (value_code known line slot e)
+  null_set : (target : Target) (x : Identifier) (slot : Slot) (e : Expr) (variable : NullableVariable) (names : Known) → e ≡ tree.Named tree.Null → nullable_of slot.ty slot.index ≡ Some variable → target_name target ≡ Some x → GoesTo known slot target → HasAt code.instrs place (value_code known line slot e)
       → IsSlotOf code known x slot → AreAmong names ((x, slot) ∷ known) → TasksStand code names (place + length (value_code known line slot e)) [] tail → TasksStand code known place [] (set_task line target x e ∷ tail)
   null_set target x slot e variable names null same name goes at own among further =
       let is : value_code known line slot e ≡ instr.StoreNull variable ∷ [] = ap (λ (d : Expr). value_code known line slot d) null ∙ ap store_of same in
@@ -95,38 +95,38 @@ module _ (code : Listing) (known : Known) (line place : ℕ) (tail : List Task) 
         further = (names, among, subst (λ p. TasksStand code names p [] tail) size further);
       })
 
-  value_set : (target : Target) (x : Identifier) (kind : Sort) (i : ℕ) (e : Expr) (names : Known) → ValueFits known kind e → target_name target ≡ Some x → GoesTo known (record { sort = kind; index = i }) target → HasAt code.instrs place (value_code known line (record { sort = kind; index = i }) e) → IsSlotOf code known x (record { sort = kind; index = i })
-      → AreAmong names ((x, record { sort = kind; index = i }) ∷ known) → TasksStand code names (place + length (value_code known line (record { sort = kind; index = i }) e)) [] tail → TasksStand code known place [] (set_task line target x e ∷ tail)
-  value_set target x sort.Word i e names fits name goes at own among further = number_set target x (record { sort = sort.Word; index = i }) e names tt fits at own among further
-  value_set target x Jint i e names fits name goes at own among further = number_set target x (record { sort = Jint; index = i }) e names tt fits at own among further
-  value_set target x sort.Flag i e names fits name goes at own among further = number_set target x (record { sort = sort.Flag; index = i }) e names tt fits at own among further
-  value_set target x sort.Truth i e names fits name goes at own among further = absurd fits
-  value_set target x Ref i e names fits name goes at own among further = null_set target x (record { sort = Ref; index = i }) e (nullable.Local i) names fits refl name goes at own among further
-  value_set target x Global i e names fits name goes at own among further = null_set target x (record { sort = Global; index = i }) e (nullable.Static i) names fits refl name goes at own among further
-  value_set target x Weak i e names fits name goes at own among further = null_set target x (record { sort = Weak; index = i }) e (nullable.Static i) names fits refl name goes at own among further
-  value_set target x FieldId i e names fits name goes at own among further = null_set target x (record { sort = FieldId; index = i }) e (nullable.FieldId i) names fits refl name goes at own among further
-  value_set target x MethodId i e names fits name goes at own among further = null_set target x (record { sort = MethodId; index = i }) e (nullable.FieldId i) names fits refl name goes at own among further
-  value_set target x (Buffer t w) i e names fits name goes at own among further = null_set target x (record { sort = Buffer t w; index = i }) e (nullable.Buffer i) names fits refl name goes at own among further
+  value_set : (target : Target) (x : Identifier) (kind : ExprType) (i : ℕ) (e : Expr) (names : Known) → ValueFits known kind e → target_name target ≡ Some x → GoesTo known (record { ty = kind; index = i }) target → HasAt code.instrs place (value_code known line (record { ty = kind; index = i }) e) → IsSlotOf code known x (record { ty = kind; index = i })
+      → AreAmong names ((x, record { ty = kind; index = i }) ∷ known) → TasksStand code names (place + length (value_code known line (record { ty = kind; index = i }) e)) [] tail → TasksStand code known place [] (set_task line target x e ∷ tail)
+  value_set target x ty.Word i e names fits name goes at own among further = number_set target x (record { ty = ty.Word; index = i }) e names tt fits at own among further
+  value_set target x Jint i e names fits name goes at own among further = number_set target x (record { ty = Jint; index = i }) e names tt fits at own among further
+  value_set target x ty.Flag i e names fits name goes at own among further = number_set target x (record { ty = ty.Flag; index = i }) e names tt fits at own among further
+  value_set target x ty.Truth i e names fits name goes at own among further = absurd fits
+  value_set target x Ref i e names fits name goes at own among further = null_set target x (record { ty = Ref; index = i }) e (nullable.Local i) names fits refl name goes at own among further
+  value_set target x Global i e names fits name goes at own among further = null_set target x (record { ty = Global; index = i }) e (nullable.Static i) names fits refl name goes at own among further
+  value_set target x Weak i e names fits name goes at own among further = null_set target x (record { ty = Weak; index = i }) e (nullable.Static i) names fits refl name goes at own among further
+  value_set target x FieldId i e names fits name goes at own among further = null_set target x (record { ty = FieldId; index = i }) e (nullable.FieldId i) names fits refl name goes at own among further
+  value_set target x MethodId i e names fits name goes at own among further = null_set target x (record { ty = MethodId; index = i }) e (nullable.FieldId i) names fits refl name goes at own among further
+  value_set target x (Buffer t w) i e names fits name goes at own among further = null_set target x (record { ty = Buffer t w; index = i }) e (nullable.Buffer i) names fits refl name goes at own among further
   value_set target x (Array t n) i e names fits name goes at own among further = absurd fits
 
   -- an argument is found where the instruction says
-  local_stands : (p : ParameterKind) (x : Identifier) (i : ℕ) → TakesLocal p → lookup x known ≡ Some (record { sort = Ref; index = i }) → OperandStands known (operand_of (lookup x known)) (p, named_operand p x)
+  local_stands : (p : ParameterKind) (x : Identifier) (i : ℕ) → TakesLocal p → lookup x known ≡ Some (record { ty = Ref; index = i }) → OperandStands known (operand_of (lookup x known)) (p, named_operand p x)
   local_stands p x i kind there = subst (λ o. OperandStands known (operand_of o) (p, named_operand p x)) (sym there) (x, kind, refl, there)
 
-  static_stands : (p : ParameterKind) (x : Identifier) (s : Sort) (i : ℕ) → IsStaticSort s → TakesGlobal p → lookup x known ≡ Some (record { sort = s; index = i }) → OperandStands known (operand_of (lookup x known)) (p, named_operand p x)
+  static_stands : (p : ParameterKind) (x : Identifier) (s : ExprType) (i : ℕ) → IsStaticType s → TakesGlobal p → lookup x known ≡ Some (record { ty = s; index = i }) → OperandStands known (operand_of (lookup x known)) (p, named_operand p x)
   static_stands p x Global i is kind there = subst (λ o. OperandStands known (operand_of o) (p, named_operand p x)) (sym there) (x, kind, refl, (Global, tt, there))
   static_stands p x Weak i is kind there = subst (λ o. OperandStands known (operand_of o) (p, named_operand p x)) (sym there) (x, kind, refl, (Weak, tt, there))
   static_stands p x s i is kind there = absurd is
 
-  reference_stands : (p : ParameterKind) (x : Identifier) (s : Slot) → TakesLocal p → TakesGlobal p → lookup x known ≡ Some s → ((s.sort ≡ Ref) ⊎ (s.sort ≡ Global)) → OperandStands known (operand_of (lookup x known)) (p, named_operand p x)
-  reference_stands p x s local global found (inl e) = local_stands p x s.index local (found ∙ ap (λ (r : Sort). Some (record { sort = r; index = s.index })) e)
-  reference_stands p x s local global found (inr e) = static_stands p x Global s.index tt global (found ∙ ap (λ (r : Sort). Some (record { sort = r; index = s.index })) e)
+  reference_stands : (p : ParameterKind) (x : Identifier) (s : Slot) → TakesLocal p → TakesGlobal p → lookup x known ≡ Some s → ((s.ty ≡ Ref) ⊎ (s.ty ≡ Global)) → OperandStands known (operand_of (lookup x known)) (p, named_operand p x)
+  reference_stands p x s local global found (inl e) = local_stands p x s.index local (found ∙ ap (λ (r : ExprType). Some (record { ty = r; index = s.index })) e)
+  reference_stands p x s local global found (inr e) = static_stands p x Global s.index tt global (found ∙ ap (λ (r : ExprType). Some (record { ty = r; index = s.index })) e)
 
   -- a reference of any kind is found there too
   any_found : (e : Expr) → AnyReferenceFits known e → OperandStands known (operand_code known (AnyReference, tree.Value e)) (AnyReference, operand (AnyReference, tree.Value e))
   any_found (tree.Named tree.Null) h = record { kind = tt; is = refl }
-  any_found (tree.Variable x) (s, found, inl e) = local_stands AnyReference x s.index tt (found ∙ ap (λ (r : Sort). Some (record { sort = r; index = s.index })) e)
-  any_found (tree.Variable x) (s, found, inr is) = static_stands AnyReference x s.sort s.index is tt found
+  any_found (tree.Variable x) (s, found, inl e) = local_stands AnyReference x s.index tt (found ∙ ap (λ (r : ExprType). Some (record { ty = r; index = s.index })) e)
+  any_found (tree.Variable x) (s, found, inr is) = static_stands AnyReference x s.ty s.index is tt found
   any_found e h = absurd h
 
   -- a parameter that takes no number
@@ -161,7 +161,7 @@ module _ (code : Listing) (known : Known) (line place : ℕ) (tail : List Task) 
   weak_found e h = absurd h
 
   number_found : (e : Expr) → NumberFits known (term_of e) Jint → OperandStands known (operand_code known (IntNumber, tree.Value e)) (IntNumber, operand (IntNumber, tree.Value e))
-  number_found e h = inl (record { kind = inl refl; term = term_of e; is = refl; sort = h.sort })
+  number_found e h = inl (record { kind = inl refl; term = term_of e; is = refl; ty = h.ty })
 
   field_found : (e : Expr) → FieldFits known e → OperandStands known (operand_code known (FieldID, tree.Value e)) (FieldID, Given (tree.Value e))
   field_found (tree.Named tree.Null) h = record { kind = tt; is = refl }
@@ -173,11 +173,11 @@ module _ (code : Listing) (known : Known) (line place : ℕ) (tail : List Task) 
   method_found (tree.Variable x) h = subst (λ o. OperandStands known (operand_of o) (MethodID, Given (tree.Value (tree.Variable x)))) (sym h.1) (x, refl, refl, h.1)
   method_found e h = absurd h
 
-  -- a slot by its sort
-  slot_is : (x : Identifier) (s : Slot) (r : Sort) → lookup x known ≡ Some s → s.sort ≡ r → lookup x known ≡ Some (record { sort = r; index = s.index })
-  slot_is x s r found e = found ∙ ap (λ (q : Sort). Some (record { sort = q; index = s.index })) e
+  -- a slot by its type
+  slot_is : (x : Identifier) (s : Slot) (r : ExprType) → lookup x known ≡ Some s → s.ty ≡ r → lookup x known ≡ Some (record { ty = r; index = s.index })
+  slot_is x s r found e = found ∙ ap (λ (q : ExprType). Some (record { ty = q; index = s.index })) e
 
-  passed_name : (x : Identifier) (s : Slot) → lookup x known ≡ Some s → ((s.sort ≡ Jint) ⊎ (s.sort ≡ Ref) ⊎ (s.sort ≡ Global)) → OperandStands known (passed_variable (lookup x known)) (Passed, PassedName x)
+  passed_name : (x : Identifier) (s : Slot) → lookup x known ≡ Some s → ((s.ty ≡ Jint) ⊎ (s.ty ≡ Ref) ⊎ (s.ty ≡ Global)) → OperandStands known (passed_variable (lookup x known)) (Passed, PassedName x)
   passed_name x s found (inl e) =
       let there = slot_is x s Jint found e in
       subst (λ o. OperandStands known (passed_variable o) (Passed, PassedName x)) (sym there) (inr (record { kind = refl; name = x; is = refl; there = (s.index, there, tt) }))
@@ -191,7 +191,7 @@ module _ (code : Listing) (known : Known) (line place : ℕ) (tail : List Task) 
   passed_found : (e : Expr) → PassedFits known e → OperandStands known (passed_code known e) (Passed, passed_operand e)
   passed_found (tree.Named tree.Null) h = record { kind = tt; is = refl }
   passed_found (tree.Variable x) h = passed_name x h.0 h.1 h.2
-  passed_found e h = inl (record { kind = inr refl; term = term_of e; is = refl; sort = h.sort })
+  passed_found e h = inl (record { kind = inr refl; term = term_of e; is = refl; ty = h.ty })
 
   array_found : (t : ElementType) (e : Expr) → ArrayFits known t e → OperandStands known (operand_code known (ArrayVariable t, tree.Value e)) (ArrayVariable t, Given (tree.Value e))
   array_found t (tree.Variable x) h =
@@ -200,13 +200,13 @@ module _ (code : Listing) (known : Known) (line place : ℕ) (tail : List Task) 
 
   buffer_found : (access : Access) (e : Expr) → BufferFits known access e → OperandStands known (operand_code known (BufferVariable access, tree.Value e)) (BufferVariable access, Given (tree.Value e))
   buffer_found access (tree.Variable x) h =
-      let is = buffer_sort access h.0.sort h.2 in
-      let there : lookup x known ≡ Some (record { sort = Buffer is.0 is.1; index = h.0.index }) = h.1 ∙ ap (λ (r : Sort). Some (record { sort = r; index = h.0.index })) is.2 in
+      let is = buffer_type access h.0.ty h.2 in
+      let there : lookup x known ≡ Some (record { ty = Buffer is.0 is.1; index = h.0.index }) = h.1 ∙ ap (λ (r : ExprType). Some (record { ty = r; index = h.0.index })) is.2 in
       subst (λ o. OperandStands known (operand_of o) (BufferVariable access, Given (tree.Value (tree.Variable x)))) (sym there)
       (record { access = access; kind = refl; name = x; is = refl; type = is.0; writable = is.1; there = there })
   buffer_found access e h = absurd h
 
-  address_found : (x : Identifier) → (h : IsVariable known x sort.Flag) → OperandStands known (address_operand (lookup x known)) (IsCopy, Given (tree.AddressOf x))
+  address_found : (x : Identifier) → (h : IsVariable known x ty.Flag) → OperandStands known (address_operand (lookup x known)) (IsCopy, Given (tree.AddressOf x))
   address_found x h = subst (λ o. OperandStands known (address_operand o) (IsCopy, Given (tree.AddressOf x))) (sym h.1) (record { kind = refl; name = x; is = refl; there = h.1 })
 
   argument_found : (p : ParameterKind) (a : Argument) → ArgumentFits known p a → OperandStands known (operand_code known (p, a)) (p, operand (p, a))
@@ -332,7 +332,7 @@ module _ (code : Listing) (known : Known) (line place : ℕ) (tail : List Task) 
       })
 
   -- a variable takes the result, a new one or the one that has the slot
-  result_goes : (p : ℕ) (kind : VariableKind) (s : Slot) (target : Target) (x : Identifier) → kind_of_sort s.sort ≡ Some kind → target_name target ≡ Some x → GoesTo known s target → ResultStands code known (λ q names. TasksStand code names q [] tail) p s x
+  result_goes : (p : ℕ) (kind : VariableKind) (s : Slot) (target : Target) (x : Identifier) → kind_of_type s.ty ≡ Some kind → target_name target ≡ Some x → GoesTo known s target → ResultStands code known (λ q names. TasksStand code names q [] tail) p s x
       → ResultGoes code known (λ q names. TasksStand code names q [] tail) p s kind target
   result_goes p kind s (Declared declared y) x is name goes stands =
       let same : x ≡ y = cc in
@@ -344,44 +344,44 @@ module _ (code : Listing) (known : Known) (line place : ℕ) (tail : List Task) 
   result_goes p kind s target x is name goes stands = absurd goes
 
   -- a static that is known takes it
-  static_goes : (p i : ℕ) (k : Sort) (target : Target) (x : Identifier) → IsStaticSort k → target_name target ≡ Some x → GoesTo known (record { sort = k; index = i }) target → ResultStands code known (λ q names. TasksStand code names q [] tail) p (record { sort = k; index = i }) x
+  static_goes : (p i : ℕ) (k : ExprType) (target : Target) (x : Identifier) → IsStaticType k → target_name target ≡ Some x → GoesTo known (record { ty = k; index = i }) target → ResultStands code known (λ q names. TasksStand code names q [] tail) p (record { ty = k; index = i }) x
       → StaticStands known (λ q names. TasksStand code names q [] tail) p i target
   static_goes p i Global (Declared kind y) x is name goes stands = absurd (cc)
   static_goes p i Weak (Declared kind y) x is name goes stands = absurd (cc)
   static_goes p i k (Declared kind y) x is name goes stands = absurd is
   static_goes p i k (Assigned y) x is name goes stands =
       let same : y ≡ x = cc in
-      let slot : Slot = record { sort = k; index = i } in
+      let slot : Slot = record { ty = k; index = i } in
       let found = subst (λ (z : Identifier). lookup z known ≡ Some slot) same goes in
       record { name = y; is = refl; there = (k, is, goes); further = (stands.further.0, λ z t at. known_again x slot known found z t (stands.further.1 z t at), stands.further.2) }
   static_goes p i k target x is name goes stands = absurd goes
 
   -- the slot is one of what the function gives
-  abbrev ResultComes : (p i : ℕ) → ResultKind → Target → Identifier → Sort → Type 0
+  abbrev ResultComes : (p i : ℕ) → ResultKind → Target → Identifier → ExprType → Type 0
   ResultComes p i gives target x s =
-      GoesTo known (record { sort = s; index = i }) target → ResultStands code known (λ q names. TasksStand code names q [] tail) p (record { sort = s; index = i }) x
+      GoesTo known (record { ty = s; index = i }) target → ResultStands code known (λ q names. TasksStand code names q [] tail) p (record { ty = s; index = i }) x
       → TargetStands code known (λ q names. TasksStand code names q [] tail) p line (result_target s i) gives target
 
-  result_comes : (p i : ℕ) (gives : ResultKind) (target : Target) (x : Identifier) (s : Sort) → target_name target ≡ Some x → ResultFits s gives → ResultComes p i gives target x s
-  result_comes p i GivesInt target x s name e = subst (ResultComes p i GivesInt target x) (sym e) (λ goes stands. (Jint, refl, result_goes p ScalarKind (record { sort = Jint; index = i }) target x refl name goes stands))
-  result_comes p i GivesFlag target x s name e = subst (ResultComes p i GivesFlag target x) (sym e) (λ goes stands. (sort.Flag, refl, result_goes p ScalarKind (record { sort = sort.Flag; index = i }) target x refl name goes stands))
-  result_comes p i NewLocal target x s name e = subst (ResultComes p i NewLocal target x) (sym e) (λ goes stands. (refl, result_goes p ReferenceKind (record { sort = Ref; index = i }) target x refl name goes stands))
+  result_comes : (p i : ℕ) (gives : ResultKind) (target : Target) (x : Identifier) (s : ExprType) → target_name target ≡ Some x → ResultFits s gives → ResultComes p i gives target x s
+  result_comes p i GivesInt target x s name e = subst (ResultComes p i GivesInt target x) (sym e) (λ goes stands. (Jint, refl, result_goes p ScalarKind (record { ty = Jint; index = i }) target x refl name goes stands))
+  result_comes p i GivesFlag target x s name e = subst (ResultComes p i GivesFlag target x) (sym e) (λ goes stands. (ty.Flag, refl, result_goes p ScalarKind (record { ty = ty.Flag; index = i }) target x refl name goes stands))
+  result_comes p i NewLocal target x s name e = subst (ResultComes p i NewLocal target x) (sym e) (λ goes stands. (refl, result_goes p ReferenceKind (record { ty = Ref; index = i }) target x refl name goes stands))
   result_comes p i NewGlobal target x s name e = subst (ResultComes p i NewGlobal target x) (sym e) (λ goes stands. (tt, static_goes p i Global target x tt name goes stands))
   result_comes p i NewWeak target x s name e = subst (ResultComes p i NewWeak target x) (sym e) (λ goes stands. (tt, static_goes p i Weak target x tt name goes stands))
-  result_comes p i GivesField target x s name e = subst (ResultComes p i GivesField target x) (sym e) (λ goes stands. (refl, result_goes p FieldKind (record { sort = FieldId; index = i }) target x refl name goes stands))
-  result_comes p i GivesMethod target x s name e = subst (ResultComes p i GivesMethod target x) (sym e) (λ goes stands. (refl, result_goes p MethodKind (record { sort = MethodId; index = i }) target x refl name goes stands))
+  result_comes p i GivesField target x s name e = subst (ResultComes p i GivesField target x) (sym e) (λ goes stands. (refl, result_goes p FieldKind (record { ty = FieldId; index = i }) target x refl name goes stands))
+  result_comes p i GivesMethod target x s name e = subst (ResultComes p i GivesMethod target x) (sym e) (λ goes stands. (refl, result_goes p MethodKind (record { ty = MethodId; index = i }) target x refl name goes stands))
   result_comes p i (GivesBuffer access) target x s name e =
-      let is = buffer_sort access s e in
+      let is = buffer_type access s e in
       subst (ResultComes p i (GivesBuffer access) target x) (sym is.2)
-      (λ goes stands. ((access, refl), (is.0, is.1, refl, result_goes p (BufferKind is.0) (record { sort = Buffer is.0 is.1; index = i }) target x refl name goes stands)))
+      (λ goes stands. ((access, refl), (is.0, is.1, refl, result_goes p (BufferKind is.0) (record { ty = Buffer is.0 is.1; index = i }) target x refl name goes stands)))
   result_comes p i GivesNothing target x s name e = absurd e
 
-  pub right_stands : (target : Target) (x : Identifier) (s : Slot) (r : RightSide) (names : Known) → HaveOwnSlots known → RightFits known s.sort r → target_name target ≡ Some x → GoesTo known s target → HasAt code.instrs place (right_code known line s r) → IsSlotOf code known x s
+  pub right_stands : (target : Target) (x : Identifier) (s : Slot) (r : RightSide) (names : Known) → HaveOwnSlots known → RightFits known s.ty r → target_name target ≡ Some x → GoesTo known s target → HasAt code.instrs place (right_code known line s r) → IsSlotOf code known x s
       → AreAmong names ((x, s) ∷ known) → TasksStand code names (place + length (right_code known line s r)) [] tail → TasksStand code known place [] (right_side_task line target x r ∷ tail)
-  right_stands target x s (FromExpr e) names own_slots fits name goes at own among further = value_set target x s.sort s.index e names fits name goes at own among further
+  right_stands target x s (FromExpr e) names own_slots fits name goes at own among further = value_set target x s.ty s.index e names fits name goes at own among further
   right_stands target x s (FromCall c) names own_slots fits name goes at own among further =
-      call_stands target (result_target s.sort s.index) c own_slots fits.fits at
-      (result_comes (place + length (right_code known line s (FromCall c))) s.index (prototype fits.fits.function).result target x s.sort name fits.result goes (record { own = own; further = (names, among, further) }))
+      call_stands target (result_target s.ty s.index) c own_slots fits.fits at
+      (result_comes (place + length (right_code known line s (FromCall c))) s.index (prototype fits.fits.function).result target x s.ty name fits.result goes (record { own = own; further = (names, among, further) }))
 
 -- ---- statements
 
@@ -395,21 +395,21 @@ StmtBegins code s =
     (l : Layout) (place : ℕ) (tail : List Task) → HasAt code.instrs place (stmt_code l s) → StmtFits l s → IsLaidOut l.known l.slots → HasRoomFor code.slots (layout_after l s).slots
     → TasksStand code (layout_after l s).known (place + length (stmt_code l s)) [] tail → TasksStand code l.known place [] (task_of s ∷ tail)
 
--- the code of both ways of an `if` after its test
+-- the code of both branches of an `if` after its test
 branch_stands : (code : Listing) (line : ℕ) (t : Term) (stack : List ℕ) (then' else' : Block) (l : Layout) (slots_else : _) (place : ℕ) (tail : List Task)
-    → HasAt code.instrs place (term_code l.known line t ++ ways_code (block_code l then') (block_code (record { known = l.known; slots = slots_else }) else' ++ instr.Jump 0 ∷ []))
-    → IsUnderWay l.known sort.Truth t stack → BlockFits l then' → BlockFits (record { known = l.known; slots = slots_else }) else' → IsLaidOut l.known l.slots → IsLaidOut l.known slots_else
+    → HasAt code.instrs place (term_code l.known line t ++ paths_code (block_code l then') (block_code (record { known = l.known; slots = slots_else }) else' ++ instr.Jump 0 ∷ []))
+    → IsUnderWay l.known ty.Truth t stack → BlockFits l then' → BlockFits (record { known = l.known; slots = slots_else }) else' → IsLaidOut l.known l.slots → IsLaidOut l.known slots_else
     → HasRoomFor code.slots (block_layout l then').slots → HasRoomFor code.slots (block_layout (record { known = l.known; slots = slots_else }) else').slots
-    → TasksStand code l.known (place + length (term_code l.known line t ++ ways_code (block_code l then') (block_code (record { known = l.known; slots = slots_else }) else' ++ instr.Jump 0 ∷ []))) [] tail
+    → TasksStand code l.known (place + length (term_code l.known line t ++ paths_code (block_code l then') (block_code (record { known = l.known; slots = slots_else }) else' ++ instr.Jump 0 ∷ []))) [] tail
     → TasksStand code l.known place stack (Branch line t then' else' ∷ tail)
 branch_stands code line t stack then' else' l slots_else place tail at test fits fits' laid laid' room room' further =
     let T = term_code l.known line t in
     let A = block_code l then' in
     let B = block_code (record { known = l.known; slots = slots_else }) else' in
-    let ways = has_back code.instrs place T (ways_code A (B ++ instr.Jump 0 ∷ [])) at in
-    let after = has_back code.instrs (place + length T + 1) A (instr.Jump (length (B ++ instr.Jump 0 ∷ [])) ∷ (B ++ instr.Jump 0 ∷ [])) ways.1 in
-    let size : place + length (T ++ ways_code A (B ++ instr.Jump 0 ∷ [])) ≡ place + length T + 1 + length A + 1 + length B + 1 =
-    omega (arith, length-append T (ways_code A (B ++ instr.Jump 0 ∷ [])), length-append A (instr.Jump (length (B ++ instr.Jump 0 ∷ [])) ∷ (B ++ instr.Jump 0 ∷ [])), length-append B (instr.Jump 0 ∷ [])) in
+    let paths = has_back code.instrs place T (paths_code A (B ++ instr.Jump 0 ∷ [])) at in
+    let after = has_back code.instrs (place + length T + 1) A (instr.Jump (length (B ++ instr.Jump 0 ∷ [])) ∷ (B ++ instr.Jump 0 ∷ [])) paths.1 in
+    let size : place + length (T ++ paths_code A (B ++ instr.Jump 0 ∷ [])) ≡ place + length T + 1 + length A + 1 + length B + 1 =
+    omega (arith, length-append T (paths_code A (B ++ instr.Jump 0 ∷ [])), length-append A (instr.Jump (length (B ++ instr.Jump 0 ∷ [])) ∷ (B ++ instr.Jump 0 ∷ [])), length-append B (instr.Jump 0 ∷ [])) in
     record {
       slots = l.slots;
       slots_else = slots_else;
@@ -419,21 +419,21 @@ branch_stands code line t stack then' else' l slots_else place tail at test fits
       else_code = B;
       else_is = refl;
       at = at;
-      first = record { at = has_front code.instrs (place + length T + 1) A (instr.Jump (length (B ++ instr.Jump 0 ∷ [])) ∷ (B ++ instr.Jump 0 ∷ [])) ways.1; fits = fits; laid = laid; room = room };
+      first = record { at = has_front code.instrs (place + length T + 1) A (instr.Jump (length (B ++ instr.Jump 0 ∷ [])) ∷ (B ++ instr.Jump 0 ∷ [])) paths.1; fits = fits; laid = laid; room = room };
       second = record { at = has_front code.instrs (place + length T + 1 + length A + 1) B (instr.Jump 0 ∷ []) after.1; fits = fits'; laid = laid'; room = room' };
       further = subst (λ p. TasksStand code l.known p [] tail) size further;
     }
 
--- a function gives a `jint` where a variable of that sort could take what it gives
+-- a function gives a `jint` where a variable of that type could take what it gives
 jint_given : (gives : ResultKind) → ResultFits Jint gives → gives ≡ GivesInt
 jint_given GivesInt e = refl
-jint_given GivesFlag e = absurd (let c : Jint ≡ sort.Flag = e in cc)
+jint_given GivesFlag e = absurd (let c : Jint ≡ ty.Flag = e in cc)
 jint_given NewLocal e = absurd (let c : Jint ≡ Ref = e in cc)
 jint_given NewGlobal e = absurd (let c : Jint ≡ Global = e in cc)
 jint_given NewWeak e = absurd (let c : Jint ≡ Weak = e in cc)
 jint_given GivesField e = absurd (let c : Jint ≡ FieldId = e in cc)
 jint_given GivesMethod e = absurd (let c : Jint ≡ MethodId = e in cc)
-jint_given (GivesBuffer access) e = absurd (let is = buffer_sort access Jint e in let c : Jint ≡ Buffer is.0 is.1 = is.2 in cc)
+jint_given (GivesBuffer access) e = absurd (let is = buffer_type access Jint e in let c : Jint ≡ Buffer is.0 is.1 = is.2 in cc)
 jint_given GivesNothing e = absurd e
 
 if_stands : (code : Listing) (line : ℕ) (test : Test) (then' else' : Block) (l : Layout) (slots_else : _) (place : ℕ) (tail : List Task)
@@ -442,10 +442,10 @@ if_stands : (code : Listing) (line : ℕ) (test : Test) (then' else' : Block) (l
     → HasRoomFor code.slots (block_layout l then').slots → HasRoomFor code.slots (block_layout (record { known = l.known; slots = slots_else }) else').slots
     → TasksStand code l.known (place + length (if_code l.known line test (block_code l then') (block_code (record { known = l.known; slots = slots_else }) else'))) [] tail
     → TasksStand code l.known place [] (if_task line test then' else' ∷ tail)
-if_stands code line (TestExpr e) then' else' l slots_else place tail at test fits fits' laid laid' room room' further = branch_stands code line (term_of e) [] then' else' l slots_else place tail at (number_begins l.known (term_of e) sort.Truth test) fits fits' laid laid' room room' further
+if_stands code line (TestExpr e) then' else' l slots_else place tail at test fits fits' laid laid' room room' further = branch_stands code line (term_of e) [] then' else' l slots_else place tail at (number_begins l.known (term_of e) ty.Truth test) fits fits' laid laid' room room' further
 if_stands code line (TestCall c) then' else' l slots_else place tail at test fits fits' laid laid' room room' further =
     let T = named_call_code l.known line destination.Test (function_named c.function) c.arguments in
-    let W = ways_code (block_code l then') (block_code (record { known = l.known; slots = slots_else }) else' ++ instr.Jump 0 ∷ []) in
+    let W = paths_code (block_code l then') (block_code (record { known = l.known; slots = slots_else }) else' ++ instr.Jump 0 ∷ []) in
     let end : place + length (T ++ W) ≡ place + length T + length W = omega (arith, length-append T W) in
     let after = subst (λ p. TasksStand code l.known p [] tail) end further in
     call_stands code l.known line place tail (Tested then' else') destination.Test c laid.own test.fits (has_front code.instrs place T W at) (
@@ -454,8 +454,8 @@ if_stands code line (TestCall c) then' else' l slots_else place tail at test fit
         then' = then';
         else' = else';
         is = refl;
-        ways = λ gave_zero.
-            branch_stands code line (Done (Truth gave_zero)) (truth_word gave_zero ∷ []) then' else' l slots_else (place + length T) tail (has_back code.instrs place T W at) (record { sort = refl; begun = tt; operands = refl })
+        paths = λ gave_zero.
+            branch_stands code line (Done (Truth gave_zero)) (truth_word gave_zero ∷ []) then' else' l slots_else (place + length T) tail (has_back code.instrs place T W at) (record { ty = refl; begun = tt; operands = refl })
             fits fits' laid laid' room room' after;
       },
     )
@@ -470,7 +470,7 @@ loop_stands code line test body l place tail at fits laid room further =
     record {
       slots = l.slots;
       start = place;
-      under_way = number_begins l.known (term_of test) sort.Truth fits.0;
+      under_way = number_begins l.known (term_of test) ty.Truth fits.0;
       fits = fits.0;
       test_code = T;
       test_is = refl;
@@ -484,8 +484,8 @@ loop_stands code line test body l place tail at fits laid room further =
     }
 
 -- the slots of a known name are there
-slot_within : (code : Listing) (l : Layout) (x : Identifier) (s : Slot) → lookup x l.known ≡ Some s → IsLaidOut l.known l.slots → HasRoomFor code.slots l.slots → IndexWithin code.slots s.sort s.index
-slot_within code l x s found laid room = index_more l.slots code.slots s.sort s.index (room_at_least code.slots l.slots room) (laid.within x s found)
+slot_within : (code : Listing) (l : Layout) (x : Identifier) (s : Slot) → lookup x l.known ≡ Some s → IsLaidOut l.known l.slots → HasRoomFor code.slots l.slots → IndexWithin code.slots s.ty s.index
+slot_within code l x s found laid room = index_more l.slots code.slots s.ty s.index (room_at_least code.slots l.slots room) (laid.within x s found)
 
 pair_begun : (a b : Term) → IsUntouched a → IsUntouched b → IsBegun (Binary BitOr a b)
 pair_begun a b h k = untouched_begun (Binary BitOr a b) (h, k)
@@ -494,7 +494,7 @@ pair_held : (a b : Term) → IsUntouched a → IsUntouched b → [] ≡ held b +
 pair_held a b h k = sym (untouched_held (Binary BitOr a b) (h, k))
 
 -- an element is written by one instruction
-pub one_write : (line : ℕ) (s : Sort) (i : ℕ) → HasElements s → length (write_code line s i) ≡ 1
+pub one_write : (line : ℕ) (s : ExprType) (i : ℕ) → HasElements s → length (write_code line s i) ≡ 1
 one_write line (Array t size) i has = refl
 one_write line (Buffer t writable) i has = refl
 one_write line s i has = absurd has
@@ -504,8 +504,8 @@ element_set_stands code line x i e l place tail at fits laid room further =
     let s = fits.0.0 in
     let I = expr_code l.known line i in
     let E = expr_code l.known line e in
-    let is : of_slot (write_code line) (lookup x l.known) ≡ write_code line s.sort s.index = ap (of_slot (write_code line)) fits.0.1 in
-    let one = one_write line s.sort s.index fits.0.2 in
+    let is : of_slot (write_code line) (lookup x l.known) ≡ write_code line s.ty s.index = ap (of_slot (write_code line)) fits.0.1 in
+    let one = one_write line s.ty s.index fits.0.2 in
     let there = subst (λ w. HasAt code.instrs place (I ++ (E ++ w))) is at in
     let count : place + length (I ++ (E ++ of_slot (write_code line) (lookup x l.known))) ≡ place + (length I + length E) + 1 =
     omega (arith, length-append I (E ++ of_slot (write_code line) (lookup x l.known)), length-append E (of_slot (write_code line) (lookup x l.known)), ap length is, one) in
@@ -514,8 +514,8 @@ element_set_stands code line x i e l place tail at fits laid room further =
       there = fits.0.1;
       elements = fits.0.2;
       own = record { within = slot_within code l x s fits.0.1 laid room; own = laid.own x s fits.0.1 };
-      index = (fits.1.0, fits.1.1, fits.1.2.sort);
-      value = fits.2.sort;
+      index = (fits.1.0, fits.1.1, fits.1.2.ty);
+      value = fits.2.ty;
       begun = pair_begun (term_of i) (term_of e) fits.1.2.untouched fits.2.untouched;
       operands = pair_held (term_of i) (term_of e) fits.1.2.untouched fits.2.untouched;
       at = there;
@@ -525,17 +525,17 @@ element_set_stands code line x i e l place tail at fits laid room further =
 returned_stands : (code : Listing) (line : ℕ) (t : Term) (l : Layout) (place : ℕ) (tail : List Task) → HasAt code.instrs place (return_code l.known line t) → ReturnFits l.known t → TasksStand code l.known place [] (ReturnValue line t ∷ tail)
 returned_stands code line (term.Named tree.Null) l place tail at fits = inr (inl (refl, at.0))
 returned_stands code line (Read x) l place tail at (s, found, inl e) =
-    let there : lookup x l.known ≡ Some (record { sort = Ref; index = s.index }) = found ∙ ap (λ (r : Sort). Some (record { sort = r; index = s.index })) e in
+    let there : lookup x l.known ≡ Some (record { ty = Ref; index = s.index }) = found ∙ ap (λ (r : ExprType). Some (record { ty = r; index = s.index })) e in
     let one = subst (HasAt code.instrs place) (ap (of_slot returned_code) there) at in
     inr (inr (x, s.index, refl, there, one.0))
 returned_stands code line (Read x) l place tail at (s, found, inr e) =
-    let there : lookup x l.known ≡ Some (record { sort = Jint; index = s.index }) = found ∙ ap (λ (r : Sort). Some (record { sort = r; index = s.index })) e in
+    let there : lookup x l.known ≡ Some (record { ty = Jint; index = s.index }) = found ∙ ap (λ (r : ExprType). Some (record { ty = r; index = s.index })) e in
     let load : term_code l.known line (Read x) ++ instr.ReturnJint ∷ [] ≡ of_slot returned_code (lookup x l.known) = rw there refl in
-    inl (record { sort = (s.index, there, tt); begun = tt; operands = refl }, subst (HasAt code.instrs place) (sym load) at)
+    inl (record { ty = (s.index, there, tt); begun = tt; operands = refl }, subst (HasAt code.instrs place) (sym load) at)
 returned_stands code line t l place tail at fits = inl (number_begins l.known t Jint fits, at)
 
 -- a new variable is of its slot's kind
-declared_goes : (t : VariableType) (x : Identifier) (l : Layout) → GoesTo l.known (new_slot (variable_sort t) l) (Declared (kind_of t) x)
+declared_goes : (t : VariableType) (x : Identifier) (l : Layout) → GoesTo l.known (new_slot (variable_type t) l) (Declared (kind_of t) x)
 declared_goes tree.UInt32 x l = refl
 declared_goes tree.JIntVariable x l = refl
 declared_goes tree.JSize x l = refl
@@ -546,7 +546,7 @@ declared_goes tree.JMethodId x l = refl
 
 pub stmt_begins : (code : Listing) (s : Stmt) → StmtBegins code s
 stmt_begins code (tree.Declare line t x r) l place tail at fits laid room further =
-    right_stands code l.known line place tail (Declared (kind_of t) x) x (new_slot (variable_sort t) l) r ((x, new_slot (variable_sort t) l) ∷ l.known) laid.own fits.1 refl (declared_goes t x l) at (declared_slot code (variable_sort t) l x (variable_size t) laid room) (self_among x (new_slot (variable_sort t) l) l.known) further
+    right_stands code l.known line place tail (Declared (kind_of t) x) x (new_slot (variable_type t) l) r ((x, new_slot (variable_type t) l) ∷ l.known) laid.own fits.1 refl (declared_goes t x l) at (declared_slot code (variable_type t) l x (variable_size t) laid room) (self_among x (new_slot (variable_type t) l) l.known) further
 stmt_begins code (tree.DeclareBuffer line t x r) l place tail at fits laid room further =
     right_stands code l.known line place tail (Declared (BufferKind t) x) x (new_slot (Buffer t true) l) r ((x, new_slot (Buffer t true) l) ∷ l.known) laid.own fits.1 refl refl at (declared_slot code (Buffer t true) l x tt laid room) (self_among x (new_slot (Buffer t true) l) l.known) further
 stmt_begins code (tree.DeclareChars line x r) l place tail at fits laid room further =

@@ -8,15 +8,15 @@ use Rattle.syntax.specs.Limits.{height, highest, numbers_in_range, statement_hei
 use Rattle.syntax.specs.Parts.{statements_of, statements_within, call_of_right_side, own_call, right_side_expressions, own_expressions, names_declared}
 use Rattle.syntax.specs.Tree as tree
 use Rattle.syntax.specs.Tree.{ResultType, RightSide, FromExpr, FromCall, TestExpr, TestCall, Stmt, Block, End, Next}
-use Rattle.type_rules.specs.Sorts.{Truth, Buffer, Array}
+use Rattle.type_rules.specs.ExprTypes.{Truth, Buffer, Array}
 use Rattle.jni.specs.JniFunction.{JniFunction, prototype}
-use Rattle.type_rules.specs.SortRules.{is_droppable, is_push, may_be_dropped, variable_sort, with_declared, places_within, places_of}
+use Rattle.type_rules.specs.TypeRules.{is_droppable, is_push, may_be_dropped, variable_type, with_declared, places_within, places_of}
 use Rattle.code_meaning.specs.Layout.{Slot, Known, Layout, new_slot, closed, layout_after, block_layout}
 use Rattle.code_meaning.specs.Fits.{StmtFits, BlockFits}
 use Rattle.code_meaning.proofs.SlotLaws.{first_or_after}
-use Rattle.lower.proofs.SortFacts.{scope_of, HasNoTruth}
+use Rattle.lower.proofs.TypeFacts.{scope_of, HasNoTruth}
 use Rattle.type_rules.proofs.PlaceLists.{AreUnbroken}
-use Rattle.type_rules.proofs.KeptPlaces.{IsKept, own_kept, inside_kept, block_kept, ways_kept}
+use Rattle.type_rules.proofs.KeptPlaces.{IsKept, own_kept, inside_kept, block_kept, paths_kept}
 use Rattle.lower.proofs.Tests.{and_left, and_right}
 use Rattle.lower.proofs.NameFacts.{AreTaken, taken_more, taken_after}
 use Rattle.lower.proofs.StatementFacts.{AreFine, are_fine, called_expressions, CallHolds, call_fits_name, right_fits, buffer_fits, assigned_fits, element_fits, jint_fits, truth_fits, tested_fits, returned_fits, size_fits}
@@ -29,7 +29,7 @@ AreInRange statements = list_all (λ s. list_all numbers_in_range (own_expressio
 
 -- a statement of an accepted function, with what is known before it
 pub record StmtHolds (l : Layout) (taken : List Identifier) (returns : ResultType) (s : Stmt) : Type 0 where
-  pub sorted : AreUnbroken (places_within returns (scope_of l.known) taken s)
+  pub well_typed : AreUnbroken (places_within returns (scope_of l.known) taken s)
   pub numbers : AreInRange (statements_within s)
   pub formed : well_formed s ≡ true
   pub low : statement_height s ≤ 31
@@ -38,7 +38,7 @@ pub record StmtHolds (l : Layout) (taken : List Identifier) (returns : ResultTyp
 
 -- the same of the rest of a block
 pub record BlockHolds (l : Layout) (taken : List Identifier) (returns : ResultType) (b : Block) : Type 0 where
-  pub sorted : AreUnbroken (places_of returns (scope_of l.known) taken b)
+  pub well_typed : AreUnbroken (places_of returns (scope_of l.known) taken b)
   pub numbers : AreInRange (statements_of b)
   pub formed : block_well_formed b ≡ true
   pub low : block_height b ≤ 32
@@ -94,7 +94,7 @@ module _ (l : Layout) (taken : List Identifier) (returns : ResultType) where
       are_fine (own_expressions s) (first_in_range s h.numbers) (omega (arith, few, h.low))
 
   kept : (s : Stmt) → StmtHolds l taken returns s → IsKept (scope_of l.known) taken returns s
-  kept s h = own_kept returns (scope_of l.known) taken s h.sorted
+  kept s h = own_kept returns (scope_of l.known) taken s h.well_typed
 
   call_holds : (s : Stmt) → StmtHolds l taken returns s → CallHolds l.known (own_call s)
   call_holds s h = record { function = (kept s h).there; arguments = (kept s h).arguments; count = (kept s h).count; modes = (kept s h).modes; fine = called_fine s (all_fine s h) }
@@ -108,11 +108,11 @@ scope_after (tree.DeclareChars line x r) l = refl
 scope_after (tree.DeclareArray line t x size) l = refl
 scope_after s l = refl
 
-no_truth_first : (x : Identifier) (slot : Slot) (known : Known) → (slot.sort ≡ Truth → ⊥) → HasNoTruth known → HasNoTruth ((x, slot) ∷ known)
+no_truth_first : (x : Identifier) (slot : Slot) (known : Known) → (slot.ty ≡ Truth → ⊥) → HasNoTruth known → HasNoTruth ((x, slot) ∷ known)
 no_truth_first x slot known new h y s at e =
-    first_or_after x y slot s known ⊥ (λ same is. new (ap (λ (t : Slot). t.sort) is ∙ e)) (λ other found. h y s found e) at
+    first_or_after x y slot s known ⊥ (λ same is. new (ap (λ (t : Slot). t.ty) is ∙ e)) (λ other found. h y s found e) at
 
-variable_no_truth : (t : tree.VariableType) → variable_sort t ≡ Truth → ⊥
+variable_no_truth : (t : tree.VariableType) → variable_type t ≡ Truth → ⊥
 variable_no_truth tree.UInt32 e = cc
 variable_no_truth tree.JIntVariable e = cc
 variable_no_truth tree.JSize e = cc
@@ -122,7 +122,7 @@ variable_no_truth tree.JMethodId e = cc
 variable_no_truth (tree.ReferenceVariable r) e = cc
 
 no_truth_after : (s : Stmt) (l : Layout) → HasNoTruth l.known → HasNoTruth (layout_after l s).known
-no_truth_after (tree.Declare line t x r) l h = no_truth_first x (new_slot (variable_sort t) l) l.known (variable_no_truth t) h
+no_truth_after (tree.Declare line t x r) l h = no_truth_first x (new_slot (variable_type t) l) l.known (variable_no_truth t) h
 no_truth_after (tree.DeclareBuffer line t x r) l h = no_truth_first x (new_slot (Buffer t true) l) l.known (λ e. let c : Buffer t true ≡ Truth = e in cc) h
 no_truth_after (tree.DeclareChars line x r) l h = no_truth_first x (new_slot (Buffer JChar false) l) l.known (λ e. let c : Buffer JChar false ≡ Truth = e in cc) h
 no_truth_after (tree.DeclareArray line t x size) l h = no_truth_first x (new_slot (Array t size) l) l.known (λ e. let c : Array t size ≡ Truth = e in cc) h
@@ -144,7 +144,7 @@ next_formed s rest h = (and_left (well_formed s) (block_well_formed rest) h, and
 module _ (l : Layout) (taken : List Identifier) (returns : ResultType) (s : Stmt) (rest : Block) (h : BlockHolds l taken returns (Next s rest)) where
   first_holds : StmtHolds l taken returns s
   first_holds = record {
-    sorted = (block_kept returns (scope_of l.known) taken s rest h.sorted).0;
+    well_typed = (block_kept returns (scope_of l.known) taken s rest h.well_typed).0;
     numbers = (both_in_range (statements_within s) (statements_of rest) h.numbers).0;
     formed = (next_formed s rest h.formed).0;
     low = omega (arith, h.low);
@@ -154,7 +154,7 @@ module _ (l : Layout) (taken : List Identifier) (returns : ResultType) (s : Stmt
 
   rest_holds : BlockHolds (layout_after l s) (taken ++ names_declared (statements_within s)) returns rest
   rest_holds = record {
-    sorted = subst (λ scope. AreUnbroken (places_of returns scope (taken ++ names_declared (statements_within s)) rest)) (scope_after s l) (block_kept returns (scope_of l.known) taken s rest h.sorted).1;
+    well_typed = subst (λ scope. AreUnbroken (places_of returns scope (taken ++ names_declared (statements_within s)) rest)) (scope_after s l) (block_kept returns (scope_of l.known) taken s rest h.well_typed).1;
     numbers = (both_in_range (statements_within s) (statements_of rest) h.numbers).1;
     formed = (next_formed s rest h.formed).1;
     low = omega (arith, h.low);
@@ -173,7 +173,7 @@ mutual
   stmt_fits (tree.Declare line t x r) l taken returns h =
       let s = tree.Declare line t x r in
       let k = kept l taken returns s h in
-      (h.names x k.new, right_fits l.known h.no_truth (variable_sort t) r (all_fine l taken returns s h) (call_holds l taken returns s h) k.fits k.uncopied)
+      (h.names x k.new, right_fits l.known h.no_truth (variable_type t) r (all_fine l taken returns s h) (call_holds l taken returns s h) k.fits k.uncopied)
   stmt_fits (tree.DeclareBuffer line t x r) l taken returns h =
       let s = tree.DeclareBuffer line t x r in
       let k = kept l taken returns s h in
@@ -201,7 +201,7 @@ mutual
       let s = tree.If line test then' in (
         tested_fits l.known h.no_truth test (all_fine l taken returns s h) (λ c e. subst (λ t. CallHolds l.known (own_call (tree.If line t then'))) e (call_holds l taken returns s h)) (kept l taken returns s h).fits,
         block_fits then' l taken returns (record {
-          sorted = inside_kept returns (scope_of l.known) taken s h.sorted;
+          well_typed = inside_kept returns (scope_of l.known) taken s h.well_typed;
           numbers = inside_in_range s (statements_of then') h.numbers;
           formed = h.formed;
           low = omega (arith, h.low);
@@ -211,11 +211,11 @@ mutual
       )
   stmt_fits (tree.IfElse line test then' else') l taken returns h =
       let s = tree.IfElse line test then' else' in
-      let sorted = ways_kept returns (scope_of l.known) taken line test then' else' h.sorted in
+      let well_typed = paths_kept returns (scope_of l.known) taken line test then' else' h.well_typed in
       let numbers = both_in_range (statements_of then') (statements_of else') (inside_in_range s (statements_of then' ++ statements_of else') h.numbers) in (
         tested_fits l.known h.no_truth test (all_fine l taken returns s h) (λ c e. subst (λ t. CallHolds l.known (own_call (tree.IfElse line t then' else'))) e (call_holds l taken returns s h)) (kept l taken returns s h).fits,
         block_fits then' l taken returns (record {
-          sorted = sorted.0;
+          well_typed = well_typed.0;
           numbers = numbers.0;
           formed = and_left (block_well_formed then') (block_well_formed else') h.formed;
           low = omega (arith, h.low);
@@ -223,7 +223,7 @@ mutual
           no_truth = h.no_truth;
         }),
         block_fits else' (closed l (block_layout l then')) (taken ++ names_declared (statements_of then')) returns (record {
-          sorted = sorted.1;
+          well_typed = well_typed.1;
           numbers = numbers.1;
           formed = and_right (block_well_formed then') (block_well_formed else') h.formed;
           low = omega (arith, h.low);
@@ -235,7 +235,7 @@ mutual
       let s = tree.While line test body in (
         truth_fits l.known h.no_truth test (all_fine l taken returns s h).0 (kept l taken returns s h).fits,
         block_fits body l taken returns (record {
-          sorted = inside_kept returns (scope_of l.known) taken s h.sorted;
+          well_typed = inside_kept returns (scope_of l.known) taken s h.well_typed;
           numbers = inside_in_range s (statements_of body) h.numbers;
           formed = h.formed;
           low = omega (arith, h.low);

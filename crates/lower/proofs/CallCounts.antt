@@ -7,7 +7,7 @@ use Rattle.syntax.specs.Tree.{Argument}
 use Rattle.jni.specs.Access.{ArrayView, CharsCopy, CharsView, ElementsCopy}
 use Rattle.jni.specs.JniFunction.{JniFunction, FindClass, ReleaseBuffer, prototype, calls_method, parameters_for, takes_count}
 use Rattle.jni.specs.Prototype.{ParameterKind, Passed}
-use Rattle.type_rules.specs.SortRules.{is_mode, is_mode_parameter, modes_fit}
+use Rattle.type_rules.specs.TypeRules.{is_mode, is_mode_parameter, modes_fit}
 use Rattle.lower.proofs.Tests.{and_left, and_right}
 
 -- what a method is given where this number of arguments is left

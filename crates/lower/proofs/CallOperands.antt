@@ -4,7 +4,7 @@ use Rattle.std.specs.Prelude.{is_none}
 use Rattle.std.specs.Option.{option_map}
 use Rattle.std.proofs.lemmas.List.{append-nil}
 use Rattle.base.specs.Bytes.{Identifier, lookup}
-use Rattle.type_rules.specs.Sorts.{is_jint}
+use Rattle.type_rules.specs.ExprTypes.{is_jint}
 use Rattle.code.specs.declared.instr.Instr.{Instr}
 use Rattle.semantics.specs.Task.{Operand, NumberOperand, PassedName, Given}
 use Rattle.semantics.specs.Term.{Term, Done, Read}
@@ -72,13 +72,13 @@ pub passed_done : (b : Bool) (x : Identifier) → (if b then Some (Read x) else 
 passed_done true x e = absurd (cc)
 passed_done false x e = refl
 
-number_coded : (s : Option Slot) → is_jint (option_map (λ s. s.sort) s) ≡ true → of_slot number_code s ≡ of_slot load_code s
+number_coded : (s : Option Slot) → is_jint (option_map (λ s. s.ty) s) ≡ true → of_slot number_code s ≡ of_slot load_code s
 number_coded None h = refl
-number_coded (Some s) h = ap (λ b. if b then load_code s.sort s.index else []) h
+number_coded (Some s) h = ap (λ b. if b then load_code s.ty s.index else []) h
 
-reference_coded : (s : Option Slot) → is_jint (option_map (λ s. s.sort) s) ≡ false → of_slot number_code s ≡ []
+reference_coded : (s : Option Slot) → is_jint (option_map (λ s. s.ty) s) ≡ false → of_slot number_code s ≡ []
 reference_coded None h = refl
-reference_coded (Some s) h = ap (λ b. if b then load_code s.sort s.index else []) h
+reference_coded (Some s) h = ap (λ b. if b then load_code s.ty s.index else []) h
 
 module _ (known : Known) where
   done_rest : (line : ℕ) (o : Operand) → step_of known o ≡ None → operand_rest known line o ≡ []

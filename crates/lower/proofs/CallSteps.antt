@@ -12,9 +12,9 @@ use Rattle.syntax.specs.Tree as tree
 use Rattle.syntax.specs.Tree.{Expr}
 use Rattle.jni.specs.JniFunction.{JniFunction, prototype, parameters_for}
 use Rattle.jni.specs.Prototype.{ParameterKind, LocalVariable, StaticVariable, FieldID, MethodID, Passed, ArrayVariable, BufferVariable, Mode, IsCopy, ResultKind, GivesInt, GivesFlag, WeakVariable}
-use Rattle.type_rules.specs.Sorts.{Sort, Jint, Ref, Global, Weak, FieldId, MethodId, Buffer, Array, is_jint}
-use Rattle.type_rules.specs.Sorts as sort
-use Rattle.type_rules.specs.SortGroups.{IsNumberSort}
+use Rattle.type_rules.specs.ExprTypes.{ExprType, Jint, Ref, Global, Weak, FieldId, MethodId, Buffer, Array, is_jint}
+use Rattle.type_rules.specs.ExprTypes as ty
+use Rattle.type_rules.specs.TypeGroups.{IsNumberType}
 use Rattle.code.specs.declared.instr.Operand.{Operand as Where}
 use Rattle.code.specs.declared.instr.Operand.TheVariants as operand
 use Rattle.code.specs.declared.instr.Target.{Target as Destination}
@@ -32,8 +32,8 @@ use Rattle.semantics.specs.Value.{Value, Word, Int, Flag, Truth, Gives, Outcome,
 use Rattle.code_meaning.specs.Layout.{Slot, Known}
 use Rattle.code_meaning.specs.Coding.{names_number, term_code}
 use Rattle.code_meaning.specs.Slots.{word_of, Visible, Slots, Shows, SeesBuffers, ShowsStatic, ShowsSlot, OfField, OfMethod}
-use Rattle.code_meaning.specs.Fits.{IsReferenceKind, TakesNull, TakesLocal, TakesGlobal, TakesInt, IsVariable, TermHasSort, IsStaticIn, IsStaticSort}
-use Rattle.code_meaning.specs.Stands.{held, HasAt, operand_text, operands_texts, ResultStands, ResultGoes, StaticStands, TestStands, number_sort, named_operand, OperandStands, TargetStands, InvokeStands, TasksStand, task_returns, operands_rest, operand_held, operands_held}
+use Rattle.code_meaning.specs.Fits.{IsReferenceKind, TakesNull, TakesLocal, TakesGlobal, TakesInt, IsVariable, TermHasType, IsStaticIn, IsStaticType}
+use Rattle.code_meaning.specs.Stands.{held, HasAt, operand_text, operands_texts, ResultStands, ResultGoes, StaticStands, TestStands, number_type, named_operand, OperandStands, TargetStands, InvokeStands, TasksStand, task_returns, operands_rest, operand_held, operands_held}
 use Rattle.code_meaning.specs.Does.{IsOperand, TakesNumber, TakesReference, TakesField, TakesMethod, TakesStatic, TakesBuffer, TakesTest, GoesInto, TakesResult, DoesEffect, word_given, words_given, text_given, texts_given, OperandFits, IsVariableKind, ActualFits}
 use Rattle.code_meaning.proofs.SlotLaws.{fewer_shown, number_below, shows_set, shows_referred, shows_field_set, shows_method_set, shows_buffer_set, static_changes}
 use Rattle.lower.proofs.TermSteps.{shows_number}
@@ -143,10 +143,10 @@ named_text Passed x = refl
 named_text p x = refl
 
 -- a number has a slot, and no other name
-named_alike : (known : Known) (x y : Identifier) (s : Slot) → x ≡ y → lookup y known ≡ Some s → names_number known x ≡ is_jint (Some s.sort)
-named_alike known x y s same there = ap (λ z. names_number known z) same ∙ ap (λ o. is_jint (option_map (λ s. s.sort) o)) there
+named_alike : (known : Known) (x y : Identifier) (s : Slot) → x ≡ y → lookup y known ≡ Some s → names_number known x ≡ is_jint (Some s.ty)
+named_alike known x y s same there = ap (λ z. names_number known z) same ∙ ap (λ o. is_jint (option_map (λ s. s.ty) o)) there
 
-static_number : (s : Sort) → IsStaticSort s → is_jint (Some s) ≡ false
+static_number : (s : ExprType) → IsStaticType s → is_jint (Some s) ≡ false
 static_number Global h = refl
 static_number Weak h = refl
 static_number s h = absurd h
@@ -156,7 +156,7 @@ none_open known x t none e = let both = passed_open (names_number known x) x t e
 
 module _ (known : Known) where
   -- an argument that is a number is on the stack
-  number_there : (w : Where) (p : ParameterKind) (t : Term) → OperandStands known w (p, NumberOperand t) → (w ≡ operand.Number) × TakesInt p × TermHasSort known t Jint
+  number_there : (w : Where) (p : ParameterKind) (t : Term) → OperandStands known w (p, NumberOperand t) → (w ≡ operand.Number) × TakesInt p × TermHasType known t Jint
   number_there operand.Null p t h = absurd (let e = h.is in cc)
   number_there (operand.Local i) p t h = absurd (name_is_no_number p h.0 t h.2)
   number_there (operand.Static i) p t h = absurd (name_is_no_number p h.0 t h.2)
@@ -167,15 +167,15 @@ module _ (known : Known) where
   number_there (operand.Buffer i) p t h = absurd (let e = h.is in cc)
   number_there (operand.Mode mode) p t h = absurd (let e = h.is in cc)
   number_there (operand.IsCopy i) p t h = absurd (let e = h.is in cc)
-  number_there operand.Number p t (inl h) = (refl, h.kind, let same : h.term ≡ t = let e : NumberOperand h.term ≡ NumberOperand t = sym h.is in cc in subst (λ (u : Term). TermHasSort known u Jint) same h.sort)
+  number_there operand.Number p t (inl h) = (refl, h.kind, let same : h.term ≡ t = let e : NumberOperand h.term ≡ NumberOperand t = sym h.is in cc in subst (λ (u : Term). TermHasType known u Jint) same h.ty)
   number_there operand.Number p t (inr h) = absurd (let e = h.is in cc)
 
   -- so is a name of a number once it is worked out
-  name_there : (w : Where) (p : ParameterKind) (x : Identifier) (t : Term) → OperandStands known w (p, PassedName x) → step_of known (PassedName x) ≡ Some t → (w ≡ operand.Number) × TakesInt p × TermHasSort known t Jint
+  name_there : (w : Where) (p : ParameterKind) (x : Identifier) (t : Term) → OperandStands known w (p, PassedName x) → step_of known (PassedName x) ≡ Some t → (w ≡ operand.Number) × TakesInt p × TermHasType known t Jint
   name_there operand.Null p x t h e = absurd (let e = h.is in cc)
-  name_there (operand.Local i) p x t h e = absurd (none_open known x t (named_alike known x h.0 (record { sort = Ref; index = i }) (name_is p x h.0 h.2) h.3) e)
+  name_there (operand.Local i) p x t h e = absurd (none_open known x t (named_alike known x h.0 (record { ty = Ref; index = i }) (name_is p x h.0 h.2) h.3) e)
   name_there (operand.Static i) p x t h e =
-      absurd (none_open known x t (named_alike known x h.0 (record { sort = h.3.0; index = i }) (name_is p x h.0 h.2) h.3.2 ∙ static_number h.3.0 h.3.1) e)
+      absurd (none_open known x t (named_alike known x h.0 (record { ty = h.3.0; index = i }) (name_is p x h.0 h.2) h.3.2 ∙ static_number h.3.0 h.3.1) e)
   name_there (operand.FieldId i) p x t h e = absurd (let e = h.2 in cc)
   name_there (operand.MethodId i) p x t h e = absurd (let e = h.2 in cc)
   name_there operand.Text p x t h e = absurd (let e = h.is in cc)
@@ -186,42 +186,42 @@ module _ (known : Known) where
   name_there operand.Number p x t (inl h) e = absurd (let e = h.is in cc)
   name_there operand.Number p x t (inr h) e =
       let same : h.name ≡ x = let e : PassedName h.name ≡ PassedName x = sym h.is in cc in
-      (refl, inr h.kind, subst (λ (u : Term). TermHasSort known u Jint) (passed_open (names_number known x) x t e).1 (subst (λ y. IsVariable known y Jint) same h.there))
+      (refl, inr h.kind, subst (λ (u : Term). TermHasType known u Jint) (passed_open (names_number known x) x t e).1 (subst (λ y. IsVariable known y Jint) same h.there))
 
-  open_there : (w : Where) (p : ParameterKind) (o : Operand) (t : Term) → OperandStands known w (p, o) → step_of known o ≡ Some t → (w ≡ operand.Number) × TakesInt p × TermHasSort known t Jint
+  open_there : (w : Where) (p : ParameterKind) (o : Operand) (t : Term) → OperandStands known w (p, o) → step_of known o ≡ Some t → (w ≡ operand.Number) × TakesInt p × TermHasType known t Jint
   open_there w p (NumberOperand (Done v)) t h e = absurd (cc)
   open_there w p (NumberOperand u) t h e = number_there w p t (subst (λ (v : Term). OperandStands known w (p, NumberOperand v)) (some_same u t e) h)
   open_there w p (PassedName x) t h e = name_there w p x t h e
   open_there w p (Given a) t h e = absurd (cc)
 
-  other_number : (w : Where) (p : ParameterKind) (o : Operand) (t u : Term) → OperandStands known w (p, o) → step_of known o ≡ Some t → TermHasSort known u Jint → OperandStands known w (p, NumberOperand u)
-  other_number w p o t u h e sorted =
+  other_number : (w : Where) (p : ParameterKind) (o : Operand) (t u : Term) → OperandStands known w (p, o) → step_of known o ≡ Some t → TermHasType known u Jint → OperandStands known w (p, NumberOperand u)
+  other_number w p o t u h e well_typed =
       let there = open_there w p o t h e in
-      subst (λ (x : Where). OperandStands known x (p, NumberOperand u)) (sym there.0) (inl (record { kind = there.1; term = u; is = refl; sort = sorted }))
+      subst (λ (x : Where). OperandStands known x (p, NumberOperand u)) (sym there.0) (inl (record { kind = there.1; term = u; is = refl; ty = well_typed }))
 
-  stand_with : (found : List Where) (parameters : List ParameterKind) (operands : List Operand) (u : Term) → TermHasSort known u Jint → AllZip (OperandStands known) found (zip parameters operands)
+  stand_with : (found : List Where) (parameters : List ParameterKind) (operands : List Operand) (u : Term) → TermHasType known u Jint → AllZip (OperandStands known) found (zip parameters operands)
       → AllZip (OperandStands known) found (zip parameters (with_open known operands u))
-  stand_with found [] operands u sorted h = h
-  stand_with found (p ∷ parameters) [] u sorted h = h
-  stand_with [] (p ∷ parameters) (o ∷ operands) u sorted h = absurd h
-  stand_with (w ∷ found) (p ∷ parameters) (o ∷ operands) u sorted h = by (step_of known o) refl (stand_with found parameters operands u sorted h.1)
+  stand_with found [] operands u well_typed h = h
+  stand_with found (p ∷ parameters) [] u well_typed h = h
+  stand_with [] (p ∷ parameters) (o ∷ operands) u well_typed h = absurd h
+  stand_with (w ∷ found) (p ∷ parameters) (o ∷ operands) u well_typed h = by (step_of known o) refl (stand_with found parameters operands u well_typed h.1)
     where
       by : (s : Option Term) → step_of known o ≡ s → AllZip (OperandStands known) found (zip parameters (with_open known operands u))
           → AllZip (OperandStands known) (w ∷ found) (zip (p ∷ parameters) (by_step s (NumberOperand u ∷ operands) (o ∷ with_open known operands u)))
       by None e further = (h.0, further)
-      by (Some t) e further = (other_number w p o t u h.0 e sorted, h.1)
+      by (Some t) e further = (other_number w p o t u h.0 e well_typed, h.1)
 
-  open_is_sorted : (found : List Where) (parameters : List ParameterKind) (operands : List Operand) → length operands ≡ length parameters → are_done known operands ≡ false → AllZip (OperandStands known) found (zip parameters operands) → TermHasSort known (open_term known operands) Jint
-  open_is_sorted found parameters [] count unready h = absurd (cc)
-  open_is_sorted found [] (o ∷ operands) count unready h = absurd (omega (arith, count))
-  open_is_sorted [] (p ∷ parameters) (o ∷ operands) count unready h = absurd h
-  open_is_sorted (w ∷ found) (p ∷ parameters) (o ∷ operands) count unready h = by (step_of known o) refl unready (λ k. open_is_sorted found parameters operands (omega (arith, count)) k h.1)
+  open_is_typed : (found : List Where) (parameters : List ParameterKind) (operands : List Operand) → length operands ≡ length parameters → are_done known operands ≡ false → AllZip (OperandStands known) found (zip parameters operands) → TermHasType known (open_term known operands) Jint
+  open_is_typed found parameters [] count unready h = absurd (cc)
+  open_is_typed found [] (o ∷ operands) count unready h = absurd (omega (arith, count))
+  open_is_typed [] (p ∷ parameters) (o ∷ operands) count unready h = absurd h
+  open_is_typed (w ∷ found) (p ∷ parameters) (o ∷ operands) count unready h = by (step_of known o) refl unready (λ k. open_is_typed found parameters operands (omega (arith, count)) k h.1)
     where
-      by : (s : Option Term) → step_of known o ≡ s → (is_none s && are_done known operands) ≡ false → (are_done known operands ≡ false → TermHasSort known (open_term known operands) Jint) → TermHasSort known (first_term s (open_term known operands)) Jint
+      by : (s : Option Term) → step_of known o ≡ s → (is_none s && are_done known operands) ≡ false → (are_done known operands ≡ false → TermHasType known (open_term known operands) Jint) → TermHasType known (first_term s (open_term known operands)) Jint
       by None e k further = further k
       by (Some t) e k further = (open_there w p o t h.0 e).2
 
--- whether each way of a call returns goes by its target
+-- whether each path of a call returns goes by its target
 returns_alike : (line : ℕ) (target : Target) (f : JniFunction) (a b : List Operand) → task_returns (Invoke line target f a) ≡ task_returns (Invoke line target f b)
 returns_alike line (Declared kind x) f a b = refl
 returns_alike line (Assigned x) f a b = refl
@@ -233,7 +233,7 @@ module _ (code : Listing) (known : Known) (place : ℕ) (stack : List ℕ) (slot
   -- ---- results
 
   -- a number goes into its slot
-  takes_number : (s : Slot) (x : Identifier) (rest : List Task) → IsNumberSort s.sort → IsTrue (list_any task_returns rest) → ResultStands code known (λ p names. TasksStand code names p [] rest) (place + 1) s x → TakesNumber code known place stack slots visible s.sort s.index x rest
+  takes_number : (s : Slot) (x : Identifier) (rest : List Task) → IsNumberType s.ty → IsTrue (list_any task_returns rest) → ResultStands code known (λ p names. TasksStand code names p [] rest) (place + 1) s x → TakesNumber code known place stack slots visible s.ty s.index x rest
   takes_number s x rest n returns h = record {
     within = omega (arith, number_below code known x s n h.own, shows.numbers);
     names = h.further.0;
@@ -242,39 +242,39 @@ module _ (code : Listing) (known : Known) (place : ℕ) (stack : List ℕ) (slot
   }
 
   -- a reference
-  takes_reference : (i : ℕ) (x : Identifier) (rest : List Task) → IsTrue (list_any task_returns rest) → ResultStands code known (λ p names. TasksStand code names p [] rest) (place + 1) (record { sort = Ref; index = i }) x → TakesReference code known place stack slots visible i x rest
+  takes_reference : (i : ℕ) (x : Identifier) (rest : List Task) → IsTrue (list_any task_returns rest) → ResultStands code known (λ p names. TasksStand code names p [] rest) (place + 1) (record { ty = Ref; index = i }) x → TakesReference code known place stack slots visible i x rest
   takes_reference i x rest returns h = record {
     within = omega (arith, h.own.within, shows.references);
     names = h.further.0;
-    shows = λ r new set. fewer_shown code h.further.0 ((x, record { sort = Ref; index = i }) ∷ known) new (record slots { references = slice_set slots.references i r; owners = slice_set slots.owners i (new.owner x) }) h.further.1 (shows_referred code known visible new slots x i r shows h.own set);
+    shows = λ r new set. fewer_shown code h.further.0 ((x, record { ty = Ref; index = i }) ∷ known) new (record slots { references = slice_set slots.references i r; owners = slice_set slots.owners i (new.owner x) }) h.further.1 (shows_referred code known visible new slots x i r shows h.own set);
     stands = record { stand = h.further.2; returns = returns };
   }
 
   -- a field ID
-  takes_field : (i : ℕ) (x : Identifier) (rest : List Task) → IsTrue (list_any task_returns rest) → ResultStands code known (λ p names. TasksStand code names p [] rest) (place + 1) (record { sort = FieldId; index = i }) x → TakesField code known place stack slots visible i x rest
+  takes_field : (i : ℕ) (x : Identifier) (rest : List Task) → IsTrue (list_any task_returns rest) → ResultStands code known (λ p names. TasksStand code names p [] rest) (place + 1) (record { ty = FieldId; index = i }) x → TakesField code known place stack slots visible i x rest
   takes_field i x rest returns h = record {
     within = omega (arith, h.own.within, shows.fields);
     names = h.further.0;
-    shows = λ f new set. fewer_shown code h.further.0 ((x, record { sort = FieldId; index = i }) ∷ known) new (record slots { fields = slice_set slots.fields i (option_map OfField f) }) h.further.1 (shows_field_set code known visible new slots x i f shows h.own set);
+    shows = λ f new set. fewer_shown code h.further.0 ((x, record { ty = FieldId; index = i }) ∷ known) new (record slots { fields = slice_set slots.fields i (option_map OfField f) }) h.further.1 (shows_field_set code known visible new slots x i f shows h.own set);
     stands = record { stand = h.further.2; returns = returns };
   }
 
   -- a method ID
-  takes_method : (i : ℕ) (x : Identifier) (rest : List Task) → IsTrue (list_any task_returns rest) → ResultStands code known (λ p names. TasksStand code names p [] rest) (place + 1) (record { sort = MethodId; index = i }) x → TakesMethod code known place stack slots visible i x rest
+  takes_method : (i : ℕ) (x : Identifier) (rest : List Task) → IsTrue (list_any task_returns rest) → ResultStands code known (λ p names. TasksStand code names p [] rest) (place + 1) (record { ty = MethodId; index = i }) x → TakesMethod code known place stack slots visible i x rest
   takes_method i x rest returns h = record {
     within = omega (arith, h.own.within, shows.fields);
     names = h.further.0;
-    shows = λ m new set. fewer_shown code h.further.0 ((x, record { sort = MethodId; index = i }) ∷ known) new (record slots { fields = slice_set slots.fields i (option_map OfMethod m) }) h.further.1 (shows_method_set code known visible new slots x i m shows h.own set);
+    shows = λ m new set. fewer_shown code h.further.0 ((x, record { ty = MethodId; index = i }) ∷ known) new (record slots { fields = slice_set slots.fields i (option_map OfMethod m) }) h.further.1 (shows_method_set code known visible new slots x i m shows h.own set);
     stands = record { stand = h.further.2; returns = returns };
   }
 
   -- a buffer
-  takes_buffer : (t : ElementType) (writable : Bool) (i : ℕ) (x : Identifier) (rest : List Task) → IsTrue (list_any task_returns rest) → ResultStands code known (λ p names. TasksStand code names p [] rest) (place + 1) (record { sort = Buffer t writable; index = i }) x
+  takes_buffer : (t : ElementType) (writable : Bool) (i : ℕ) (x : Identifier) (rest : List Task) → IsTrue (list_any task_returns rest) → ResultStands code known (λ p names. TasksStand code names p [] rest) (place + 1) (record { ty = Buffer t writable; index = i }) x
       → TakesBuffer code known place stack slots visible t i x rest
   takes_buffer t writable i x rest returns h = record {
     within = omega (arith, h.own.within, shows.buffers);
     names = h.further.0;
-    shows = λ told new now b shown set. fewer_shown code h.further.0 ((x, record { sort = Buffer t writable; index = i }) ∷ known) new (record now { buffers = slice_set now.buffers i b }) h.further.1 (shows_buffer_set code known told new now x t writable i b shown h.own set);
+    shows = λ told new now b shown set. fewer_shown code h.further.0 ((x, record { ty = Buffer t writable; index = i }) ∷ known) new (record now { buffers = slice_set now.buffers i b }) h.further.1 (shows_buffer_set code known told new now x t writable i b shown h.own set);
     stands = record { stand = h.further.2; returns = returns };
   }
 
@@ -286,19 +286,19 @@ module _ (code : Listing) (known : Known) (place : ℕ) (stack : List ℕ) (slot
   goes_into line f operands kind s (Assigned x) rest Takes returns takes shown h = (shown x h.1, takes x returns h.0)
   goes_into line f operands kind s target rest Takes returns takes shown h = absurd h
 
-  is_number_sort : (gives : ResultKind) (s : Sort) → number_sort gives ≡ Some s → IsNumberSort s
-  is_number_sort GivesInt s e = subst IsNumberSort (let same : Jint ≡ s = cc in same) tt
-  is_number_sort GivesFlag s e = subst IsNumberSort (let same : sort.Flag ≡ s = cc in same) tt
-  is_number_sort gives s e = absurd (cc)
+  is_number_type : (gives : ResultKind) (s : ExprType) → number_type gives ≡ Some s → IsNumberType s
+  is_number_type GivesInt s e = subst IsNumberType (let same : Jint ≡ s = cc in same) tt
+  is_number_type GivesFlag s e = subst IsNumberType (let same : ty.Flag ≡ s = cc in same) tt
+  is_number_type gives s e = absurd (cc)
 
-  -- a static is shown, whatever its sort
+  -- a static is shown, whatever its type
   shown_static : (x : Identifier) (i : ℕ) → IsStaticIn known x i → ShowsStatic visible x i
-  shown_static x i (s, is, there) = by_sort s is (shows.each x (record { sort = s; index = i }) there)
+  shown_static x i (s, is, there) = on_type s is (shows.each x (record { ty = s; index = i }) there)
     where
-      by_sort : (s : Sort) → IsStaticSort s → ShowsSlot visible x slots (record { sort = s; index = i }) s → ShowsStatic visible x i
-      by_sort Global is shown = shown
-      by_sort Weak is shown = shown
-      by_sort s is shown = absurd is
+      on_type : (s : ExprType) → IsStaticType s → ShowsSlot visible x slots (record { ty = s; index = i }) s → ShowsStatic visible x i
+      on_type Global is shown = shown
+      on_type Weak is shown = shown
+      on_type s is shown = absurd is
 
   -- a static holds it
   takes_static : (line : ℕ) (f : JniFunction) (operands : List Operand) (i : ℕ) (target : Target) (rest : List Task) → IsTrue (list_any task_returns (Invoke line target f operands ∷ rest)) → StaticStands known (λ p names. TasksStand code names p [] rest) (place + 1) i target
@@ -321,28 +321,28 @@ module _ (code : Listing) (known : Known) (place : ℕ) (stack : List ℕ) (slot
     then' = h.then';
     else' = h.else';
     is = h.is;
-    stands = λ gave_zero. record { stand = h.ways gave_zero; returns = subst (λ (t : Target). IsTrue (list_any task_returns (Invoke line t f operands ∷ rest))) h.is returns };
+    stands = λ gave_zero. record { stand = h.paths gave_zero; returns = subst (λ (t : Target). IsTrue (list_any task_returns (Invoke line t f operands ∷ rest))) h.is returns };
   }
 
   takes_result : (line : ℕ) (f : JniFunction) (operands : List Operand) (goes : Destination) (gives : ResultKind) (target : Target) (rest : List Task) → TargetStands code known (λ p names. TasksStand code names p [] rest) (place + 1) line goes gives target
       → IsTrue (list_any task_returns (Invoke line target f operands ∷ rest)) → TakesResult code known place stack slots visible line goes gives target rest
   takes_result line f operands (destination.Number i) gives target rest h returns =
-      let slot : Slot = record { sort = h.0; index = i } in
-      let n = is_number_sort gives h.0 h.1 in
+      let slot : Slot = record { ty = h.0; index = i } in
+      let n = is_number_type gives h.0 h.1 in
       (h.0, h.1, goes_into line f operands ScalarKind slot target rest (λ x. TakesNumber code known place stack slots visible h.0 i x rest) returns (λ x r stands. takes_number slot x rest n r stands) (λ x found. (shows_number known line slots visible x slot h.0 n (shows.each x slot found)).kind) h.2)
   takes_result line f operands (destination.Local i) gives target rest h returns =
-      let slot : Slot = record { sort = Ref; index = i } in
+      let slot : Slot = record { ty = Ref; index = i } in
       (h.0, goes_into line f operands ReferenceKind slot target rest (λ x. TakesReference code known place stack slots visible i x rest) returns (λ x r stands. takes_reference i x rest r stands) (λ x found. (shows.each x slot found).kind) h.1)
   takes_result line f operands (destination.FieldId i) gives target rest h returns =
-      let slot : Slot = record { sort = FieldId; index = i } in
+      let slot : Slot = record { ty = FieldId; index = i } in
       (h.0, goes_into line f operands FieldKind slot target rest (λ x. TakesField code known place stack slots visible i x rest) returns (λ x r stands. takes_field i x rest r stands) (λ x found. (shows.each x slot found).kind) h.1)
   takes_result line f operands (destination.MethodId i) gives target rest h returns =
-      let slot : Slot = record { sort = MethodId; index = i } in
+      let slot : Slot = record { ty = MethodId; index = i } in
       (h.0, goes_into line f operands MethodKind slot target rest (λ x. TakesMethod code known place stack slots visible i x rest) returns (λ x r stands. takes_method i x rest r stands) (λ x found. (shows.each x slot found).kind) h.1)
   takes_result line f operands (destination.Static i) gives target rest h returns = (h.0, takes_static line f operands i target rest returns h.1)
   takes_result line f operands (destination.Buffer element i) gives target rest h returns =
       let t = h.1.0 in
-      let slot : Slot = record { sort = Buffer t h.1.1; index = i } in
+      let slot : Slot = record { ty = Buffer t h.1.1; index = i } in
       (h.0, (t, h.1.2, goes_into line f operands (BufferKind t) slot target rest (λ x. TakesBuffer code known place stack slots visible t i x rest) returns (λ x r stands. takes_buffer t h.1.1 i x rest r stands) (λ x found. (shows.each x slot found).kind) h.1.3))
   takes_result line f operands destination.Test gives target rest h returns = (h.0, takes_test line f operands target rest returns h.1)
   takes_result line f operands destination.Dropped gives target rest h returns = (h.0, h.1, record { stand = h.2; returns = subst (λ (t : Target). IsTrue (list_any task_returns (Invoke line t f operands ∷ rest))) h.0 returns })
@@ -367,12 +367,12 @@ module _ (code : Listing) (known : Known) (place : ℕ) (stack : List ℕ) (slot
   seen_name : (w : Where) (p : ParameterKind) (x : Identifier) → OperandStands known w (p, PassedName x) → IsSeenAs (names_number known x) (visible.sight.number x)
   seen_name operand.Null p x h = absurd (let e = h.is in cc)
   seen_name (operand.Local i) p x h =
-      let s : Slot = record { sort = Ref; index = i } in
+      let s : Slot = record { ty = Ref; index = i } in
       let same = name_is p x h.0 h.2 in
       subst (λ b. IsSeenAs b (visible.sight.number x)) (sym (named_alike known x h.0 s same h.3)) (ap (λ y. visible.sight.number y) same ∙ (shows.each h.0 s h.3).no_number)
   seen_name (operand.Static i) p x h =
       let same = name_is p x h.0 h.2 in
-      subst (λ b. IsSeenAs b (visible.sight.number x)) (sym (named_alike known x h.0 (record { sort = h.3.0; index = i }) same h.3.2 ∙ static_number h.3.0 h.3.1))
+      subst (λ b. IsSeenAs b (visible.sight.number x)) (sym (named_alike known x h.0 (record { ty = h.3.0; index = i }) same h.3.2 ∙ static_number h.3.0 h.3.1))
       (ap (λ y. visible.sight.number y) same ∙ (shown_static h.0 i h.3).no_variable.number)
   seen_name (operand.FieldId i) p x h = absurd (let e = h.2 in cc)
   seen_name (operand.MethodId i) p x h = absurd (let e = h.2 in cc)
@@ -384,7 +384,7 @@ module _ (code : Listing) (known : Known) (place : ℕ) (stack : List ℕ) (slot
   seen_name operand.Number p x (inl h) = absurd (let e = h.is in cc)
   seen_name operand.Number p x (inr h) =
       let same : x ≡ h.name = let e : PassedName x ≡ PassedName h.name = h.is in cc in
-      let s : Slot = record { sort = Jint; index = h.there.0 } in
+      let s : Slot = record { ty = Jint; index = h.there.0 } in
       let shown = shows.each h.name s h.there.1 in
       subst (λ b. IsSeenAs b (visible.sight.number x)) (sym (named_alike known x h.name s same h.there.1)) (shown.value, ap (λ y. visible.sight.number y) same ∙ shown.is)
 
@@ -400,11 +400,11 @@ module _ (code : Listing) (known : Known) (place : ℕ) (stack : List ℕ) (slot
   are_seen (w ∷ found) (p ∷ parameters) (o ∷ operands) count h = (seen_operand w p o h.0, are_seen found parameters operands (omega (arith, count)) h.1)
 
   -- a number that is worked out
-  number_is : (p : ParameterKind) (t : Term) → step_of known (NumberOperand t) ≡ None → TermHasSort known t Jint → (z : ℤ) × (look_up visible.sight (p, NumberOperand t) ≡ NumberActual z) × FitsSigned w32 z × (held t ≡ word_of (Int z) ∷ [])
+  number_is : (p : ParameterKind) (t : Term) → step_of known (NumberOperand t) ≡ None → TermHasType known t Jint → (z : ℤ) × (look_up visible.sight (p, NumberOperand t) ≡ NumberActual z) × FitsSigned w32 z × (held t ≡ word_of (Int z) ∷ [])
   number_is p (Done (Int z)) ready h = (z, refl, h.0, refl)
-  number_is p (Done (Word n)) ready h = absurd (let e : Jint ≡ sort.Word = h.1 in cc)
-  number_is p (Done (Flag b)) ready h = absurd (let e : Jint ≡ sort.Flag = h in cc)
-  number_is p (Done (Truth b)) ready h = absurd (let e : Jint ≡ sort.Truth = h in cc)
+  number_is p (Done (Word n)) ready h = absurd (let e : Jint ≡ ty.Word = h.1 in cc)
+  number_is p (Done (Flag b)) ready h = absurd (let e : Jint ≡ ty.Flag = h in cc)
+  number_is p (Done (Truth b)) ready h = absurd (let e : Jint ≡ ty.Truth = h in cc)
   number_is p t ready h = absurd (cc)
 
   -- an argument that is ready is found, with its word and its text, and is what its parameter asks for
@@ -457,11 +457,11 @@ module _ (code : Listing) (known : Known) (place : ℕ) (stack : List ℕ) (slot
   is_found (operand.IsCopy i) p given ready h =
       found_as (operand.IsCopy i) p given (Given (tree.AddressOf h.name)) (VariableActual h.name) h.is refl (h.name, refl, h.there) (subst IsVariableKind (sym h.kind) tt) refl refl
   is_found operand.Number p given ready (inr h) =
-      let number : names_number known h.name ≡ true = named_alike known h.name h.name (record { sort = Jint; index = h.there.0 }) refl h.there.1 in
+      let number : names_number known h.name ≡ true = named_alike known h.name h.name (record { ty = Jint; index = h.there.0 }) refl h.there.1 in
       let none = passed_done (names_number known h.name) h.name (ap (step_of known) (sym h.is) ∙ ready) in
       absurd (let c : true ≡ false = sym number ∙ none in cc)
   is_found operand.Number p given ready (inl h) =
-      let number = number_is p h.term (ap (step_of known) (sym h.is) ∙ ready) h.sort in
+      let number = number_is p h.term (ap (step_of known) (sym h.is) ∙ ready) h.ty in
       found_as operand.Number p given (NumberOperand h.term) (NumberActual number.0) h.is number.1 (number.0, refl, number.2) h.kind number.3 refl
 
   none_is : (s : Option Term) → is_none s ≡ true → s ≡ None
@@ -583,9 +583,9 @@ module _ (code : Listing) (known : Known) (place : ℕ) (stack : List ℕ) (slot
         subst (DoesEffect code known place stack slots visible rest)
         (sym (ap (goes_on line (Invoke line target f)) (reduced known visible.sight operands unready seen) ∙ goes_on_inside line (with_open known operands) (Invoke line target f) (reduce visible.sight t)))
         (step_inside code known place stack slots visible shows sees line t Jint (words_under known operands) (rest_after known line operands ++ instr.Call c.call ∷ []) (λ u. Invoke line target f (with_open known operands u)) rest
-        (open_is_open known operands unready) (open_is_sorted known c.call.operands parameters operands c.count unready c.operands_stand) (open_is_begun known operands unready c.begun) under at
+        (open_is_open known operands unready) (open_is_typed known c.call.operands parameters operands c.count unready c.operands_stand) (open_is_begun known operands unready c.begun) under at
         (λ u. subst (λ (b : Bool). IsTrue (b || list_any task_returns rest)) (returns_alike line target f operands (with_open known operands u)) returns)
-        (λ p u sorted begun there size.
+        (λ p u well_typed begun there size.
         let same : operands_rest known line (with_open known operands u) ≡ term_code known line u ++ rest_after known line operands = rest_with known line operands u unready in
         let end : place + length (operands_rest known line operands) + 1 ≡ p + length (operands_rest known line (with_open known operands u)) + 1 =
         omega (arith, size, ap length whole, ap length same, length-append (term_code known line t) (rest_after known line operands), length-append (term_code known line u) (rest_after known line operands)) in
@@ -600,7 +600,7 @@ module _ (code : Listing) (known : Known) (place : ℕ) (stack : List ℕ) (slot
           texts = c.texts ∙ sym (texts_with known operands u);
           count = subst (λ n. n ≡ length (parameters_for f n)) as_many c.count;
           own_slots = c.own_slots;
-          operands_stand = subst (λ n. AllZip (OperandStands known) c.call.operands (zip (parameters_for f n) (with_open known operands u))) as_many (stand_with known c.call.operands parameters operands u sorted c.operands_stand);
+          operands_stand = subst (λ n. AllZip (OperandStands known) c.call.operands (zip (parameters_for f n) (with_open known operands u))) as_many (stand_with known c.call.operands parameters operands u well_typed c.operands_stand);
           goes = subst (λ q. TargetStands code known (λ r names. TasksStand code names r [] rest) q line c.call.target (prototype f).result target) end c.goes;
         }))
 

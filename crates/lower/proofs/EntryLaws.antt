@@ -7,7 +7,7 @@ use Rattle.std.proofs.lemmas.List.{length-replicate}
 use Rattle.std.proofs.lemmas.Option.{slice_get_within}
 use Rattle.base.specs.Bytes.{Identifier, lookup}
 use Rattle.syntax.specs.Tree.{Parameter, ParameterType, IntParameter, ReferenceParameter, Function}
-use Rattle.type_rules.specs.Sorts.{Sort, Jint, Ref, Global, Weak}
+use Rattle.type_rules.specs.ExprTypes.{ExprType, Jint, Ref, Global, Weak}
 use Rattle.semantics.specs.Object.{ObjectValue, Number, Refers, Reference}
 use Rattle.semantics.specs.World.{Invocation}
 use Rattle.semantics.specs.Activation.{entered, parameter_variables}
@@ -19,7 +19,7 @@ use Rattle.code.specs.Depth.{Listing}
 use Rattle.code.proofs.Arrays.{get_replicate}
 use Rattle.code_meaning.specs.Layout.{Slot, Known, parameter_slot, parameter_slots, numbers_after, references_after, numbers_of, references_of, entry_names, entry_layout}
 use Rattle.code_meaning.specs.Slots.{visible_to, type_of_array, kind_of_variable, Slots, ShowsSlot, Shows, ArgumentFits, ArgumentsFit, argument_word, argument_reference, EntrySlots, AreShared, AreOfLowest, ShowsStatic}
-use Rattle.code_meaning.specs.Fits.{AreStatics, IsStaticSort}
+use Rattle.code_meaning.specs.Fits.{AreStatics, IsStaticType}
 use Rattle.code_meaning.proofs.StaticLaws.{null_of}
 use Rattle.lower.proofs.CodePlaces.{get-append_seam}
 
@@ -60,10 +60,10 @@ after_reference slots n r q words references h = record {
 
 -- a number or a reference of an argument, and its slot
 abbrev NumberFound : Slots → Slot → Option Variable → Type 0
-NumberFound slots s v = (z : ℤ) × (i : ℕ) × (s ≡ record { sort = Jint; index = i }) × (v ≡ Some (Scalar (Int z))) × FitsSigned w32 z × (slice_get slots.numbers i ≡ Some (cast_unsigned w32 z))
+NumberFound slots s v = (z : ℤ) × (i : ℕ) × (s ≡ record { ty = Jint; index = i }) × (v ≡ Some (Scalar (Int z))) × FitsSigned w32 z × (slice_get slots.numbers i ≡ Some (cast_unsigned w32 z))
 
 abbrev ReferenceFound : Slots → Slot → Option Variable → Type 0
-ReferenceFound slots s v = (q : Reference) × (i : ℕ) × (s ≡ record { sort = Ref; index = i }) × (v ≡ Some (LocalRef 1 q)) × (slice_get slots.references i ≡ Some q)
+ReferenceFound slots s v = (q : Reference) × (i : ℕ) × (s ≡ record { ty = Ref; index = i }) × (v ≡ Some (LocalRef 1 q)) × (slice_get slots.references i ≡ Some q)
 
 abbrev Found : Slots → Slot → Option Variable → Type 0
 Found slots s v = NumberFound slots s v ⊎ ReferenceFound slots s v
@@ -128,11 +128,11 @@ module _ (statics : Known) (f : Function) (code : Listing) (known : AreStatics s
       let below : i < code.slots.references = omega (arith, slice_get_within slots.references i q there, entry.references) in
       ap (λ (owners : List (Option ℕ)). slice_get owners i) entry.owners ∙ get_replicate code.slots.references (Some 1) i below
 
-  found_shown : (x : Identifier) (s : Slot) → Found slots s (lookup x ((f.class_name, LocalRef 1 (Some class)) ∷ parameter_variables (zip f.parameters arguments))) → ShowsSlot (visible_to own shared (entered thread calls f class arguments)) x slots s s.sort
+  found_shown : (x : Identifier) (s : Slot) → Found slots s (lookup x ((f.class_name, LocalRef 1 (Some class)) ∷ parameter_variables (zip f.parameters arguments))) → ShowsSlot (visible_to own shared (entered thread calls f class arguments)) x slots s s.ty
   found_shown x s (inl (z, i, is, variable, fits, there)) =
-      subst (λ (t : Slot). ShowsSlot (visible_to own shared (entered thread calls f class arguments)) x slots t t.sort) (sym is) (record { value = Int z; is = ap scalar variable; kind = ap kind_of_variable variable; sort = (fits, refl); word = there })
+      subst (λ (t : Slot). ShowsSlot (visible_to own shared (entered thread calls f class arguments)) x slots t t.ty) (sym is) (record { value = Int z; is = ap scalar variable; kind = ap kind_of_variable variable; ty = (fits, refl); word = there })
   found_shown x s (inr (q, i, is, variable, there)) =
-      subst (λ (t : Slot). ShowsSlot (visible_to own shared (entered thread calls f class arguments)) x slots t t.sort) (sym is) (record {
+      subst (λ (t : Slot). ShowsSlot (visible_to own shared (entered thread calls f class arguments)) x slots t t.ty) (sym is) (record {
         reference = q;
         is = ap (λ (v : Option Variable). held_reference v (lookup x shared.statics)) variable;
         is_null = ap (λ (v : Option Variable). holds_null v (lookup x shared.statics)) variable;
@@ -144,7 +144,7 @@ module _ (statics : Known) (f : Function) (code : Listing) (known : AreStatics s
 
   entry_found : (x : Identifier) (s : Slot) → lookup x (entry_names f) ≡ Some s → Found slots s (lookup x ((f.class_name, LocalRef 1 (Some class)) ∷ parameter_variables (zip f.parameters arguments)))
   entry_found x s at =
-      at_name slots (bytes_eq x f.class_name) (record { sort = Ref; index = 0 }) s (LocalRef 1 (Some class)) (lookup x (parameter_slots f.parameters 0 1)) (lookup x (parameter_variables (zip f.parameters arguments)))
+      at_name slots (bytes_eq x f.class_name) (record { ty = Ref; index = 0 }) s (LocalRef 1 (Some class)) (lookup x (parameter_slots f.parameters 0 1)) (lookup x (parameter_variables (zip f.parameters arguments)))
       (inr (Some class, 0, refl, refl, ap (λ (q : List Reference). slice_get q 0) entry.given))
       (parameters_found slots x s f.parameters arguments 0 1 fit (record {
         numbers_front = [];
@@ -158,25 +158,25 @@ module _ (statics : Known) (f : Function) (code : Listing) (known : AreStatics s
       })) at
 
   entry_none : (x : Identifier) → lookup x (entry_names f) ≡ None → lookup x ((f.class_name, LocalRef 1 (Some class)) ∷ parameter_variables (zip f.parameters arguments)) ≡ None
-  entry_none x h = none_after (bytes_eq x f.class_name) (record { sort = Ref; index = 0 }) (LocalRef 1 (Some class)) (lookup x (parameter_slots f.parameters 0 1)) (lookup x (parameter_variables (zip f.parameters arguments))) (no_parameter x f.parameters arguments 0 1) h
+  entry_none x h = none_after (bytes_eq x f.class_name) (record { ty = Ref; index = 0 }) (LocalRef 1 (Some class)) (lookup x (parameter_slots f.parameters 0 1)) (lookup x (parameter_variables (zip f.parameters arguments))) (no_parameter x f.parameters arguments 0 1) h
 
-  static_shown : (x : Identifier) (s : Slot) → lookup x (entry_names f) ≡ None → lookup x statics ≡ Some s → ShowsSlot (visible_to own shared (entered thread calls f class arguments)) x slots s s.sort
+  static_shown : (x : Identifier) (s : Slot) → lookup x (entry_names f) ≡ None → lookup x statics ≡ Some s → ShowsSlot (visible_to own shared (entered thread calls f class arguments)) x slots s s.ty
   static_shown x s none at =
       let variable = entry_none x none in
       let held = there x s at in
-      by_sort s.sort (known x s at).0 (record {
+      on_type s.ty (known x s at).0 (record {
         static = held;
         no_variable = record { number = ap scalar variable; array_type = ap type_of_array variable; kind = ap kind_of_variable variable };
         is_null = ap (λ (v : Option Variable). holds_null v (lookup x shared.statics)) variable ∙ ap (λ (v : Option StaticReference). holds_null None v) held.there ∙ null_of held.held;
         reference = ap (λ (v : Option Variable). held_reference v (lookup x shared.statics)) variable ∙ ap (λ (v : Option StaticReference). held_reference None v) held.there;
       })
     where
-      by_sort : (k : Sort) → IsStaticSort k → ShowsStatic (visible_to own shared (entered thread calls f class arguments)) x s.index → ShowsSlot (visible_to own shared (entered thread calls f class arguments)) x slots s k
-      by_sort Global is shown = shown
-      by_sort Weak is shown = shown
-      by_sort k is shown = absurd is
+      on_type : (k : ExprType) → IsStaticType k → ShowsStatic (visible_to own shared (entered thread calls f class arguments)) x s.index → ShowsSlot (visible_to own shared (entered thread calls f class arguments)) x slots s k
+      on_type Global is shown = shown
+      on_type Weak is shown = shown
+      on_type k is shown = absurd is
 
-  either_shown : (x : Identifier) (s : Slot) → (lookup x (entry_names f) ≡ Some s) ⊎ ((lookup x (entry_names f) ≡ None) × (lookup x statics ≡ Some s)) → ShowsSlot (visible_to own shared (entered thread calls f class arguments)) x slots s s.sort
+  either_shown : (x : Identifier) (s : Slot) → (lookup x (entry_names f) ≡ Some s) ⊎ ((lookup x (entry_names f) ≡ None) × (lookup x statics ≡ Some s)) → ShowsSlot (visible_to own shared (entered thread calls f class arguments)) x slots s s.ty
   either_shown x s (inl h) = found_shown x s (entry_found x s h)
   either_shown x s (inr h) = static_shown x s h.0 h.1
 

@@ -21,7 +21,7 @@ use Rattle.lower.proofs.CodePlaces.{has_front, has_all}
 use Rattle.lower.proofs.Layouts.{block_grows}
 use Rattle.lower.proofs.Bodies.{begins}
 use Rattle.lower.proofs.BlockSteps.{steps}
-use Rattle.lower.proofs.WaysReturn.{block_tasks_return}
+use Rattle.lower.proofs.PathsReturn.{block_tasks_return}
 use Rattle.lower.proofs.Validity.{block_piece}
 use Rattle.lower.proofs.Within.{both_within, block_within}
 use Rattle.lower.proofs.EntryLaws.{entry_shows, counts}

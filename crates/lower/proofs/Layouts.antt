@@ -4,12 +4,12 @@ use Rattle.base.specs.Bytes.{Identifier, lookup}
 use Rattle.base.specs.Element.{JChar}
 use Rattle.syntax.specs.Tree as tree
 use Rattle.syntax.specs.Tree.{Stmt, Block, End, Next}
-use Rattle.type_rules.specs.Sorts.{Sort, Word, Jint, Flag, Truth, Ref, Global, Weak, FieldId, MethodId, Buffer, Array}
-use Rattle.type_rules.specs.SortRules.{variable_sort}
+use Rattle.type_rules.specs.ExprTypes.{ExprType, Word, Jint, Flag, Truth, Ref, Global, Weak, FieldId, MethodId, Buffer, Array}
+use Rattle.type_rules.specs.TypeRules.{variable_type}
 use Rattle.code.specs.declared.slots.SlotCounts.{SlotCounts}
 use Rattle.code.specs.Depth.{Listing}
 use Rattle.code_meaning.specs.Layout.{Slot, Known, Layout, next_index, slots_after, new_slot, with_name, closed, layout_after, block_layout}
-use Rattle.code_meaning.specs.Fits.{IndexWithin, IsPlaceOf, IsBufferSort, IsHandleSort, AreApart, IsOwn, IsLaidOut, HasRoomFor, StmtFits}
+use Rattle.code_meaning.specs.Fits.{IndexWithin, IsPlaceOf, IsBufferType, IsHandleType, AreApart, IsOwn, IsLaidOut, HasRoomFor, StmtFits}
 use Rattle.code_meaning.specs.Stands.{AreAmong, IsSlotOf}
 use Rattle.code_meaning.proofs.SlotLaws.{first_or_after, new_among, all_among}
 
@@ -35,7 +35,7 @@ more_slots a b c h k = record {
   buffers = omega (arith, h.buffers, k.buffers);
 }
 
-pub slots_grow : (s : Sort) (c : SlotCounts) → AtLeast c (slots_after s c)
+pub slots_grow : (s : ExprType) (c : SlotCounts) → AtLeast c (slots_after s c)
 slots_grow Word c = record { numbers = omega arith; references = omega arith; statics = omega arith; field_ids = omega arith; buffers = omega arith }
 slots_grow Jint c = record { numbers = omega arith; references = omega arith; statics = omega arith; field_ids = omega arith; buffers = omega arith }
 slots_grow Flag c = record { numbers = omega arith; references = omega arith; statics = omega arith; field_ids = omega arith; buffers = omega arith }
@@ -50,7 +50,7 @@ slots_grow (Array t n) c = record { numbers = omega arith; references = omega ar
 
 mutual
   pub stmt_grows : (s : Stmt) (l : Layout) → AtLeast l.slots (layout_after l s).slots
-  stmt_grows (tree.Declare line t x r) l = slots_grow (variable_sort t) l.slots
+  stmt_grows (tree.Declare line t x r) l = slots_grow (variable_type t) l.slots
   stmt_grows (tree.DeclareBuffer line t x r) l = slots_grow (Buffer t true) l.slots
   stmt_grows (tree.DeclareChars line x r) l = slots_grow (Buffer JChar false) l.slots
   stmt_grows (tree.DeclareArray line t x size) l = slots_grow (Array t size) l.slots
@@ -83,7 +83,7 @@ room_at_least slots taken h = record { numbers = h.numbers; references = h.refer
 
 -- ---- slots stay where they are
 
-pub index_more : (a b : SlotCounts) (s : Sort) (i : ℕ) → AtLeast a b → IndexWithin a s i → IndexWithin b s i
+pub index_more : (a b : SlotCounts) (s : ExprType) (i : ℕ) → AtLeast a b → IndexWithin a s i → IndexWithin b s i
 index_more a b Word i h k = omega (arith, h.numbers, k)
 index_more a b Jint i h k = omega (arith, h.numbers, k)
 index_more a b Flag i h k = omega (arith, h.numbers, k)
@@ -97,17 +97,17 @@ index_more a b (Buffer t w) i h k = omega (arith, h.buffers, k)
 index_more a b (Array t n) i h k = (k.0, k.1, omega (arith, h.numbers, k.2))
 
 pub laid_more : (known : Known) (a b : SlotCounts) → AtLeast a b → IsLaidOut known a → IsLaidOut known b
-laid_more known a b h laid = record { within = λ x s at. index_more a b s.sort s.index h (laid.within x s at); own = laid.own }
+laid_more known a b h laid = record { within = λ x s at. index_more a b s.ty s.index h (laid.within x s at); own = laid.own }
 
 -- ---- one name more
 
 -- an array has some elements, and not too many; no variable is a truth
-abbrev pub SizeFits : Sort → Type 0
+abbrev pub SizeFits : ExprType → Type 0
 SizeFits (Array t n) = (0 < n) × (n ≤ 1024)
 SizeFits Truth = ⊥
 SizeFits s = Unit {0}
 
-new_within : (s : Sort) (c : SlotCounts) → SizeFits s → IndexWithin (slots_after s c) s (next_index s c)
+new_within : (s : ExprType) (c : SlotCounts) → SizeFits s → IndexWithin (slots_after s c) s (next_index s c)
 new_within Word c h = omega arith
 new_within Jint c h = omega arith
 new_within Flag c h = omega arith
@@ -120,7 +120,7 @@ new_within MethodId c h = omega arith
 new_within (Buffer t w) c h = omega arith
 new_within (Array t n) c h = (h.0, h.1, omega arith)
 
-new_above : (s : Sort) (c : SlotCounts) (k : ℕ) → IsPlaceOf (record { sort = s; index = next_index s c }) k → c.numbers ≤ k
+new_above : (s : ExprType) (c : SlotCounts) (k : ℕ) → IsPlaceOf (record { ty = s; index = next_index s c }) k → c.numbers ≤ k
 new_above Word c k h = h.0
 new_above Jint c k h = h.0
 new_above Flag c k h = h.0
@@ -133,7 +133,7 @@ new_above MethodId c k h = absurd (omega (arith, h.0, h.1))
 new_above (Buffer t w) c k h = absurd (omega (arith, h.0, h.1))
 new_above (Array t n) c k h = h.0
 
-place_below : (s : Sort) (i : ℕ) (c : SlotCounts) (k : ℕ) → IndexWithin c s i → IsPlaceOf (record { sort = s; index = i }) k → k < c.numbers
+place_below : (s : ExprType) (i : ℕ) (c : SlotCounts) (k : ℕ) → IndexWithin c s i → IsPlaceOf (record { ty = s; index = i }) k → k < c.numbers
 place_below Word i c k w h = omega (arith, w, h.0, h.1)
 place_below Jint i c k w h = omega (arith, w, h.0, h.1)
 place_below Flag i c k w h = omega (arith, w, h.0, h.1)
@@ -146,40 +146,40 @@ place_below MethodId i c k w h = absurd (omega (arith, h.0, h.1))
 place_below (Buffer t wr) i c k w h = absurd (omega (arith, h.0, h.1))
 place_below (Array t n) i c k w h = omega (arith, w.2, h.0, h.1)
 
-buffer_within : (c : SlotCounts) (s : Sort) (i : ℕ) → IsBufferSort s → IndexWithin c s i → i < c.buffers
+buffer_within : (c : SlotCounts) (s : ExprType) (i : ℕ) → IsBufferType s → IndexWithin c s i → i < c.buffers
 buffer_within c (Buffer t w) i b h = h
 buffer_within c s i b h = absurd b
 
-buffer_next : (c : SlotCounts) (s : Sort) → IsBufferSort s → next_index s c ≡ c.buffers
+buffer_next : (c : SlotCounts) (s : ExprType) → IsBufferType s → next_index s c ≡ c.buffers
 buffer_next c (Buffer t w) b = refl
 buffer_next c s b = absurd b
 
-handle_within : (c : SlotCounts) (s : Sort) (i : ℕ) → IsHandleSort s → IndexWithin c s i → i < c.field_ids
+handle_within : (c : SlotCounts) (s : ExprType) (i : ℕ) → IsHandleType s → IndexWithin c s i → i < c.field_ids
 handle_within c FieldId i b h = h
 handle_within c MethodId i b h = h
 handle_within c s i b h = absurd b
 
-handle_next : (c : SlotCounts) (s : Sort) → IsHandleSort s → next_index s c ≡ c.field_ids
+handle_next : (c : SlotCounts) (s : ExprType) → IsHandleType s → next_index s c ≡ c.field_ids
 handle_next c FieldId b = refl
 handle_next c MethodId b = refl
 handle_next c s b = absurd b
 
-new_apart : (s : Sort) (l : Layout) (x : Identifier) (t : Slot) → IsLaidOut l.known l.slots → lookup x l.known ≡ Some t → AreApart t (new_slot s l)
+new_apart : (s : ExprType) (l : Layout) (x : Identifier) (t : Slot) → IsLaidOut l.known l.slots → lookup x l.known ≡ Some t → AreApart t (new_slot s l)
 new_apart s l x t laid at = record {
   numbers = λ k p q.
-      let below : k < l.slots.numbers = place_below t.sort t.index l.slots k (laid.within x t at) p in
+      let below : k < l.slots.numbers = place_below t.ty t.index l.slots k (laid.within x t at) p in
       let above : l.slots.numbers ≤ k = new_above s l.slots k q in
       absurd (omega (arith, below, above));
   references = λ e e' same.
-      let below : t.index < l.slots.references = subst (λ (r : Sort). IndexWithin l.slots r t.index) e (laid.within x t at) in
-      let next : next_index s l.slots ≡ l.slots.references = ap (λ (r : Sort). next_index r l.slots) e' in
+      let below : t.index < l.slots.references = subst (λ (r : ExprType). IndexWithin l.slots r t.index) e (laid.within x t at) in
+      let next : next_index s l.slots ≡ l.slots.references = ap (λ (r : ExprType). next_index r l.slots) e' in
       absurd (omega (arith, below, next, same));
   fields = λ b b' same.
-      let below = handle_within l.slots t.sort t.index b (laid.within x t at) in
+      let below = handle_within l.slots t.ty t.index b (laid.within x t at) in
       let next = handle_next l.slots s b' in
       absurd (omega (arith, below, next, same));
   buffers = λ b b' same.
-      let below = buffer_within l.slots t.sort t.index b (laid.within x t at) in
+      let below = buffer_within l.slots t.ty t.index b (laid.within x t at) in
       let next = buffer_next l.slots s b' in
       absurd (omega (arith, below, next, same));
 }
@@ -187,21 +187,21 @@ new_apart s l x t laid at = record {
 apart_back : (s t : Slot) → AreApart s t → AreApart t s
 apart_back s t h = record { numbers = λ k p q. h.numbers k q p; references = λ e e' same. h.references e' e (sym same); fields = λ b b' same. h.fields b' b (sym same); buffers = λ b b' same. h.buffers b' b (sym same) }
 
-pub new_own : (s : Sort) (l : Layout) (x : Identifier) → IsLaidOut l.known l.slots → IsOwn l.known x (new_slot s l)
+pub new_own : (s : ExprType) (l : Layout) (x : Identifier) → IsLaidOut l.known l.slots → IsOwn l.known x (new_slot s l)
 new_own s l x laid y t at other = new_apart s l y t laid at
 
-pub declared_slot : (code : Listing) (s : Sort) (l : Layout) (x : Identifier) → SizeFits s → IsLaidOut l.known l.slots → HasRoomFor code.slots (slots_after s l.slots) → IsSlotOf code l.known x (new_slot s l)
+pub declared_slot : (code : Listing) (s : ExprType) (l : Layout) (x : Identifier) → SizeFits s → IsLaidOut l.known l.slots → HasRoomFor code.slots (slots_after s l.slots) → IsSlotOf code l.known x (new_slot s l)
 declared_slot code s l x size laid room = record {
   within = index_more (slots_after s l.slots) code.slots s (next_index s l.slots) (room_at_least code.slots (slots_after s l.slots) room) (new_within s l.slots size);
   own = new_own s l x laid;
 }
 
-pub laid_declared : (s : Sort) (l : Layout) (x : Identifier) → SizeFits s → IsLaidOut l.known l.slots → IsLaidOut (with_name x s l).known (with_name x s l).slots
+pub laid_declared : (s : ExprType) (l : Layout) (x : Identifier) → SizeFits s → IsLaidOut l.known l.slots → IsLaidOut (with_name x s l).known (with_name x s l).slots
 laid_declared s l x size laid = record {
   within = λ y t at.
-      first_or_after x y (new_slot s l) t l.known (IndexWithin (slots_after s l.slots) t.sort t.index)
-      (λ same is. subst (λ (r : Slot). IndexWithin (slots_after s l.slots) r.sort r.index) is (new_within s l.slots size))
-      (λ other h. index_more l.slots (slots_after s l.slots) t.sort t.index (slots_grow s l.slots) (laid.within y t h)) at;
+      first_or_after x y (new_slot s l) t l.known (IndexWithin (slots_after s l.slots) t.ty t.index)
+      (λ same is. subst (λ (r : Slot). IndexWithin (slots_after s l.slots) r.ty r.index) is (new_within s l.slots size))
+      (λ other h. index_more l.slots (slots_after s l.slots) t.ty t.index (slots_grow s l.slots) (laid.within y t h)) at;
   own = λ y t at z u at' other.
       first_or_after x y (new_slot s l) t l.known (AreApart u t)
       (λ same is.
@@ -217,7 +217,7 @@ laid_declared s l x size laid = record {
 
 -- ---- after a statement
 
-scalar_size : (t : tree.VariableType) → SizeFits (variable_sort t)
+scalar_size : (t : tree.VariableType) → SizeFits (variable_type t)
 scalar_size tree.UInt32 = tt
 scalar_size tree.JIntVariable = tt
 scalar_size tree.JSize = tt
@@ -226,11 +226,11 @@ scalar_size tree.JFieldId = tt
 scalar_size tree.JMethodId = tt
 scalar_size (tree.ReferenceVariable r) = tt
 
-pub variable_size : (t : tree.VariableType) → SizeFits (variable_sort t)
+pub variable_size : (t : tree.VariableType) → SizeFits (variable_type t)
 variable_size t = scalar_size t
 
 pub laid_after : (s : Stmt) (l : Layout) → StmtFits l s → IsLaidOut l.known l.slots → IsLaidOut (layout_after l s).known (layout_after l s).slots
-laid_after (tree.Declare line t x r) l fits laid = laid_declared (variable_sort t) l x (variable_size t) laid
+laid_after (tree.Declare line t x r) l fits laid = laid_declared (variable_type t) l x (variable_size t) laid
 laid_after (tree.DeclareBuffer line t x r) l fits laid = laid_declared (Buffer t true) l x tt laid
 laid_after (tree.DeclareChars line x r) l fits laid = laid_declared (Buffer JChar false) l x tt laid
 laid_after (tree.DeclareArray line t x size) l fits laid = laid_declared (Array t size) l x (fits.1, fits.2) laid
@@ -241,7 +241,7 @@ laid_after s l fits laid = laid
 
 -- what was known before a statement is known after it
 pub known_after_stmt : (s : Stmt) (l : Layout) → StmtFits l s → AreAmong l.known (layout_after l s).known
-known_after_stmt (tree.Declare line t x r) l fits = new_among x (new_slot (variable_sort t) l) l.known fits.0
+known_after_stmt (tree.Declare line t x r) l fits = new_among x (new_slot (variable_type t) l) l.known fits.0
 known_after_stmt (tree.DeclareBuffer line t x r) l fits = new_among x (new_slot (Buffer t true) l) l.known fits.0
 known_after_stmt (tree.DeclareChars line x r) l fits = new_among x (new_slot (Buffer JChar false) l) l.known fits.0
 known_after_stmt (tree.DeclareArray line t x size) l fits = new_among x (new_slot (Array t size) l) l.known fits.0

@@ -10,9 +10,9 @@ use Rattle.syntax.specs.Tree.{ResultType, Void, IntResult, ReferenceResult, Logi
 use Rattle.base.specs.Element.{JChar}
 use Rattle.jni.specs.JniFunction.{function_named, parameters_for}
 use Rattle.jni.specs.Prototype.{ParameterKind, IntNumber, Passed}
-use Rattle.type_rules.specs.Sorts.{Sort, Jint, Ref, Global, Weak, FieldId, MethodId, Buffer, Array, constant_sort, sort_in, sort_of, is_jint, is_ref, is_null, name_sort}
-use Rattle.type_rules.specs.Sorts as sort
-use Rattle.type_rules.specs.SortRules.{variable_sort, return_fits, places_within, places_of}
+use Rattle.type_rules.specs.ExprTypes.{ExprType, Jint, Ref, Global, Weak, FieldId, MethodId, Buffer, Array, constant_type, type_in, type_of, is_jint, is_ref, is_null, name_type}
+use Rattle.type_rules.specs.ExprTypes as ty
+use Rattle.type_rules.specs.TypeRules.{variable_type, return_fits, places_within, places_of}
 use Rattle.code.specs.declared.instr.Target.{Target}
 use Rattle.code.specs.declared.instr.Target.TheVariants as destination
 use Rattle.code.specs.declared.instr.Instr.{Instr}
@@ -20,14 +20,14 @@ use Rattle.code.specs.declared.instr.Instr.TheVariants as instr
 use Rattle.semantics.specs.Term as term
 use Rattle.semantics.specs.Term.{Term, Done, Read, IsNull, Prefix, And, Or, Binary, binary_term, term_of}
 use Rattle.code_meaning.specs.Layout.{Slot, Known, Layout, new_slot, closed, layout_after, block_layout}
-use Rattle.code_meaning.specs.Coding.{arguments_texts, result_target, nullable_of, test_of, store_of, null_code, element_code, write_code, of_slot, load_code, prefix_code, operator_code, is_signed, skip_code, term_code, expr_code, named_call_code, value_code, right_code, assign_code, returned_code, return_code, test_code, ways_code, if_code, turn_code, loop_code, stmt_code, block_code, argument_code, arguments_code, passed_rest, number_code, operand_code}
-use Rattle.code_meaning.specs.Fits.{IsNullable, HasElements, TermHasSort, NumberFits, PassedFits, ArgumentFits, CallFits, ValueFits, RightFits, TestFits, ReturnFits, StmtFits, BlockFits}
+use Rattle.code_meaning.specs.Coding.{arguments_texts, result_target, nullable_of, test_of, store_of, null_code, element_code, write_code, of_slot, load_code, prefix_code, operator_code, is_signed, skip_code, term_code, expr_code, named_call_code, value_code, right_code, assign_code, returned_code, return_code, test_code, paths_code, if_code, turn_code, loop_code, stmt_code, block_code, argument_code, arguments_code, passed_rest, number_code, operand_code}
+use Rattle.code_meaning.specs.Fits.{IsNullable, HasElements, TermHasType, NumberFits, PassedFits, ArgumentFits, CallFits, ValueFits, RightFits, TestFits, ReturnFits, StmtFits, BlockFits}
 use Rattle.code_meaning.specs.Length.{binary_steps, expr_steps, passed_steps, argument_steps, arguments_steps, call_steps, value_steps, right_steps, test_steps, return_steps, stmt_steps, block_steps}
 use Rattle.lower.proofs.Bodies.{one_write}
-use Rattle.lower.proofs.SortFacts.{scope_of, slot_of_name}
+use Rattle.lower.proofs.TypeFacts.{scope_of, slot_of_name}
 use Rattle.lower.proofs.StatementFacts.{jint_is, ref_is}
 use Rattle.type_rules.proofs.PlaceLists.{AreUnbroken}
-use Rattle.type_rules.proofs.KeptPlaces.{own_kept, inside_kept, block_kept, ways_kept}
+use Rattle.type_rules.proofs.KeptPlaces.{own_kept, inside_kept, block_kept, paths_kept}
 use Rattle.lower.proofs.BodyFacts.{scope_after}
 use Rattle.lower.proofs.NamesOnce.{IntsAgree, StmtsAgree, both_agree, own_agrees, agree_after}
 
@@ -68,7 +68,7 @@ steps_of_term (tree.Prefix op e) = let inside = steps_of_term e in omega arith
 steps_of_term (tree.Binary op a b) = operator_steps op a b (steps_of_term a) (steps_of_term b)
 steps_of_term (tree.Paren e) = steps_of_term e
 
-null_length : (equal : Bool) (s : Sort) (i : ℕ) → IsNullable s → length (test_of equal (nullable_of s i)) ≡ 1
+null_length : (equal : Bool) (s : ExprType) (i : ℕ) → IsNullable s → length (test_of equal (nullable_of s i)) ≡ 1
 null_length equal Ref i h = refl
 null_length equal Global i h = refl
 null_length equal FieldId i h = refl
@@ -77,7 +77,7 @@ null_length equal (Buffer t w) i h = refl
 null_length equal s i h = absurd h
 
 -- an element is read by one instruction
-one_read : (line : ℕ) (s : Sort) (i : ℕ) → HasElements s → length (element_code line s i) ≡ 1
+one_read : (line : ℕ) (s : ExprType) (i : ℕ) → HasElements s → length (element_code line s i) ≡ 1
 one_read line (Array t n) i h = refl
 one_read line (Buffer t w) i h = refl
 one_read line s i h = absurd h
@@ -92,7 +92,7 @@ after_two a b last m n left right = omega (arith, length-append a (b ++ last ∷
 between : (a b : List Instr) (middle : Instr) (m n : ℕ) → length a ≡ m → length b ≡ n → length (a ++ middle ∷ b) ≡ m + n + 1
 between a b middle m n left right = omega (arith, length-append a (middle ∷ b))
 
-term_length : (known : Known) (line : ℕ) (t : Term) (s : Sort) → TermHasSort known t s → length (term_code known line t) ≡ term_steps t
+term_length : (known : Known) (line : ℕ) (t : Term) (s : ExprType) → TermHasType known t s → length (term_code known line t) ≡ term_steps t
 term_length known line (Done v) s h = refl
 term_length known line (term.Number n unsigned) s h = refl
 term_length known line (term.Named tree.True) s h = refl
@@ -101,26 +101,26 @@ term_length known line (term.Named c) s h = absurd h
 term_length known line (Read x) s h = ap (λ o. length (of_slot load_code o)) h.1
 term_length known line (term.Element x t) s h =
     let inside = term_length known line t h.0 h.2 in
-    let last : length (of_slot (element_code line) (lookup x known)) ≡ 1 = ap (λ o. length (of_slot (element_code line) o)) h.3.1 ∙ one_read line h.3.0.sort h.3.0.index h.3.2 in
+    let last : length (of_slot (element_code line) (lookup x known)) ≡ 1 = ap (λ o. length (of_slot (element_code line) o)) h.3.1 ∙ one_read line h.3.0.ty h.3.0.index h.3.2 in
     omega (arith, length-append (term_code known line t) (of_slot (element_code line) (lookup x known)))
-term_length known line (IsNull equal x) s h = ap (λ o. length (null_code equal o)) h.0.1 ∙ null_length equal h.0.0.sort h.0.0.index h.0.2
-term_length known line (Prefix LogicalNot t) s h = after_one (term_code known line t) (prefix_code LogicalNot) (term_steps t) (term_length known line t sort.Truth h.0)
-term_length known line (Prefix Complement t) s h = after_one (term_code known line t) (prefix_code Complement) (term_steps t) (term_length known line t sort.Word h.0)
+term_length known line (IsNull equal x) s h = ap (λ o. length (null_code equal o)) h.0.1 ∙ null_length equal h.0.0.ty h.0.0.index h.0.2
+term_length known line (Prefix LogicalNot t) s h = after_one (term_code known line t) (prefix_code LogicalNot) (term_steps t) (term_length known line t ty.Truth h.0)
+term_length known line (Prefix Complement t) s h = after_one (term_code known line t) (prefix_code Complement) (term_steps t) (term_length known line t ty.Word h.0)
 term_length known line (Prefix ToWord t) s h = after_one (term_code known line t) (prefix_code ToWord) (term_steps t) (term_length known line t h.0 h.2)
 term_length known line (Prefix ToInt t) s h = after_one (term_code known line t) (prefix_code ToInt) (term_steps t) (term_length known line t h.0 h.2)
 term_length known line (And a b) s h =
-    between (term_code known line a) (term_code known line b) (skip_code true (length (term_code known line b))) (term_steps a) (term_steps b) (term_length known line a sort.Truth h.0) (term_length known line b sort.Truth h.1)
+    between (term_code known line a) (term_code known line b) (skip_code true (length (term_code known line b))) (term_steps a) (term_steps b) (term_length known line a ty.Truth h.0) (term_length known line b ty.Truth h.1)
 term_length known line (Or a b) s h =
-    between (term_code known line a) (term_code known line b) (skip_code false (length (term_code known line b))) (term_steps a) (term_steps b) (term_length known line a sort.Truth h.0) (term_length known line b sort.Truth h.1)
+    between (term_code known line a) (term_code known line b) (skip_code false (length (term_code known line b))) (term_steps a) (term_steps b) (term_length known line a ty.Truth h.0) (term_length known line b ty.Truth h.1)
 term_length known line (Binary op a b) s h =
     after_two (term_code known line a) (term_code known line b) (operator_code line (is_signed known a) op) (term_steps a) (term_steps b) (term_length known line a h.0 h.2) (term_length known line b h.0 h.3)
 
-expr_length : (known : Known) (line : ℕ) (e : Expr) (s : Sort) → NumberFits known (term_of e) s → length (expr_code known line e) ≡ expr_steps e
-expr_length known line e s h = term_length known line (term_of e) s h.sort ∙ sym (steps_of_term e)
+expr_length : (known : Known) (line : ℕ) (e : Expr) (s : ExprType) → NumberFits known (term_of e) s → length (expr_code known line e) ≡ expr_steps e
+expr_length known line e s h = term_length known line (term_of e) s h.ty ∙ sym (steps_of_term e)
 
 -- ---- right sides
 
-number_length : (b : Bool) (s : Sort) (i : ℕ) → length (if b then load_code s i else []) ≡ (if b then 1 else 0)
+number_length : (b : Bool) (s : ExprType) (i : ℕ) → length (if b then load_code s i else []) ≡ (if b then 1 else 0)
 number_length true s i = refl
 number_length false s i = refl
 
@@ -129,7 +129,7 @@ module _ (ints : List Identifier) where
   passed_length : (known : Known) (line : ℕ) (e : Expr) → IntsAgree ints known → PassedFits known e → length (passed_rest known line e) ≡ passed_steps ints e
   passed_length known line (tree.Named tree.Null) agree h = refl
   passed_length known line (tree.Variable x) agree h =
-      ap (λ o. length (of_slot number_code o)) h.1 ∙ number_length (is_jint (Some h.0.sort)) h.0.sort h.0.index ∙ ap (λ b. if b then 1 else 0) (sym (agree x h.0 h.1))
+      ap (λ o. length (of_slot number_code o)) h.1 ∙ number_length (is_jint (Some h.0.ty)) h.0.ty h.0.index ∙ ap (λ b. if b then 1 else 0) (sym (agree x h.0 h.1))
   passed_length known line e agree h = expr_length known line e Jint h
 
   argument_length : (known : Known) (line : ℕ) (p : ParameterKind) (a : Argument) → IntsAgree ints known → ArgumentFits known p a → length (argument_code known line (p, a)) ≡ argument_steps ints (p, a)
@@ -159,32 +159,32 @@ module _ (ints : List Identifier) where
       ∙ omega (arith, steps, length-append (arguments_code known line given) call)
       ∙ sym (ap (λ o. arguments_steps ints o c.arguments + 1) h.named)
 
-number_set : (known : Known) (line : ℕ) (slot : Slot) (e : Expr) (s : Sort) → NumberFits known (term_of e) s → length (value_code known line slot e) ≡ value_steps e
-number_set known line slot (tree.Named tree.Null) s h = absurd h.sort
+number_set : (known : Known) (line : ℕ) (slot : Slot) (e : Expr) (s : ExprType) → NumberFits known (term_of e) s → length (value_code known line slot e) ≡ value_steps e
+number_set known line slot (tree.Named tree.Null) s h = absurd h.ty
 number_set known line slot e s h = after_one (expr_code known line e) (instr.Store slot.index) (expr_steps e) (expr_length known line e s h)
 
-null_set : (known : Known) (line : ℕ) (slot : Slot) (e : Expr) → length (store_of (nullable_of slot.sort slot.index)) ≡ 1 → e ≡ tree.Named tree.Null → length (value_code known line slot e) ≡ value_steps e
+null_set : (known : Known) (line : ℕ) (slot : Slot) (e : Expr) → length (store_of (nullable_of slot.ty slot.index)) ≡ 1 → e ≡ tree.Named tree.Null → length (value_code known line slot e) ≡ value_steps e
 null_set known line slot e one is = subst (λ (d : Expr). length (value_code known line slot d) ≡ value_steps d) (sym is) one
 
-value_length : (known : Known) (line : ℕ) (s : Sort) (i : ℕ) (e : Expr) → ValueFits known s e → length (value_code known line (record { sort = s; index = i }) e) ≡ value_steps e
-value_length known line sort.Word i e h = number_set known line (record { sort = sort.Word; index = i }) e sort.Word h
-value_length known line Jint i e h = number_set known line (record { sort = Jint; index = i }) e Jint h
-value_length known line sort.Flag i e h = number_set known line (record { sort = sort.Flag; index = i }) e sort.Flag h
-value_length known line Ref i e h = null_set known line (record { sort = Ref; index = i }) e refl h
-value_length known line Global i e h = null_set known line (record { sort = Global; index = i }) e refl h
-value_length known line Weak i e h = null_set known line (record { sort = Weak; index = i }) e refl h
-value_length known line FieldId i e h = null_set known line (record { sort = FieldId; index = i }) e refl h
-value_length known line MethodId i e h = null_set known line (record { sort = MethodId; index = i }) e refl h
-value_length known line (Buffer t w) i e h = null_set known line (record { sort = Buffer t w; index = i }) e refl h
+value_length : (known : Known) (line : ℕ) (s : ExprType) (i : ℕ) (e : Expr) → ValueFits known s e → length (value_code known line (record { ty = s; index = i }) e) ≡ value_steps e
+value_length known line ty.Word i e h = number_set known line (record { ty = ty.Word; index = i }) e ty.Word h
+value_length known line Jint i e h = number_set known line (record { ty = Jint; index = i }) e Jint h
+value_length known line ty.Flag i e h = number_set known line (record { ty = ty.Flag; index = i }) e ty.Flag h
+value_length known line Ref i e h = null_set known line (record { ty = Ref; index = i }) e refl h
+value_length known line Global i e h = null_set known line (record { ty = Global; index = i }) e refl h
+value_length known line Weak i e h = null_set known line (record { ty = Weak; index = i }) e refl h
+value_length known line FieldId i e h = null_set known line (record { ty = FieldId; index = i }) e refl h
+value_length known line MethodId i e h = null_set known line (record { ty = MethodId; index = i }) e refl h
+value_length known line (Buffer t w) i e h = null_set known line (record { ty = Buffer t w; index = i }) e refl h
 value_length known line s i e h = absurd h
 
-right_length : (ints : List Identifier) (known : Known) (line : ℕ) (s : Slot) (r : RightSide) → IntsAgree ints known → RightFits known s.sort r → length (right_code known line s r) ≡ right_steps ints r
-right_length ints known line s (FromExpr e) agree h = value_length known line s.sort s.index e h
-right_length ints known line s (FromCall c) agree h = call_length ints known line (result_target s.sort s.index) c agree h.fits
+right_length : (ints : List Identifier) (known : Known) (line : ℕ) (s : Slot) (r : RightSide) → IntsAgree ints known → RightFits known s.ty r → length (right_code known line s r) ≡ right_steps ints r
+right_length ints known line s (FromExpr e) agree h = value_length known line s.ty s.index e h
+right_length ints known line s (FromCall c) agree h = call_length ints known line (result_target s.ty s.index) c agree h.fits
 
 -- ---- returns
 
-no_jint : (c : tree.Constant) → constant_sort c ≡ Some Jint → ⊥
+no_jint : (c : tree.Constant) → constant_type c ≡ Some Jint → ⊥
 no_jint tree.True h = cc
 no_jint tree.False h = cc
 no_jint c h = cc
@@ -200,7 +200,7 @@ binary_returned known line NotEqual (Some x) a b h = (h, refl)
 binary_returned known line NotEqual None a b h = (h, refl)
 binary_returned known line op o a b h = (h, refl)
 
-number_returned : (known : Known) (line : ℕ) (e : Expr) → sort_of (scope_of known) e ≡ Some Jint → ReturnFits known (term_of e) → length (return_code known line (term_of e)) ≡ expr_steps e + 1
+number_returned : (known : Known) (line : ℕ) (e : Expr) → type_of (scope_of known) e ≡ Some Jint → ReturnFits known (term_of e) → length (return_code known line (term_of e)) ≡ expr_steps e + 1
 number_returned known line (tree.Number n unsigned) h fits = refl
 number_returned known line (tree.Named c) h fits = absurd (no_jint c h)
 number_returned known line (tree.Variable x) h fits = let at = slot_of_name x known Jint h in ap (λ o. length (of_slot returned_code o)) at.1
@@ -212,22 +212,22 @@ number_returned known line (tree.Binary op a b) h fits =
     ap (λ (c : List Instr). length c) number.1 ∙ after_one (expr_code known line e) instr.ReturnJint (expr_steps e) (expr_length known line e Jint number.0)
 number_returned known line (tree.Paren e) h fits = number_returned known line e h fits
 
-reference_returned : (known : Known) (line : ℕ) (e : Expr) → (is_null e || is_ref (name_sort (scope_of known) e)) ≡ true → length (return_code known line (term_of e)) ≡ 1
+reference_returned : (known : Known) (line : ℕ) (e : Expr) → (is_null e || is_ref (name_type (scope_of known) e)) ≡ true → length (return_code known line (term_of e)) ≡ 1
 reference_returned known line (tree.Named tree.Null) h = refl
 reference_returned known line (tree.Variable x) h =
-    let at = slot_of_name x known Ref (ref_is (sort_in (scope_of known) x) h) in
+    let at = slot_of_name x known Ref (ref_is (type_in (scope_of known) x) h) in
     ap (λ o. length (of_slot returned_code o)) at.1
 reference_returned known line e h = absurd (cc)
 
 return_length : (known : Known) (line : ℕ) (returns : ResultType) (e : Expr) → return_fits (scope_of known) returns e ≡ true → ReturnFits known (term_of e) → length (return_code known line (term_of e)) ≡ return_steps returns e
 return_length known line Void e h fits = absurd (cc)
-return_length known line IntResult e h fits = number_returned known line e (jint_is (sort_of (scope_of known) e) h) fits
+return_length known line IntResult e h fits = number_returned known line e (jint_is (type_of (scope_of known) e) h) fits
 return_length known line (ReferenceResult r) e h fits = reference_returned known line e h
 
 -- ---- statements
 
 test_length : (ints : List Identifier) (known : Known) (line : ℕ) (test : Test) → IntsAgree ints known → TestFits known test → length (test_code known line test) + 1 ≡ test_steps ints test
-test_length ints known line (TestExpr e) agree h = let inside = expr_length known line e sort.Truth h in omega arith
+test_length ints known line (TestExpr e) agree h = let inside = expr_length known line e ty.Truth h in omega arith
 test_length ints known line (TestCall c) agree h = ap (λ n. n + 1) (call_length ints known line destination.Test c agree h.fits)
 
 if_length : (ints : List Identifier) (known : Known) (line : ℕ) (test : Test) (then' else' : List Instr) (m n : ℕ) → IntsAgree ints known → TestFits known test → length then' ≡ m → length else' ≡ n
@@ -235,7 +235,7 @@ if_length : (ints : List Identifier) (known : Known) (line : ℕ) (test : Test) 
 if_length ints known line test then' else' m n agree h first second =
     let inside = test_length ints known line test agree h in
     let last = after_one else' (instr.Jump 0) n second in
-    omega (arith, length-append (test_code known line test) (ways_code then' (else' ++ instr.Jump 0 ∷ [])), length-append then' (instr.Jump (length (else' ++ instr.Jump 0 ∷ [])) ∷ (else' ++ instr.Jump 0 ∷ [])))
+    omega (arith, length-append (test_code known line test) (paths_code then' (else' ++ instr.Jump 0 ∷ [])), length-append then' (instr.Jump (length (else' ++ instr.Jump 0 ∷ [])) ∷ (else' ++ instr.Jump 0 ∷ [])))
 
 loop_length : (test body : List Instr) (m n : ℕ) → length test ≡ m → length body ≡ n → length (loop_code test body) ≡ m + 1 + (n + 1)
 loop_length test body m n first second =
@@ -246,13 +246,13 @@ write_length : (l : Layout) (line : ℕ) (x : Identifier) (i e : Expr) → StmtF
 write_length l line x i e h =
     let index = expr_length l.known line i h.1.0 h.1.2 in
     let value = expr_length l.known line e Jint h.2 in
-    let last : length (of_slot (write_code line) (lookup x l.known)) ≡ 1 = ap (λ o. length (of_slot (write_code line) o)) h.0.1 ∙ one_write line h.0.0.sort h.0.0.index h.0.2 in
+    let last : length (of_slot (write_code line) (lookup x l.known)) ≡ 1 = ap (λ o. length (of_slot (write_code line) o)) h.0.1 ∙ one_write line h.0.0.ty h.0.0.index h.0.2 in
     omega (arith, length-append (expr_code l.known line i) (expr_code l.known line e ++ of_slot (write_code line) (lookup x l.known)), length-append (expr_code l.known line e) (of_slot (write_code line) (lookup x l.known)))
 
 module _ (ints : List Identifier) (returns : ResultType) where
   mutual
     stmt_length : (s : Stmt) (l : Layout) (taken : List Identifier) → IntsAgree ints l.known → StmtsAgree ints (statements_within s) → StmtFits l s → AreUnbroken (places_within returns (scope_of l.known) taken s) → length (stmt_code l s) ≡ stmt_steps ints returns s
-    stmt_length (tree.Declare line t x r) l taken agree declared fits kept = right_length ints l.known line (new_slot (variable_sort t) l) r agree fits.1
+    stmt_length (tree.Declare line t x r) l taken agree declared fits kept = right_length ints l.known line (new_slot (variable_type t) l) r agree fits.1
     stmt_length (tree.DeclareBuffer line t x r) l taken agree declared fits kept = right_length ints l.known line (new_slot (Buffer t true) l) r agree fits.1
     stmt_length (tree.DeclareChars line x r) l taken agree declared fits kept = right_length ints l.known line (new_slot (Buffer JChar false) l) r agree fits.1
     stmt_length (tree.DeclareArray line t x size) l taken agree declared fits kept = refl
@@ -264,14 +264,14 @@ module _ (ints : List Identifier) (returns : ResultType) where
         let inside = block_length then' l taken agree declared.1 fits.1 (inside_kept returns (scope_of l.known) taken (tree.If line test then') kept) in
         if_length ints l.known line test (block_code l then') [] (block_steps ints returns then') 0 agree fits.0 inside refl
     stmt_length (tree.IfElse line test then' else') l taken agree declared fits kept =
-        let both = ways_kept returns (scope_of l.known) taken line test then' else' kept in
-        let ways = both_agree ints (statements_of then') (statements_of else') declared.1 in
-        let first = block_length then' l taken agree ways.0 fits.1 both.0 in
-        let second = block_length else' (closed l (block_layout l then')) (taken ++ names_declared (statements_of then')) agree ways.1 fits.2 both.1 in
+        let both = paths_kept returns (scope_of l.known) taken line test then' else' kept in
+        let paths = both_agree ints (statements_of then') (statements_of else') declared.1 in
+        let first = block_length then' l taken agree paths.0 fits.1 both.0 in
+        let second = block_length else' (closed l (block_layout l then')) (taken ++ names_declared (statements_of then')) agree paths.1 fits.2 both.1 in
         if_length ints l.known line test (block_code l then') (block_code (closed l (block_layout l then')) else') (block_steps ints returns then') (block_steps ints returns else') agree fits.0 first second
     stmt_length (tree.While line test body) l taken agree declared fits kept =
         let inside = block_length body l taken agree declared.1 fits.1 (inside_kept returns (scope_of l.known) taken (tree.While line test body) kept) in
-        loop_length (expr_code l.known line test) (block_code l body) (expr_steps test) (block_steps ints returns body) (expr_length l.known line test sort.Truth fits.0) inside
+        loop_length (expr_code l.known line test) (block_code l body) (expr_steps test) (block_steps ints returns body) (expr_length l.known line test ty.Truth fits.0) inside
     stmt_length (tree.Return line) l taken agree declared fits kept = refl
     stmt_length (tree.ReturnValue line e) l taken agree declared fits kept = return_length l.known line returns e (own_kept returns (scope_of l.known) taken (tree.ReturnValue line e) kept).fits fits
 

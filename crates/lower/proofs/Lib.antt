@@ -2,7 +2,7 @@ pub mod CodePlaces
 pub mod TermSteps
 pub mod Layouts
 pub mod Bodies
-pub mod WaysReturn
+pub mod PathsReturn
 pub mod Steps
 pub mod CallOperands
 pub mod CallSteps
@@ -13,7 +13,7 @@ pub mod Validity
 pub mod Within
 pub mod Functions
 pub mod RegionFacts
-pub mod SortFacts
+pub mod TypeFacts
 pub mod Tests
 pub mod NameFacts
 pub mod CallCounts

@@ -7,8 +7,8 @@ use Rattle.base.specs.Element.{JChar}
 use Rattle.syntax.specs.Parts.{statements_within, names_declared}
 use Rattle.syntax.specs.Tree as tree
 use Rattle.syntax.specs.Tree.{ResultType, Stmt, Block, End, Next}
-use Rattle.type_rules.specs.Sorts.{Buffer, Array}
-use Rattle.type_rules.specs.SortRules.{variable_sort, has_name}
+use Rattle.type_rules.specs.ExprTypes.{Buffer, Array}
+use Rattle.type_rules.specs.TypeRules.{variable_type, has_name}
 use Rattle.code_meaning.specs.Layout.{Slot, Known, Layout, new_slot, layout_after}
 use Rattle.lower.proofs.Tests.{or_left, or_right}
 
@@ -34,7 +34,7 @@ taken_declared names known x s h y none =
     ap (λ b. if b then Some s else lookup y known) (or_left (bytes_eq y x) false both.1) ∙ h y both.0
 
 pub taken_after : (s : Stmt) (l : Layout) (taken : List Identifier) → AreTaken taken l.known → AreTaken (taken ++ names_declared (statements_within s)) (layout_after l s).known
-taken_after (tree.Declare line t x r) l taken h = taken_declared taken l.known x (new_slot (variable_sort t) l) h
+taken_after (tree.Declare line t x r) l taken h = taken_declared taken l.known x (new_slot (variable_type t) l) h
 taken_after (tree.DeclareBuffer line t x r) l taken h = taken_declared taken l.known x (new_slot (Buffer t true) l) h
 taken_after (tree.DeclareChars line x r) l taken h = taken_declared taken l.known x (new_slot (Buffer JChar false) l) h
 taken_after (tree.DeclareArray line t x size) l taken h = taken_declared taken l.known x (new_slot (Array t size) l) h

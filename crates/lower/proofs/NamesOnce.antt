@@ -11,16 +11,16 @@ use Rattle.base.specs.Element.{JChar}
 use Rattle.syntax.specs.Parts.{statements_of, statements_within, declared_name, names_declared, parameter_names}
 use Rattle.syntax.specs.Tree as tree
 use Rattle.syntax.specs.Tree.{ResultType, ParameterType, IntParameter, ReferenceParameter, Parameter, Function, Stmt, Block, End, Next}
-use Rattle.type_rules.specs.Sorts.{Sort, Ref, Global, Weak, Buffer, Array, Scope, is_jint}
-use Rattle.type_rules.specs.SortRules.{variable_sort, has_name, has_repeated, Place, HeadForm, parameter_sort, with_declared, places_within, places_of, function_places}
+use Rattle.type_rules.specs.ExprTypes.{ExprType, Ref, Global, Weak, Buffer, Array, Scope, is_jint}
+use Rattle.type_rules.specs.TypeRules.{variable_type, has_name, has_repeated, Place, HeadForm, parameter_type, with_declared, places_within, places_of, function_places}
 use Rattle.type_rules.proofs.PlaceLists.{AreUnbroken, not_twice, first_unbroken}
-use Rattle.type_rules.proofs.KeptPlaces.{own_kept, inside_kept, block_kept, ways_kept}
+use Rattle.type_rules.proofs.KeptPlaces.{own_kept, inside_kept, block_kept, paths_kept}
 use Rattle.code_meaning.specs.Layout.{Slot, Known, Layout, new_slot, layout_after, parameter_slot, parameter_slots, numbers_after, references_after, entry_layout}
 use Rattle.code_meaning.specs.Length.{int_parameter, int_declared, int_names}
-use Rattle.code_meaning.specs.Fits.{AreStatics, IsStaticSort}
+use Rattle.code_meaning.specs.Fits.{AreStatics, IsStaticType}
 use Rattle.code_meaning.proofs.SlotLaws.{first_or_after}
 use Rattle.lower.proofs.NameFacts.{AreTaken}
-use Rattle.lower.proofs.SortFacts.{scope_of}
+use Rattle.lower.proofs.TypeFacts.{scope_of}
 use Rattle.lower.proofs.Tests.{or_left, or_right}
 
 -- ---- names that are fresh
@@ -84,7 +84,7 @@ module _ (returns : ResultType) where
     stmt_fresh (tree.DeclareArray line t x size) known taken h = ((own_kept returns known taken (tree.DeclareArray line t x size) h).new, tt)
     stmt_fresh (tree.If line test then') known taken h = block_fresh then' known taken (inside_kept returns known taken (tree.If line test then') h)
     stmt_fresh (tree.IfElse line test then' else') known taken h =
-        let both = ways_kept returns known taken line test then' else' h in
+        let both = paths_kept returns known taken line test then' else' h in
         subst (AreFresh taken) (sym (declared_both (statements_of then') (statements_of else')))
         (fresh_both taken (names_declared (statements_of then')) (names_declared (statements_of else')) (block_fresh then' known taken both.0) (block_fresh else' known (taken ++ names_declared (statements_of then')) both.1))
     stmt_fresh (tree.While line test body) known taken h = block_fresh body known taken (inside_kept returns known taken (tree.While line test body) h)
@@ -113,7 +113,7 @@ ints_lack (s ∷ rest) x h = ints_lack rest x h
 
 -- the name that a statement declares is among these where it is that of a `jint`
 abbrev pub StmtAgrees : List Identifier → Stmt → Type 0
-StmtAgrees ints (tree.Declare line t x r) = has_name ints x ≡ is_jint (Some (variable_sort t))
+StmtAgrees ints (tree.Declare line t x r) = has_name ints x ≡ is_jint (Some (variable_type t))
 StmtAgrees ints (tree.DeclareBuffer line t x r) = has_name ints x ≡ false
 StmtAgrees ints (tree.DeclareChars line x r) = has_name ints x ≡ false
 StmtAgrees ints (tree.DeclareArray line t x size) = has_name ints x ≡ false
@@ -170,14 +170,14 @@ declared_agree (s ∷ rest) before taken among fresh = (tt, declared_agree rest 
 
 -- a known name is among these where it is that of a `jint`
 abbrev pub IntsAgree : List Identifier → Known → Type 0
-IntsAgree ints known = (x : Identifier) (s : Slot) → lookup x known ≡ Some s → has_name ints x ≡ is_jint (Some s.sort)
+IntsAgree ints known = (x : Identifier) (s : Slot) → lookup x known ≡ Some s → has_name ints x ≡ is_jint (Some s.ty)
 
-agree_first : (ints : List Identifier) (x : Identifier) (slot : Slot) (known : Known) → has_name ints x ≡ is_jint (Some slot.sort) → IntsAgree ints known → IntsAgree ints ((x, slot) ∷ known)
+agree_first : (ints : List Identifier) (x : Identifier) (slot : Slot) (known : Known) → has_name ints x ≡ is_jint (Some slot.ty) → IntsAgree ints known → IntsAgree ints ((x, slot) ∷ known)
 agree_first ints x slot known new h y s at =
-    first_or_after x y slot s known (has_name ints y ≡ is_jint (Some s.sort)) (λ same is. ap (λ z. has_name ints z) same ∙ new ∙ ap (λ (t : Slot). is_jint (Some t.sort)) is) (λ other found. h y s found) at
+    first_or_after x y slot s known (has_name ints y ≡ is_jint (Some s.ty)) (λ same is. ap (λ z. has_name ints z) same ∙ new ∙ ap (λ (t : Slot). is_jint (Some t.ty)) is) (λ other found. h y s found) at
 
 pub agree_after : (ints : List Identifier) (s : Stmt) (l : Layout) → StmtAgrees ints s → IntsAgree ints l.known → IntsAgree ints (layout_after l s).known
-agree_after ints (tree.Declare line t x r) l new h = agree_first ints x (new_slot (variable_sort t) l) l.known new h
+agree_after ints (tree.Declare line t x r) l new h = agree_first ints x (new_slot (variable_type t) l) l.known new h
 agree_after ints (tree.DeclareBuffer line t x r) l new h = agree_first ints x (new_slot (Buffer t true) l) l.known new h
 agree_after ints (tree.DeclareChars line x r) l new h = agree_first ints x (new_slot (Buffer JChar false) l) l.known new h
 agree_after ints (tree.DeclareArray line t x size) l new h = agree_first ints x (new_slot (Array t size) l) l.known new h
@@ -201,7 +201,7 @@ parameters_lack (p ∷ ps) x h = by_type p.type (or_left (bytes_eq x p.name) (ha
     by_type IntParameter first further = or_none (bytes_eq x p.name) (has_name (filter_map int_parameter ps) x) first further
     by_type (ReferenceParameter r) first further = further
 
-static_no_int : (s : Sort) → IsStaticSort s → false ≡ is_jint (Some s)
+static_no_int : (s : ExprType) → IsStaticType s → false ≡ is_jint (Some s)
 static_no_int Global h = refl
 static_no_int Weak h = refl
 static_no_int s h = absurd h
@@ -210,17 +210,17 @@ static_no_int s h = absurd h
 one_parameter : (type : ParameterType) (name : Identifier) (ps : List Parameter) (n r : ℕ) (known : Known) → has_name (map (λ p. p.name) ps) name ≡ false → IntsAgree (filter_map int_parameter ps) known
     → IntsAgree (filter_map int_parameter (record { type = type; name = name } ∷ ps)) ((name, parameter_slot type n r) ∷ known)
 one_parameter IntParameter name ps n r known new h y s at =
-    first_or_after name y (parameter_slot IntParameter n r) s known ((bytes_eq y name || has_name (filter_map int_parameter ps) y) ≡ is_jint (Some s.sort))
-    (λ same is. or_true (bytes_eq y name) (has_name (filter_map int_parameter ps) y) (ap (λ z. bytes_eq z name) same ∙ same_name name) ∙ ap (λ (t : Slot). is_jint (Some t.sort)) is)
+    first_or_after name y (parameter_slot IntParameter n r) s known ((bytes_eq y name || has_name (filter_map int_parameter ps) y) ≡ is_jint (Some s.ty))
+    (λ same is. or_true (bytes_eq y name) (has_name (filter_map int_parameter ps) y) (ap (λ z. bytes_eq z name) same ∙ same_name name) ∙ ap (λ (t : Slot). is_jint (Some t.ty)) is)
     (λ other found. by_other (bytes_eq y name) refl other found) at
   where
-    by_other : (b : Bool) → bytes_eq y name ≡ b → y ≢ name → lookup y known ≡ Some s → (b || has_name (filter_map int_parameter ps) y) ≡ is_jint (Some s.sort)
+    by_other : (b : Bool) → bytes_eq y name ≡ b → y ≢ name → lookup y known ≡ Some s → (b || has_name (filter_map int_parameter ps) y) ≡ is_jint (Some s.ty)
     by_other true e other found = absurd (other ((bytes_eq-Decides y name).0 e))
     by_other false e other found = h y s found
 one_parameter (ReferenceParameter t) name ps n r known new h y s at = agree_first (filter_map int_parameter ps) name (parameter_slot (ReferenceParameter t) n r) known (parameters_lack ps name new) h y s at
 
 parameters_agree : (ps : List Parameter) (n r : ℕ) (statics : Known) (names : List Identifier) → AreStatics statics → has_repeated (map (λ p. p.name) ps ++ names) ≡ false → IntsAgree (filter_map int_parameter ps) (parameter_slots ps n r ++ statics)
-parameters_agree [] n r statics names are once x s at = static_no_int s.sort (are x s at).0
+parameters_agree [] n r statics names are once x s at = static_no_int s.ty (are x s at).0
 parameters_agree (p ∷ ps) n r statics names are once x s at =
     let further = map (λ (q : Parameter). q.name) ps in
     let new : (has_name further p.name || has_name names p.name) ≡ false = sym (both_have further names p.name) ∙ or_left (has_name (further ++ names) p.name) (has_repeated (further ++ names)) once in
@@ -229,10 +229,10 @@ parameters_agree (p ∷ ps) n r statics names are once x s at =
 
 -- the head of a function that breaks no rule names nothing twice
 pub head_once : (names : List Identifier) (scope : Scope) (f : Function) → AreUnbroken (function_places names scope f) → has_repeated (parameter_names f ++ map (λ s. s.0) scope) ≡ false
-head_once names scope f sorted =
+head_once names scope f well_typed =
     let place : Place = record { line = f.line; known = scope; taken = names; returns = f.result; form = HeadForm f } in
-    let inside = places_of f.result ((f.class_name, Ref) ∷ map {B = Identifier × Sort} (λ p. (p.name, parameter_sort p.type)) f.parameters ++ scope) (parameter_names f ++ map (λ s. s.0) scope) f.body in
-    or_right (has_name names f.name) (has_repeated (parameter_names f ++ map (λ s. s.0) scope)) (not_twice place (first_unbroken place inside sorted))
+    let inside = places_of f.result ((f.class_name, Ref) ∷ map {B = Identifier × ExprType} (λ p. (p.name, parameter_type p.type)) f.parameters ++ scope) (parameter_names f ++ map (λ s. s.0) scope) f.body in
+    or_right (has_name names f.name) (has_repeated (parameter_names f ++ map (λ s. s.0) scope)) (not_twice place (first_unbroken place inside well_typed))
 
 module _ (statics : Known) (f : Function) (are : AreStatics statics) (once : has_repeated (parameter_names f ++ map (λ s. s.0) (scope_of statics)) ≡ false)
     (all_taken : AreTaken (parameter_names f ++ map (λ s. s.0) (scope_of statics)) (entry_layout statics f).known)
@@ -261,7 +261,7 @@ module _ (statics : Known) (f : Function) (are : AreStatics statics) (once : has
   class_new = parameters_lack f.parameters f.class_name (or_left (has_name (map (λ p. p.name) f.parameters) f.class_name) (has_name (map (λ s. s.0) (scope_of statics)) f.class_name) (sym (both_have (map (λ p. p.name) f.parameters) (map (λ s. s.0) (scope_of statics)) f.class_name) ∙ or_left (has_name further f.class_name) (has_repeated further) once))
 
   entry_agree : IntsAgree before (entry_layout statics f).known
-  entry_agree = agree_first before f.class_name (record { sort = Ref; index = 0 }) (parameter_slots f.parameters 0 1 ++ statics) class_new
+  entry_agree = agree_first before f.class_name (record { ty = Ref; index = 0 }) (parameter_slots f.parameters 0 1 ++ statics) class_new
       (parameters_agree f.parameters 0 1 statics (map (λ s. s.0) (scope_of statics)) are (or_right (has_name further f.class_name) (has_repeated further) once))
 
   -- a name that is known there is taken, and so isn't declared

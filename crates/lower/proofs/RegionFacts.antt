@@ -1,4 +1,4 @@
--- Every way through an accepted function returns.
+-- Every path through an accepted function returns.
 use Rattle.std.proofs.Common.{◌≡◌, Bool, true, false, ◌&&◌, ◌||◌, inl, inr, refl, sym, subst}
 use Rattle.std.specs.Prelude.{IsTrue}
 use Rattle.syntax.specs.Tree as tree
@@ -20,22 +20,22 @@ right_true true b h = refl
 right_true false b h = h
 
 mutual
-  stmt_way : (s : Stmt) (before : RegionState) → Keeps before s Returned → stmt_returns s ≡ true
-  stmt_way (tree.If line test then') before (o, Returned, k, j) = absurd (cc)
-  stmt_way (tree.If line test then') before (o, On a, k, j) = absurd (let e = j.1 in cc)
-  stmt_way (tree.IfElse line test then' else') before (o, Returned, second, k, k', j) =
-      both_true (block_returns then') (block_returns else') (block_way then' before _ k) (block_way else' before _ (subst (KeepsBlock before _ else') (sym j) k'))
-  stmt_way (tree.IfElse line test then' else') before (o, On a, Returned, k, k', j) = absurd (cc)
-  stmt_way (tree.IfElse line test then' else') before (o, On a, On b, k, k', j) = absurd (let e = j.1 in cc)
-  stmt_way (tree.While line test body) before (o, turn, k, c, e) = absurd (cc)
-  stmt_way (tree.Return line) before h = refl
-  stmt_way (tree.ReturnValue line e) before h = refl
-  stmt_way s before h = absurd (let e = h.1 in cc)
+  stmt_path : (s : Stmt) (before : RegionState) → Keeps before s Returned → stmt_returns s ≡ true
+  stmt_path (tree.If line test then') before (o, Returned, k, j) = absurd (cc)
+  stmt_path (tree.If line test then') before (o, On a, k, j) = absurd (let e = j.1 in cc)
+  stmt_path (tree.IfElse line test then' else') before (o, Returned, second, k, k', j) =
+      both_true (block_returns then') (block_returns else') (block_path then' before _ k) (block_path else' before _ (subst (KeepsBlock before _ else') (sym j) k'))
+  stmt_path (tree.IfElse line test then' else') before (o, On a, Returned, k, k', j) = absurd (cc)
+  stmt_path (tree.IfElse line test then' else') before (o, On a, On b, k, k', j) = absurd (let e = j.1 in cc)
+  stmt_path (tree.While line test body) before (o, turn, k, c, e) = absurd (cc)
+  stmt_path (tree.Return line) before h = refl
+  stmt_path (tree.ReturnValue line e) before h = refl
+  stmt_path s before h = absurd (let e = h.1 in cc)
 
-  block_way : (b : Block) (outer before : RegionState) → KeepsBlock outer before b Returned → block_returns b ≡ true
-  block_way (End line) outer before h = absurd (let e = h.1 in cc)
-  block_way (Next s rest) outer before (inl (middle, k, r)) = right_true (stmt_returns s) (block_returns rest) (block_way rest outer middle r)
-  block_way (Next s rest) outer before (inr h) = left_true (stmt_returns s) (block_returns rest) (stmt_way s before h.0)
+  block_path : (b : Block) (outer before : RegionState) → KeepsBlock outer before b Returned → block_returns b ≡ true
+  block_path (End line) outer before h = absurd (let e = h.1 in cc)
+  block_path (Next s rest) outer before (inl (middle, k, r)) = right_true (stmt_returns s) (block_returns rest) (block_path rest outer middle r)
+  block_path (Next s rest) outer before (inr h) = left_true (stmt_returns s) (block_returns rest) (stmt_path s before h.0)
 
 pub function_returns : (f : Function) → AcceptedFunction f → IsTrue (block_returns f.body)
-function_returns f h = block_way f.body (state_at_entry f) (state_at_entry f) h
+function_returns f h = block_path f.body (state_at_entry f) (state_at_entry f) h

@@ -1,4 +1,4 @@
--- A statement that is sorted fits.
+-- A statement that is well-typed fits.
 use Rattle.std.proofs.Common.{◌≡◌, ℕ, ◌<◌, ◌≤◌, ◌⊎◌, inl, inr, Bool, true, false, not, ◌&&◌, ◌||◌, List, [], ◌∷◌, ◌++◌, map, flat_map, length, nat_le, Option, Some, None, is_some, refl, sym, ap, ◌∙◌, subst, arith, leb-true}
 use Rattle.std.specs.List.{list_all, AllZip}
 use Rattle.std.specs.Option.{is_none}
@@ -12,68 +12,68 @@ use Rattle.syntax.specs.Tree.{ResultType, Void, IntResult, ReferenceResult, Expr
 use Rattle.jni.specs.Access.{Access, ElementsCopy, ArrayView, CharsCopy, CharsView}
 use Rattle.jni.specs.JniFunction.{JniFunction, PushLocalFrame, function_named, prototype, parameters_for, takes_count}
 use Rattle.jni.specs.Prototype.{ParameterKind, Nullable, NonNull, ClassObject, AnyArray, ObjectArray, StringObject, NumberArray, LocalVariable, StaticVariable, FieldID, MethodID, Passed, IntNumber, TextBytes, ArrayVariable, BufferVariable, Mode, IsCopy, ResultKind, NewLocal, NewGlobal, GivesFlag, GivesInt, GivesField, GivesMethod, GivesBuffer, GivesNothing, AnyReference, WeakVariable, NewWeak}
-use Rattle.type_rules.specs.Sorts.{Sort, Word, Jint, Flag, Truth, Ref, Global, Weak, FieldId, MethodId, Buffer, Array, sort_in, sort_of, is_word, is_jint, is_flag, is_truth, is_index, has_elements, is_null, is_ref, is_global, is_field, is_method, is_reference, is_array_of, is_buffer_for, name_sort, text_fits, address_fits, argument_fits, arguments_fit, call_arguments_fit, is_weak, is_any_reference}
-use Rattle.type_rules.specs.SortRules.{result_fits, is_push, call_fits, may_be_tested, value_sets, right_side_sets, buffer_begins, test_fits, return_fits, has_wrong_count, has_wrong_mode, is_mode, is_mode_parameter, modes_fit, copies_reference}
-use Rattle.type_rules.specs.SortGroups.{IsIndexSort}
+use Rattle.type_rules.specs.ExprTypes.{ExprType, Word, Jint, Flag, Truth, Ref, Global, Weak, FieldId, MethodId, Buffer, Array, type_in, type_of, is_word, is_jint, is_flag, is_truth, is_index, has_elements, is_null, is_ref, is_global, is_field, is_method, is_reference, is_array_of, is_buffer_for, name_type, text_fits, address_fits, argument_fits, arguments_fit, call_arguments_fit, is_weak, is_any_reference}
+use Rattle.type_rules.specs.TypeRules.{result_fits, is_push, call_fits, may_be_tested, value_sets, right_side_sets, buffer_begins, test_fits, return_fits, has_wrong_count, has_wrong_mode, is_mode, is_mode_parameter, modes_fit, copies_reference}
+use Rattle.type_rules.specs.TypeGroups.{IsIndexType}
 use Rattle.semantics.specs.Term as term
 use Rattle.semantics.specs.Term.{Term, Read, term_of}
 use Rattle.code_meaning.specs.Layout.{Slot, Known}
-use Rattle.code_meaning.specs.Fits.{IsVariable, HasElements, NumberFits, TakesLocal, TakesGlobal, NameFits, ReferenceFits, FieldFits, MethodFits, PassedFits, ArrayFits, BufferFits, ArgumentFits, CallFits, ResultFits, CallGives, ValueFits, RightFits, TestFits, ReturnFits, AnyReferenceFits, IsStaticSort}
-use Rattle.type_rules.proofs.SortCases.{indexed, index_is_value}
-use Rattle.lower.proofs.SortFacts.{scope_of, slot_of_name, HasNoTruth, IsFine, elements, number_fits}
+use Rattle.code_meaning.specs.Fits.{IsVariable, HasElements, NumberFits, TakesLocal, TakesGlobal, NameFits, ReferenceFits, FieldFits, MethodFits, PassedFits, ArrayFits, BufferFits, ArgumentFits, CallFits, ResultFits, CallGives, ValueFits, RightFits, TestFits, ReturnFits, AnyReferenceFits, IsStaticType}
+use Rattle.type_rules.proofs.TypeCases.{indexed, index_is_value}
+use Rattle.lower.proofs.TypeFacts.{scope_of, slot_of_name, HasNoTruth, IsFine, elements, number_fits}
 use Rattle.lower.proofs.Tests.{and_left, and_right, not_false}
 use Rattle.lower.proofs.CallCounts.{parameters_count, passed_no_mode}
 
--- ---- sorts by their tests
+-- ---- types by their tests
 
-word_is : (o : Option Sort) → is_word o ≡ true → o ≡ Some Word
+word_is : (o : Option ExprType) → is_word o ≡ true → o ≡ Some Word
 word_is (Some Word) h = refl
 word_is o h = absurd (cc)
 
-pub jint_is : (o : Option Sort) → is_jint o ≡ true → o ≡ Some Jint
+pub jint_is : (o : Option ExprType) → is_jint o ≡ true → o ≡ Some Jint
 jint_is (Some Jint) h = refl
 jint_is o h = absurd (cc)
 
-flag_is : (o : Option Sort) → is_flag o ≡ true → o ≡ Some Flag
+flag_is : (o : Option ExprType) → is_flag o ≡ true → o ≡ Some Flag
 flag_is (Some Flag) h = refl
 flag_is o h = absurd (cc)
 
-truth_is : (o : Option Sort) → is_truth o ≡ true → o ≡ Some Truth
+truth_is : (o : Option ExprType) → is_truth o ≡ true → o ≡ Some Truth
 truth_is (Some Truth) h = refl
 truth_is o h = absurd (cc)
 
-pub ref_is : (o : Option Sort) → is_ref o ≡ true → o ≡ Some Ref
+pub ref_is : (o : Option ExprType) → is_ref o ≡ true → o ≡ Some Ref
 ref_is (Some Ref) h = refl
 ref_is o h = absurd (cc)
 
-global_is : (o : Option Sort) → is_global o ≡ true → o ≡ Some Global
+global_is : (o : Option ExprType) → is_global o ≡ true → o ≡ Some Global
 global_is (Some Global) h = refl
 global_is o h = absurd (cc)
 
-weak_is : (o : Option Sort) → is_weak o ≡ true → o ≡ Some Weak
+weak_is : (o : Option ExprType) → is_weak o ≡ true → o ≡ Some Weak
 weak_is (Some Weak) h = refl
 weak_is o h = absurd (cc)
 
-field_is : (o : Option Sort) → is_field o ≡ true → o ≡ Some FieldId
+field_is : (o : Option ExprType) → is_field o ≡ true → o ≡ Some FieldId
 field_is (Some FieldId) h = refl
 field_is o h = absurd (cc)
 
-method_is : (o : Option Sort) → is_method o ≡ true → o ≡ Some MethodId
+method_is : (o : Option ExprType) → is_method o ≡ true → o ≡ Some MethodId
 method_is (Some MethodId) h = refl
 method_is o h = absurd (cc)
 
-reference_is : (o : Option Sort) → is_reference o ≡ true → (s : Sort) × (o ≡ Some s) × ((s ≡ Ref) ⊎ (s ≡ Global))
+reference_is : (o : Option ExprType) → is_reference o ≡ true → (s : ExprType) × (o ≡ Some s) × ((s ≡ Ref) ⊎ (s ≡ Global))
 reference_is (Some Ref) h = (Ref, refl, inl refl)
 reference_is (Some Global) h = (Global, refl, inr refl)
 reference_is o h = absurd (cc)
 
-passed_is : (o : Option Sort) → (is_jint o || false || is_reference o) ≡ true → (s : Sort) × (o ≡ Some s) × ((s ≡ Jint) ⊎ (s ≡ Ref) ⊎ (s ≡ Global))
+passed_is : (o : Option ExprType) → (is_jint o || false || is_reference o) ≡ true → (s : ExprType) × (o ≡ Some s) × ((s ≡ Jint) ⊎ (s ≡ Ref) ⊎ (s ≡ Global))
 passed_is (Some Jint) h = (Jint, refl, inl refl)
 passed_is (Some Ref) h = (Ref, refl, inr (inl refl))
 passed_is (Some Global) h = (Global, refl, inr (inr refl))
 passed_is o h = absurd (cc)
 
-any_reference_is : (o : Option Sort) → is_any_reference o ≡ true → (s : Sort) × (o ≡ Some s) × ((s ≡ Ref) ⊎ IsStaticSort s)
+any_reference_is : (o : Option ExprType) → is_any_reference o ≡ true → (s : ExprType) × (o ≡ Some s) × ((s ≡ Ref) ⊎ IsStaticType s)
 any_reference_is (Some Ref) h = (Ref, refl, inl refl)
 any_reference_is (Some Global) h = (Global, refl, inr tt)
 any_reference_is (Some Weak) h = (Weak, refl, inr tt)
@@ -86,11 +86,11 @@ same_types JByte JByte h = refl
 same_types JChar JChar h = refl
 same_types t u h = absurd (cc)
 
-array_is : (t : ElementType) (o : Option Sort) → is_array_of t o ≡ true → (size : ℕ) × (o ≡ Some (Array t size))
+array_is : (t : ElementType) (o : Option ExprType) → is_array_of t o ≡ true → (size : ℕ) × (o ≡ Some (Array t size))
 array_is t (Some (Array u size)) h = (size, ap (λ (e : ElementType). Some (Array e size)) (same_types t u h))
 array_is t o h = absurd (cc)
 
-some_buffer : (access : Access) (o : Option Sort) → is_buffer_for access o ≡ true → (s : Sort) × (o ≡ Some s)
+some_buffer : (access : Access) (o : Option ExprType) → is_buffer_for access o ≡ true → (s : ExprType) × (o ≡ Some s)
 some_buffer access (Some s) h = (s, refl)
 some_buffer (ElementsCopy t) None h = absurd (cc)
 some_buffer ArrayView None h = absurd (cc)
@@ -164,20 +164,20 @@ pub record CallHolds (known : Known) (call : Option Call) : Type 0 where
   pub fine : AreFine (called_expressions call)
 
 module _ (known : Known) where
-  reference_fits : (e : Expr) → (is_null e || is_reference (name_sort (scope_of known) e)) ≡ true → ReferenceFits known e
+  reference_fits : (e : Expr) → (is_null e || is_reference (name_type (scope_of known) e)) ≡ true → ReferenceFits known e
   reference_fits (tree.Named tree.Null) h = tt
   reference_fits (tree.Variable x) h =
-      let r = reference_is (sort_in (scope_of known) x) h in
+      let r = reference_is (type_in (scope_of known) x) h in
       let at = slot_of_name x known r.0 r.1 in
-      (record { sort = r.0; index = at.0 }, at.1, r.2)
+      (record { ty = r.0; index = at.0 }, at.1, r.2)
   reference_fits e h = absurd (cc)
 
-  any_reference_fits : (e : Expr) → (is_null e || is_any_reference (name_sort (scope_of known) e)) ≡ true → AnyReferenceFits known e
+  any_reference_fits : (e : Expr) → (is_null e || is_any_reference (name_type (scope_of known) e)) ≡ true → AnyReferenceFits known e
   any_reference_fits (tree.Named tree.Null) h = tt
   any_reference_fits (tree.Variable x) h =
-      let r = any_reference_is (sort_in (scope_of known) x) h in
+      let r = any_reference_is (type_in (scope_of known) x) h in
       let at = slot_of_name x known r.0 r.1 in
-      (record { sort = r.0; index = at.0 }, at.1, r.2)
+      (record { ty = r.0; index = at.0 }, at.1, r.2)
   any_reference_fits e h = absurd (cc)
 
   -- a parameter that takes no weak reference, and no number beside references
@@ -200,36 +200,36 @@ module _ (known : Known) where
   value_is_reference Passed e local global plain h = absurd plain
   value_is_reference p e local global plain h = absurd global
 
-  name_fits : (s : Sort) (e : Expr) → name_sort (scope_of known) e ≡ Some s → NameFits known s e
+  name_fits : (s : ExprType) (e : Expr) → name_type (scope_of known) e ≡ Some s → NameFits known s e
   name_fits s (tree.Variable x) h = slot_of_name x known s h
   name_fits s e h = absurd (cc)
 
-  field_fits : (e : Expr) → (is_null e || is_field (name_sort (scope_of known) e)) ≡ true → FieldFits known e
+  field_fits : (e : Expr) → (is_null e || is_field (name_type (scope_of known) e)) ≡ true → FieldFits known e
   field_fits (tree.Named tree.Null) h = tt
-  field_fits (tree.Variable x) h = slot_of_name x known FieldId (field_is (sort_in (scope_of known) x) h)
+  field_fits (tree.Variable x) h = slot_of_name x known FieldId (field_is (type_in (scope_of known) x) h)
   field_fits e h = absurd (cc)
 
-  method_fits : (e : Expr) → (is_null e || is_method (name_sort (scope_of known) e)) ≡ true → MethodFits known e
+  method_fits : (e : Expr) → (is_null e || is_method (name_type (scope_of known) e)) ≡ true → MethodFits known e
   method_fits (tree.Named tree.Null) h = tt
-  method_fits (tree.Variable x) h = slot_of_name x known MethodId (method_is (sort_in (scope_of known) x) h)
+  method_fits (tree.Variable x) h = slot_of_name x known MethodId (method_is (type_in (scope_of known) x) h)
   method_fits e h = absurd (cc)
 
-  array_fits : (t : ElementType) (e : Expr) → is_array_of t (name_sort (scope_of known) e) ≡ true → ArrayFits known t e
+  array_fits : (t : ElementType) (e : Expr) → is_array_of t (name_type (scope_of known) e) ≡ true → ArrayFits known t e
   array_fits t (tree.Variable x) h =
-      let array = array_is t (sort_in (scope_of known) x) h in
+      let array = array_is t (type_in (scope_of known) x) h in
       let at = slot_of_name x known (Array t array.0) array.1 in
       (array.0, at.0, at.1)
   array_fits t e h = absurd (cc)
 
-  buffer_named : (access : Access) (e : Expr) → is_buffer_for access (name_sort (scope_of known) e) ≡ true → BufferFits known access e
+  buffer_named : (access : Access) (e : Expr) → is_buffer_for access (name_type (scope_of known) e) ≡ true → BufferFits known access e
   buffer_named access (tree.Variable x) h =
-      let s = some_buffer access (sort_in (scope_of known) x) h in
+      let s = some_buffer access (type_in (scope_of known) x) h in
       let at = slot_of_name x known s.0 s.1 in
-      (record { sort = s.0; index = at.0 }, at.1, subst (λ (o : Option Sort). is_buffer_for access o ≡ true) s.1 h)
+      (record { ty = s.0; index = at.0 }, at.1, subst (λ (o : Option ExprType). is_buffer_for access o ≡ true) s.1 h)
   buffer_named access e h = absurd (let s = some_buffer access None h in let c : None ≡ Some s.0 = s.1 in cc)
 
-  flag_named : (x : Identifier) → is_flag (sort_in (scope_of known) x) ≡ true → IsVariable known x Flag
-  flag_named x h = let at = slot_of_name x known Flag (flag_is (sort_in (scope_of known) x) h) in (at.0, at.1, tt)
+  flag_named : (x : Identifier) → is_flag (type_in (scope_of known) x) ≡ true → IsVariable known x Flag
+  flag_named x h = let at = slot_of_name x known Flag (flag_is (type_in (scope_of known) x) h) in (at.0, at.1, tt)
 
   -- a mode is one where one is asked for
   abbrev ModeIsKept : ParameterKind → Argument → Type 0
@@ -246,16 +246,16 @@ module _ (known : Known) where
   address_kept p x h mode = absurd (cc)
 
   module _ (no_truth : HasNoTruth known) where
-    passed_fits : (e : Expr) → IsFine e → (is_jint (sort_of (scope_of known) e) || is_null e || is_reference (name_sort (scope_of known) e)) ≡ true → PassedFits known e
+    passed_fits : (e : Expr) → IsFine e → (is_jint (type_of (scope_of known) e) || is_null e || is_reference (name_type (scope_of known) e)) ≡ true → PassedFits known e
     passed_fits (tree.Named tree.Null) fine h = tt
     passed_fits (tree.Variable x) fine h =
-        let r = passed_is (sort_in (scope_of known) x) h in
+        let r = passed_is (type_in (scope_of known) x) h in
         let at = slot_of_name x known r.0 r.1 in
-        (record { sort = r.0; index = at.0 }, at.1, r.2)
-    passed_fits e fine h = number_fits known e Jint no_truth fine (jint_is (sort_of (scope_of known) e) (first_only (is_jint (sort_of (scope_of known) e)) h)) tt
+        (record { ty = r.0; index = at.0 }, at.1, r.2)
+    passed_fits e fine h = number_fits known e Jint no_truth fine (jint_is (type_of (scope_of known) e) (first_only (is_jint (type_of (scope_of known) e)) h)) tt
 
     value_kept : (p : ParameterKind) (e : Expr) → IsFine e → argument_fits (scope_of known) p (tree.Value e) ≡ true → ModeIsKept p (tree.Value e) → ArgumentFits known p (tree.Value e)
-    value_kept IntNumber e fine h mode = number_fits known e Jint no_truth fine (jint_is (sort_of (scope_of known) e) h) tt
+    value_kept IntNumber e fine h mode = number_fits known e Jint no_truth fine (jint_is (type_of (scope_of known) e) h) tt
     value_kept FieldID e fine h mode = field_fits e h
     value_kept MethodID e fine h mode = method_fits e h
     value_kept Passed e fine h mode = passed_fits e fine h
@@ -264,9 +264,9 @@ module _ (known : Known) where
     value_kept (BufferVariable access) e fine h mode = buffer_named access e h
     value_kept Mode e fine h mode = mode
     value_kept IsCopy e fine h mode = null_is e h
-    value_kept LocalVariable e fine h mode = name_fits Ref e (ref_is (name_sort (scope_of known) e) h)
-    value_kept StaticVariable e fine h mode = name_fits Global e (global_is (name_sort (scope_of known) e) h)
-    value_kept WeakVariable e fine h mode = name_fits Weak e (weak_is (name_sort (scope_of known) e) h)
+    value_kept LocalVariable e fine h mode = name_fits Ref e (ref_is (name_type (scope_of known) e) h)
+    value_kept StaticVariable e fine h mode = name_fits Global e (global_is (name_type (scope_of known) e) h)
+    value_kept WeakVariable e fine h mode = name_fits Weak e (weak_is (name_type (scope_of known) e) h)
     value_kept AnyReference e fine h mode = any_reference_fits e h
     value_kept p e fine h mode = value_is_reference p e tt tt tt h
 
@@ -304,92 +304,92 @@ module _ (known : Known) where
     pub call_fits_name : (c : Call) → CallHolds known (Some c) → CallFits known c
     call_fits_name c holds = (fits_with c holds (known_call c holds.function)).0
 
-    -- the sort of what takes a result
-    result_sort : (o : Option Sort) (gives : ResultKind) → result_fits o gives ≡ true → (s : Sort) × (o ≡ Some s) × ResultFits s gives
-    result_sort o GivesInt h = (Jint, jint_is o h, refl)
-    result_sort o GivesFlag h = (Flag, flag_is o h, refl)
-    result_sort o NewLocal h = (Ref, ref_is o h, refl)
-    result_sort (Some Global) NewGlobal h = (Global, refl, refl)
-    result_sort o NewGlobal h = absurd (cc)
-    result_sort (Some Weak) NewWeak h = (Weak, refl, refl)
-    result_sort o NewWeak h = absurd (cc)
-    result_sort o GivesField h = (FieldId, field_is o h, refl)
-    result_sort o GivesMethod h = (MethodId, method_is o h, refl)
-    result_sort o (GivesBuffer access) h = let s = some_buffer access o h in (s.0, s.1, subst (λ (p : Option Sort). is_buffer_for access p ≡ true) s.1 h)
-    result_sort o GivesNothing h = absurd (cc)
+    -- the type of what takes a result
+    result_type : (o : Option ExprType) (gives : ResultKind) → result_fits o gives ≡ true → (s : ExprType) × (o ≡ Some s) × ResultFits s gives
+    result_type o GivesInt h = (Jint, jint_is o h, refl)
+    result_type o GivesFlag h = (Flag, flag_is o h, refl)
+    result_type o NewLocal h = (Ref, ref_is o h, refl)
+    result_type (Some Global) NewGlobal h = (Global, refl, refl)
+    result_type o NewGlobal h = absurd (cc)
+    result_type (Some Weak) NewWeak h = (Weak, refl, refl)
+    result_type o NewWeak h = absurd (cc)
+    result_type o GivesField h = (FieldId, field_is o h, refl)
+    result_type o GivesMethod h = (MethodId, method_is o h, refl)
+    result_type o (GivesBuffer access) h = let s = some_buffer access o h in (s.0, s.1, subst (λ (p : Option ExprType). is_buffer_for access p ≡ true) s.1 h)
+    result_type o GivesNothing h = absurd (cc)
 
-    call_gives : (o : Option Sort) (c : Call) → CallHolds known (Some c) → call_fits o (function_named c.function) ≡ true → (s : Sort) × (o ≡ Some s) × CallGives known s c
+    call_gives : (o : Option ExprType) (c : Call) → CallHolds known (Some c) → call_fits o (function_named c.function) ≡ true → (s : ExprType) × (o ≡ Some s) × CallGives known s c
     call_gives o c holds h =
         let is = known_call c holds.function in
         let fits = fits_with c holds is in
         let known_fits : call_fits o (Some is.function) ≡ true = sym (ap (call_fits o) is.named) ∙ h in
-        let result = result_sort o (prototype is.function).result (and_right (not (is_push is.function)) (result_fits o (prototype is.function).result) known_fits) in
+        let result = result_type o (prototype is.function).result (and_right (not (is_push is.function)) (result_fits o (prototype is.function).result) known_fits) in
         (result.0, result.1, record { fits = fits.0; result = subst (λ f. ResultFits result.0 (prototype f).result) (sym fits.1) result.2 })
 
-    same_sort : (a b : Sort) → Some a ≡ Some b → a ≡ b
-    same_sort a b e = cc
+    same_type : (a b : ExprType) → Some a ≡ Some b → a ≡ b
+    same_type a b e = cc
 
-    gives_sort : (s : Sort) (c : Call) → CallHolds known (Some c) → call_fits (Some s) (function_named c.function) ≡ true → CallGives known s c
-    gives_sort s c holds h =
+    gives_type : (s : ExprType) (c : Call) → CallHolds known (Some c) → call_fits (Some s) (function_named c.function) ≡ true → CallGives known s c
+    gives_type s c holds h =
         let gives = call_gives (Some s) c holds h in
-        subst (λ (t : Sort). CallGives known t c) (sym (same_sort s gives.0 gives.1)) gives.2
+        subst (λ (t : ExprType). CallGives known t c) (sym (same_type s gives.0 gives.1)) gives.2
 
     -- ---- right sides
 
-    value_fits : (s : Sort) (e : Expr) → IsFine e → value_sets (scope_of known) (Some s) e ≡ true → copies_reference (scope_of known) (Some s) (Some (FromExpr e)) ≡ false → ValueFits known s e
-    value_fits Word e fine h k = number_fits known e Word no_truth fine (word_is (sort_of (scope_of known) e) h) tt
-    value_fits Jint e fine h k = number_fits known e Jint no_truth fine (jint_is (sort_of (scope_of known) e) h) tt
-    value_fits Flag e fine h k = number_fits known e Flag no_truth fine (flag_is (sort_of (scope_of known) e) h) tt
-    value_fits Ref e fine h k = null_is e (or_only (is_null e) (is_some (name_sort (scope_of known) e)) h k)
+    value_fits : (s : ExprType) (e : Expr) → IsFine e → value_sets (scope_of known) (Some s) e ≡ true → copies_reference (scope_of known) (Some s) (Some (FromExpr e)) ≡ false → ValueFits known s e
+    value_fits Word e fine h k = number_fits known e Word no_truth fine (word_is (type_of (scope_of known) e) h) tt
+    value_fits Jint e fine h k = number_fits known e Jint no_truth fine (jint_is (type_of (scope_of known) e) h) tt
+    value_fits Flag e fine h k = number_fits known e Flag no_truth fine (flag_is (type_of (scope_of known) e) h) tt
+    value_fits Ref e fine h k = null_is e (or_only (is_null e) (is_some (name_type (scope_of known) e)) h k)
     value_fits Global e fine h k = null_is e h
     value_fits Weak e fine h k = null_is e h
     value_fits FieldId e fine h k = null_is e h
     value_fits MethodId e fine h k = null_is e h
     value_fits s e fine h k = absurd (cc)
 
-    pub right_fits : (s : Sort) (r : RightSide) → AreFine (right_side_expressions r) → CallHolds known (call_of_right_side (Some r)) → right_side_sets (scope_of known) (Some s) r ≡ true → copies_reference (scope_of known) (Some s) (Some r) ≡ false
+    pub right_fits : (s : ExprType) (r : RightSide) → AreFine (right_side_expressions r) → CallHolds known (call_of_right_side (Some r)) → right_side_sets (scope_of known) (Some s) r ≡ true → copies_reference (scope_of known) (Some s) (Some r) ≡ false
         → RightFits known s r
     right_fits s (FromExpr e) fine holds h k = value_fits s e fine.0 h k
-    right_fits s (FromCall c) fine holds h k = gives_sort s c holds h
+    right_fits s (FromCall c) fine holds h k = gives_type s c holds h
 
     pub buffer_fits : (t : ElementType) (w : Bool) (r : RightSide) → CallHolds known (call_of_right_side (Some r)) → buffer_begins (scope_of known) (Buffer t w) r ≡ true → RightFits known (Buffer t w) r
     buffer_fits t w (FromExpr e) holds h = null_is e h
-    buffer_fits t w (FromCall c) holds h = gives_sort (Buffer t w) c holds h
+    buffer_fits t w (FromCall c) holds h = gives_type (Buffer t w) c holds h
 
-    assigned_sort : (o : Option Sort) (r : RightSide) → CallHolds known (call_of_right_side (Some r)) → right_side_sets (scope_of known) o r ≡ true → (s : Sort) × (o ≡ Some s)
-    assigned_sort (Some s) r holds h = (s, refl)
-    assigned_sort None (FromExpr e) holds h = absurd (cc)
-    assigned_sort None (FromCall c) holds h = absurd (let gives = call_gives None c holds h in let e : None ≡ Some gives.0 = gives.1 in cc)
+    assigned_type : (o : Option ExprType) (r : RightSide) → CallHolds known (call_of_right_side (Some r)) → right_side_sets (scope_of known) o r ≡ true → (s : ExprType) × (o ≡ Some s)
+    assigned_type (Some s) r holds h = (s, refl)
+    assigned_type None (FromExpr e) holds h = absurd (cc)
+    assigned_type None (FromCall c) holds h = absurd (let gives = call_gives None c holds h in let e : None ≡ Some gives.0 = gives.1 in cc)
 
-    pub assigned_fits : (x : Identifier) (r : RightSide) → AreFine (right_side_expressions r) → CallHolds known (call_of_right_side (Some r)) → right_side_sets (scope_of known) (sort_in (scope_of known) x) r ≡ true
-        → copies_reference (scope_of known) (sort_in (scope_of known) x) (Some r) ≡ false → (s : Slot) × (lookup x known ≡ Some s) × RightFits known s.sort r
+    pub assigned_fits : (x : Identifier) (r : RightSide) → AreFine (right_side_expressions r) → CallHolds known (call_of_right_side (Some r)) → right_side_sets (scope_of known) (type_in (scope_of known) x) r ≡ true
+        → copies_reference (scope_of known) (type_in (scope_of known) x) (Some r) ≡ false → (s : Slot) × (lookup x known ≡ Some s) × RightFits known s.ty r
     assigned_fits x r fine holds h k =
-        let s = assigned_sort (sort_in (scope_of known) x) r holds h in
+        let s = assigned_type (type_in (scope_of known) x) r holds h in
         let at = slot_of_name x known s.0 s.1 in (
-          record { sort = s.0; index = at.0 },
+          record { ty = s.0; index = at.0 },
           at.1,
-          right_fits s.0 r fine holds (subst (λ (o : Option Sort). right_side_sets (scope_of known) o r ≡ true) s.1 h) (subst (λ (o : Option Sort). copies_reference (scope_of known) o (Some r) ≡ false) s.1 k),
+          right_fits s.0 r fine holds (subst (λ (o : Option ExprType). right_side_sets (scope_of known) o r ≡ true) s.1 h) (subst (λ (o : Option ExprType). copies_reference (scope_of known) o (Some r) ≡ false) s.1 k),
         )
 
     -- ---- other statements
 
-    pub element_fits : (x : Identifier) (i e : Expr) → IsFine i → IsFine e → (has_elements (sort_in (scope_of known) x) && is_index (sort_of (scope_of known) i) && is_jint (sort_of (scope_of known) e)) ≡ true
-        → ((n : Slot) × (lookup x known ≡ Some n) × HasElements n.sort) × ((r : Sort) × IsIndexSort r × NumberFits known (term_of i) r) × NumberFits known (term_of e) Jint
+    pub element_fits : (x : Identifier) (i e : Expr) → IsFine i → IsFine e → (has_elements (type_in (scope_of known) x) && is_index (type_of (scope_of known) i) && is_jint (type_of (scope_of known) e)) ≡ true
+        → ((n : Slot) × (lookup x known ≡ Some n) × HasElements n.ty) × ((r : ExprType) × IsIndexType r × NumberFits known (term_of i) r) × NumberFits known (term_of e) Jint
     element_fits x i e index value h =
-        let all = all_three (has_elements (sort_in (scope_of known) x)) (is_index (sort_of (scope_of known) i)) (is_jint (sort_of (scope_of known) e)) h in
-        let s = elements (sort_in (scope_of known) x) all.0 in
+        let all = all_three (has_elements (type_in (scope_of known) x)) (is_index (type_of (scope_of known) i)) (is_jint (type_of (scope_of known) e)) h in
+        let s = elements (type_in (scope_of known) x) all.0 in
         let at = slot_of_name x known s.0 s.1 in
-        let r = indexed (sort_of (scope_of known) i) all.1 in (
-          (record { sort = s.0; index = at.0 }, at.1, s.2),
+        let r = indexed (type_of (scope_of known) i) all.1 in (
+          (record { ty = s.0; index = at.0 }, at.1, s.2),
           (r.0, r.2, number_fits known i r.0 no_truth index r.1 (index_is_value r.0 r.2)),
-          number_fits known e Jint no_truth value (jint_is (sort_of (scope_of known) e) all.2) tt,
+          number_fits known e Jint no_truth value (jint_is (type_of (scope_of known) e) all.2) tt,
         )
 
-    pub jint_fits : (e : Expr) → IsFine e → is_jint (sort_of (scope_of known) e) ≡ true → NumberFits known (term_of e) Jint
-    jint_fits e fine h = number_fits known e Jint no_truth fine (jint_is (sort_of (scope_of known) e) h) tt
+    pub jint_fits : (e : Expr) → IsFine e → is_jint (type_of (scope_of known) e) ≡ true → NumberFits known (term_of e) Jint
+    jint_fits e fine h = number_fits known e Jint no_truth fine (jint_is (type_of (scope_of known) e) h) tt
 
-    pub truth_fits : (e : Expr) → IsFine e → is_truth (sort_of (scope_of known) e) ≡ true → NumberFits known (term_of e) Truth
-    truth_fits e fine h = number_fits known e Truth no_truth fine (truth_is (sort_of (scope_of known) e) h) tt
+    pub truth_fits : (e : Expr) → IsFine e → is_truth (type_of (scope_of known) e) ≡ true → NumberFits known (term_of e) Truth
+    truth_fits e fine h = number_fits known e Truth no_truth fine (truth_is (type_of (scope_of known) e) h) tt
 
     pub tested_fits : (test : Test) → AreFine (test_expressions test) → ((c : Call) → test ≡ TestCall c → CallHolds known (Some c)) → test_fits (scope_of known) test ≡ true → TestFits known test
     tested_fits (TestExpr e) fine holds h = truth_fits e fine.0 h
@@ -402,14 +402,14 @@ module _ (known : Known) where
 
     return_number : (t : Term) → NumberFits known t Jint → ReturnFits known t
     return_number (term.Named tree.Null) h = tt
-    return_number (Read x) h = (record { sort = Jint; index = h.sort.0 }, h.sort.1, inr refl)
+    return_number (Read x) h = (record { ty = Jint; index = h.ty.0 }, h.ty.1, inr refl)
     return_number t h = h
 
-    return_reference : (e : Expr) → (is_null e || is_ref (name_sort (scope_of known) e)) ≡ true → ReturnFits known (term_of e)
+    return_reference : (e : Expr) → (is_null e || is_ref (name_type (scope_of known) e)) ≡ true → ReturnFits known (term_of e)
     return_reference (tree.Named tree.Null) h = tt
     return_reference (tree.Variable x) h =
-        let at = slot_of_name x known Ref (ref_is (sort_in (scope_of known) x) h) in
-        (record { sort = Ref; index = at.0 }, at.1, inl refl)
+        let at = slot_of_name x known Ref (ref_is (type_in (scope_of known) x) h) in
+        (record { ty = Ref; index = at.0 }, at.1, inl refl)
     return_reference e h = absurd (cc)
 
     pub returned_fits : (returns : ResultType) (e : Expr) → IsFine e → return_fits (scope_of known) returns e ≡ true → ReturnFits known (term_of e)

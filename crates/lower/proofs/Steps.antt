@@ -7,8 +7,8 @@ use Rattle.std.proofs.Math.Facts.{to_z-of_z}
 use Rattle.std.proofs.lemmas.List.{append-nil}
 use Rattle.std.proofs.lemmas.Bool.{lt-ltb, le-leb}
 use Rattle.base.specs.Bytes.{Identifier}
-use Rattle.type_rules.specs.Sorts.{Sort, Jint, Ref, Global, Weak, FieldId, MethodId, Buffer, Array}
-use Rattle.type_rules.specs.Sorts as sort
+use Rattle.type_rules.specs.ExprTypes.{ExprType, Jint, Ref, Global, Weak, FieldId, MethodId, Buffer, Array}
+use Rattle.type_rules.specs.ExprTypes as ty
 use Rattle.code.specs.declared.instr.NullableVariable.{NullableVariable}
 use Rattle.code.specs.declared.instr.NullableVariable.TheVariants as nullable
 use Rattle.code.specs.declared.instr.Instr.{Instr}
@@ -26,8 +26,8 @@ use Rattle.semantics.specs.Value.{Value, Word, Int, Flag, Truth, Gives}
 use Rattle.code_meaning.specs.Layout.{Slot, Known}
 use Rattle.code_meaning.specs.Coding.{nullable_of, term_code}
 use Rattle.code_meaning.specs.Slots.{word_of, is_empty, is_no_buffer, Visible, Slots, ShowsSlot, Shows, SeesBuffers}
-use Rattle.code_meaning.specs.Fits.{TermHasSort}
-use Rattle.code_meaning.specs.Stands.{held, IsBegun, HasAt, IsUnderWay, kind_of_sort, GoesTo, target_name, TasksStand, StandsFor, task_returns}
+use Rattle.code_meaning.specs.Fits.{TermHasType}
+use Rattle.code_meaning.specs.Stands.{held, IsBegun, HasAt, IsUnderWay, kind_of_type, GoesTo, target_name, TasksStand, StandsFor, task_returns}
 use Rattle.code_meaning.specs.Does.{AtEnd, Works, CanBeNull, kind_of_target, IsStoredIn, DoesEffect}
 use Rattle.code_meaning.proofs.SlotLaws.{fewer_shown, number_below, shows_set, KindFits, shows_nulled, shows_made}
 use Rattle.lower.proofs.CodePlaces.{has_back}
@@ -38,23 +38,23 @@ pub into_task : (sight : Sight) (line : ℕ) (f : Value → Effect) (task : Term
 into_task sight line f task (Done v) o = absurd o
 into_task sight line f task t o = refl
 
--- where a way over these instructions leads
-pub at_way : (P : ℕ → Type 0) (place : ℕ) (way : Plain) (skipped : List Instr) → LeadsOver way skipped → P (place + 1 + length skipped) → AtEnd P place way
-at_way P place plain.Next skipped h k = let e : place + 1 + length skipped ≡ place + 1 = omega (arith, ap length h) in subst P e k
-at_way P place (plain.Skip n) skipped h k = subst (λ m. P (place + 1 + m)) (sym h) k
-at_way P place (plain.Back n) skipped h k = absurd h
-at_way P place (plain.Trap t line) skipped h k = absurd h
+-- where a path over these instructions leads
+pub at_path : (P : ℕ → Type 0) (place : ℕ) (path : Plain) (skipped : List Instr) → LeadsOver path skipped → P (place + 1 + length skipped) → AtEnd P place path
+at_path P place plain.Next skipped h k = let e : place + 1 + length skipped ≡ place + 1 = omega (arith, ap length h) in subst P e k
+at_path P place (plain.Skip n) skipped h k = subst (λ m. P (place + 1 + m)) (sym h) k
+at_path P place (plain.Back n) skipped h k = absurd h
+at_path P place (plain.Trap t line) skipped h k = absurd h
 
 -- The place, with these names known, these operands and these slots, which show what can be seen.
 module _ (code : Listing) (known : Known) (place : ℕ) (stack : List ℕ) (slots : Slots) (visible : Visible) (shows : Shows code known visible slots) (sees : SeesBuffers visible slots.buffers) where
   -- ---- a step inside an expression
 
   -- The expression is on the stack in front of `base`, and its instructions come before `after`.
-  module _ (line : ℕ) (t : Term) (s : Sort) (base : List ℕ) (rest_of : List Instr) (task : Term → Task) (rest : List Task) where
+  module _ (line : ℕ) (t : Term) (s : ExprType) (base : List ℕ) (rest_of : List Instr) (task : Term → Task) (rest : List Task) where
     -- what is at the place that a step leads to
     abbrev Further : Type 0
     Further =
-        (p : ℕ) (u : Term) → TermHasSort known u s → IsBegun u → HasAt code.instrs p (term_code known line u ++ rest_of) → p + length (term_code known line u) ≡ place + length (term_code known line t)
+        (p : ℕ) (u : Term) → TermHasType known u s → IsBegun u → HasAt code.instrs p (term_code known line u ++ rest_of) → p + length (term_code known line u) ≡ place + length (term_code known line t)
         → TasksStand code known p (held u ++ base) (task u ∷ rest)
 
     outcome_does : (here : Instr) (more : List Instr) → term_code known line t ≡ here ∷ more → stack ≡ held t ++ base → HasAt code.instrs place (term_code known line t ++ rest_of) → ((u : Term) → IsTrue (list_any task_returns (task u ∷ rest))) → Further
@@ -67,13 +67,13 @@ module _ (code : Listing) (known : Known) (place : ℕ) (stack : List ℕ) (slot
         let size : place + 1 + length g.skipped + length (term_code known line g.next) ≡ place + length (term_code known line t) = omega (arith, ap length is, ap length g.code, length-append g.skipped (term_code known line g.next)) in
         subst (λ r. DoesEffect code known place stack slots visible rest (goes_on line task r)) (sym g.is) (record {
           here = here;
-          way = g.way;
+          path = g.path;
           after = held g.next ++ base;
           at = whole.0;
-          works = subst (λ a. Works visible slots here a g.way (held g.next ++ base)) (sym operands) (g.works base);
+          works = subst (λ a. Works visible slots here a g.path (held g.next ++ base)) (sym operands) (g.works base);
           names = known;
           shows = shows;
-          stands = at_way (λ p. StandsFor code known p (held g.next ++ base) (task g.next ∷ rest)) place g.way g.skipped g.leads (record { stand = further (place + 1 + length g.skipped) g.next g.sort g.begun there size; returns = returns g.next });
+          stands = at_path (λ p. StandsFor code known p (held g.next ++ base) (task g.next ∷ rest)) place g.path g.skipped g.leads (record { stand = further (place + 1 + length g.skipped) g.next g.ty g.begun there size; returns = returns g.next });
         })
     outcome_does here more is operands at returns further (inr (inl g)) =
         let whole : HasAt code.instrs place ((here ∷ more) ++ rest_of) = subst (λ c. HasAt code.instrs place (c ++ rest_of)) is at in
@@ -86,18 +86,18 @@ module _ (code : Listing) (known : Known) (place : ℕ) (stack : List ℕ) (slot
         })
     outcome_does here more is operands at returns further (inr (inr none)) = subst (λ r. DoesEffect code known place stack slots visible rest (goes_on line task r)) (sym none) tt
 
-    pub step_inside : IsOpen t → TermHasSort known t s → IsBegun t → stack ≡ held t ++ base → HasAt code.instrs place (term_code known line t ++ rest_of) → ((u : Term) → IsTrue (list_any task_returns (task u ∷ rest))) → Further
+    pub step_inside : IsOpen t → TermHasType known t s → IsBegun t → stack ≡ held t ++ base → HasAt code.instrs place (term_code known line t ++ rest_of) → ((u : Term) → IsTrue (list_any task_returns (task u ∷ rest))) → Further
         → DoesEffect code known place stack slots visible rest (goes_on line task (reduce visible.sight t))
-    step_inside o sorted begun operands at returns further =
-        let st = steps_term known line slots visible shows.each sees t s o sorted begun in
+    step_inside o well_typed begun operands at returns further =
+        let st = steps_term known line slots visible shows.each sees t s o well_typed begun in
         outcome_does st.here st.more st.code operands at returns further st.outcome
 
   -- the same where the expression is alone on the stack
   alone : (t : Term) → stack ≡ held t → stack ≡ held t ++ []
   alone t h = h ∙ sym (append-nil (held t))
 
-  under_way : (t : Term) (s : Sort) → TermHasSort known t s → IsBegun t → IsUnderWay known s t (held t ++ [])
-  under_way t s sorted begun = record { sort = sorted; begun = begun; operands = append-nil (held t) }
+  under_way : (t : Term) (s : ExprType) → TermHasType known t s → IsBegun t → IsUnderWay known s t (held t ++ [])
+  under_way t s well_typed begun = record { ty = well_typed; begun = begun; operands = append-nil (held t) }
 
   none_left : place + 0 + 1 ≡ place + 1
   none_left = omega arith
@@ -109,17 +109,17 @@ module _ (code : Listing) (known : Known) (place : ℕ) (stack : List ℕ) (slot
     at = h.stand.0.1.0;
     word = cast_unsigned w32 z;
     top = h.stand.0.0.operands;
-    is = to_z-of_z h.stand.0.0.sort.0;
+    is = to_z-of_z h.stand.0.0.ty.0;
     stands = record { stand = subst (λ n. TasksStand code known n [] rest) none_left h.stand.1; returns = h.returns };
   }
-  put_step line (Done (Word n)) rest h = absurd (let e : Jint ≡ sort.Word = h.stand.0.0.sort.1 in cc)
-  put_step line (Done (Flag b)) rest h = absurd (let e : Jint ≡ sort.Flag = h.stand.0.0.sort in cc)
-  put_step line (Done (Truth b)) rest h = absurd (let e : Jint ≡ sort.Truth = h.stand.0.0.sort in cc)
+  put_step line (Done (Word n)) rest h = absurd (let e : Jint ≡ ty.Word = h.stand.0.0.ty.1 in cc)
+  put_step line (Done (Flag b)) rest h = absurd (let e : Jint ≡ ty.Flag = h.stand.0.0.ty in cc)
+  put_step line (Done (Truth b)) rest h = absurd (let e : Jint ≡ ty.Truth = h.stand.0.0.ty in cc)
   put_step line t rest h =
-      step_inside line t Jint [] (instr.PutJint ∷ []) (Print line) rest tt h.stand.0.0.sort h.stand.0.0.begun (alone t h.stand.0.0.operands) h.stand.0.1 (λ u. h.returns)
-      (λ p u sorted begun at size.
+      step_inside line t Jint [] (instr.PutJint ∷ []) (Print line) rest tt h.stand.0.0.ty h.stand.0.0.begun (alone t h.stand.0.0.operands) h.stand.0.1 (λ u. h.returns)
+      (λ p u well_typed begun at size.
       let e : place + length (term_code known line t) + 1 ≡ p + length (term_code known line u) + 1 = omega (arith, size) in
-      ((under_way u Jint sorted begun, at), subst (λ n. TasksStand code known n [] rest) e h.stand.1))
+      ((under_way u Jint well_typed begun, at), subst (λ n. TasksStand code known n [] rest) e h.stand.1))
 
   -- ---- variables that are set
 
@@ -133,7 +133,7 @@ module _ (code : Listing) (known : Known) (place : ℕ) (stack : List ℕ) (slot
         at = d.value.1.0;
         plain = rw (d.value.0.operands, lt-ltb d.slot.index (length slots.numbers) below) refl;
         names = d.further.0;
-        shows = λ new set. fewer_shown code d.further.0 ((x, d.slot) ∷ known) new (record slots { numbers = slice_set slots.numbers d.slot.index (word_of v) }) d.further.1 (shows_set code known visible new slots x d.slot v shows d.own d.number d.value.0.sort set);
+        shows = λ new set. fewer_shown code d.further.0 ((x, d.slot) ∷ known) new (record slots { numbers = slice_set slots.numbers d.slot.index (word_of v) }) d.further.1 (shows_set code known visible new slots x d.slot v shows d.own d.number d.value.0.ty set);
         stands = record { stand = subst (λ n. TasksStand code d.further.0 n [] rest) none_left d.further.2; returns = h.returns };
       }
 
@@ -141,19 +141,19 @@ module _ (code : Listing) (known : Known) (place : ℕ) (stack : List ℕ) (slot
   set_step line x (Done v) rest h = set_value line x v rest h
   set_step line x t rest h =
       let d = h.stand in
-      step_inside line t d.slot.sort [] (instr.Store d.slot.index ∷ []) (SetScalar line x) rest tt d.value.0.sort d.value.0.begun (alone t d.value.0.operands) d.value.1 (λ u. h.returns)
-      (λ p u sorted begun at size.
+      step_inside line t d.slot.ty [] (instr.Store d.slot.index ∷ []) (SetScalar line x) rest tt d.value.0.ty d.value.0.begun (alone t d.value.0.operands) d.value.1 (λ u. h.returns)
+      (λ p u well_typed begun at size.
       let e : place + length (term_code known line t) + 1 ≡ p + length (term_code known line u) + 1 = omega (arith, size) in
       record {
         slot = d.slot;
         number = d.number;
-        value = (under_way u d.slot.sort sorted begun, at);
+        value = (under_way u d.slot.ty well_typed begun, at);
         own = d.own;
         further = (d.further.0, d.further.1, subst (λ n. TasksStand code d.further.0 n [] rest) e d.further.2);
       })
 
   -- what a name with a slot that can be NULL shows
-  shown_null : (x : Identifier) (s : Slot) (kind : Sort) (variable : NullableVariable) → nullable_of kind s.index ≡ Some variable → ShowsSlot visible x slots s kind → (null : Bool) × (visible.sight.is_null x ≡ Gives null)
+  shown_null : (x : Identifier) (s : Slot) (kind : ExprType) (variable : NullableVariable) → nullable_of kind s.index ≡ Some variable → ShowsSlot visible x slots s kind → (null : Bool) × (visible.sight.is_null x ≡ Gives null)
   shown_null x s Ref variable e h = (is_none h.reference, h.is_null)
   shown_null x s Global variable e h = (is_empty h.static.held, h.is_null)
   shown_null x s Weak variable e h = (is_empty h.static.held, h.is_null)
@@ -163,21 +163,21 @@ module _ (code : Listing) (known : Known) (place : ℕ) (stack : List ℕ) (slot
   shown_null x s kind variable e h = absurd (cc)
 
   -- a variable that can be NULL is declared as no number
-  no_scalar : (s : Sort) (i : ℕ) (variable : NullableVariable) → nullable_of s i ≡ Some variable → kind_of_sort s ≡ Some ScalarKind → ⊥
-  no_scalar sort.Word i variable e h = cc
+  no_scalar : (s : ExprType) (i : ℕ) (variable : NullableVariable) → nullable_of s i ≡ Some variable → kind_of_type s ≡ Some ScalarKind → ⊥
+  no_scalar ty.Word i variable e h = cc
   no_scalar s i variable e h = cc
 
-  can_be_null : (target : Target) (s : Slot) (variable : NullableVariable) → nullable_of s.sort s.index ≡ Some variable → GoesTo known s target → CanBeNull code known place stack slots visible target
-  can_be_null (Declared ScalarKind x) s variable e h = no_scalar s.sort s.index variable e h
+  can_be_null : (target : Target) (s : Slot) (variable : NullableVariable) → nullable_of s.ty s.index ≡ Some variable → GoesTo known s target → CanBeNull code known place stack slots visible target
+  can_be_null (Declared ScalarKind x) s variable e h = no_scalar s.ty s.index variable e h
   can_be_null (Declared ReferenceKind x) s variable e h = tt
   can_be_null (Declared FieldKind x) s variable e h = tt
   can_be_null (Declared MethodKind x) s variable e h = tt
   can_be_null (Declared (BufferKind t) x) s variable e h = tt
-  can_be_null (Assigned x) s variable e h = shown_null x s s.sort variable e (shows.each x s h)
+  can_be_null (Assigned x) s variable e h = shown_null x s s.ty variable e (shows.each x s h)
   can_be_null target s variable e h = absurd h
 
   -- the variable is of its slot's kind
-  declared_kind : (x : Identifier) (i : ℕ) (s : Sort) (kind : VariableKind) → kind_of_sort s ≡ Some kind → KindFits visible x i s (Some kind)
+  declared_kind : (x : Identifier) (i : ℕ) (s : ExprType) (kind : VariableKind) → kind_of_type s ≡ Some kind → KindFits visible x i s (Some kind)
   declared_kind x i Ref kind h = sym h
   declared_kind x i Global kind h = absurd (cc)
   declared_kind x i Weak kind h = absurd (cc)
@@ -186,7 +186,7 @@ module _ (code : Listing) (known : Known) (place : ℕ) (stack : List ℕ) (slot
   declared_kind x i (Buffer t writable) kind h = sym h
   declared_kind x i s kind h = tt
 
-  shown_kind : (x : Identifier) (s : Slot) (t : Sort) → ShowsSlot visible x slots s t → KindFits visible x s.index t (visible.kind x)
+  shown_kind : (x : Identifier) (s : Slot) (t : ExprType) → ShowsSlot visible x slots s t → KindFits visible x s.index t (visible.kind x)
   shown_kind x s Ref h = h.kind
   shown_kind x s Global h = (h.no_variable.kind, h)
   shown_kind x s Weak h = (h.no_variable.kind, h)
@@ -195,13 +195,13 @@ module _ (code : Listing) (known : Known) (place : ℕ) (stack : List ℕ) (slot
   shown_kind x s (Buffer t writable) h = h.kind
   shown_kind x s t h = tt
 
-  kind_fits : (target : Target) (name : Identifier) (s : Slot) → target_name target ≡ Some name → GoesTo known s target → KindFits visible name s.index s.sort (kind_of_target code known place stack slots visible target)
-  kind_fits (Declared kind x) name s is h = declared_kind name s.index s.sort kind h
-  kind_fits (Assigned x) name s is h = let same : x ≡ name = cc in subst (λ (y : Identifier). KindFits visible y s.index s.sort (visible.kind x)) same (shown_kind x s s.sort (shows.each x s h))
+  kind_fits : (target : Target) (name : Identifier) (s : Slot) → target_name target ≡ Some name → GoesTo known s target → KindFits visible name s.index s.ty (kind_of_target code known place stack slots visible target)
+  kind_fits (Declared kind x) name s is h = declared_kind name s.index s.ty kind h
+  kind_fits (Assigned x) name s is h = let same : x ≡ name = cc in subst (λ (y : Identifier). KindFits visible y s.index s.ty (visible.kind x)) same (shown_kind x s s.ty (shows.each x s h))
   kind_fits target name s is h = absurd h
 
   -- where a NULL is stored, by what is known of the kind
-  stored_in : (s : Sort) (i : ℕ) (name : Identifier) (kind : Option VariableKind) (variable : NullableVariable) → nullable_of s i ≡ Some variable → KindFits visible name i s kind → IsStoredIn code known place stack slots visible variable kind name
+  stored_in : (s : ExprType) (i : ℕ) (name : Identifier) (kind : Option VariableKind) (variable : NullableVariable) → nullable_of s i ≡ Some variable → KindFits visible name i s kind → IsStoredIn code known place stack slots visible variable kind name
   stored_in Ref i name kind variable e h = subst (λ (v : NullableVariable). IsStoredIn code known place stack slots visible v kind name) (let is : nullable.Local i ≡ variable = cc in is) h
   stored_in Global i name kind variable e h = subst (λ (v : NullableVariable). IsStoredIn code known place stack slots visible v kind name) (let is : nullable.Static i ≡ variable = cc in is) h
   stored_in Weak i name kind variable e h = subst (λ (v : NullableVariable). IsStoredIn code known place stack slots visible v kind name) (let is : nullable.Static i ≡ variable = cc in is) h
@@ -219,10 +219,10 @@ module _ (code : Listing) (known : Known) (place : ℕ) (stack : List ℕ) (slot
         is = d.is;
         takes = can_be_null target d.slot d.variable d.nullable d.takes;
         variable = d.variable;
-        stored = stored_in d.slot.sort d.slot.index d.name (kind_of_target code known place stack slots visible target) d.variable d.nullable (kind_fits target d.name d.slot d.is d.takes);
+        stored = stored_in d.slot.ty d.slot.index d.name (kind_of_target code known place stack slots visible target) d.variable d.nullable (kind_fits target d.name d.slot d.is d.takes);
         at = d.at;
         names = d.further.0;
-        shows = λ new set. fewer_shown code d.further.0 ((d.name, d.slot) ∷ known) new _ d.further.1 (shows_nulled code known visible new slots d.name d.slot.sort (kind_of_target code known place stack slots visible target) d.slot.index d.variable shows d.own d.nullable (kind_fits target d.name d.slot d.is d.takes) set);
+        shows = λ new set. fewer_shown code d.further.0 ((d.name, d.slot) ∷ known) new _ d.further.1 (shows_nulled code known visible new slots d.name d.slot.ty (kind_of_target code known place stack slots visible target) d.slot.index d.variable shows d.own d.nullable (kind_fits target d.name d.slot d.is d.takes) set);
         stands = record { stand = d.further.2; returns = h.returns };
       }
 
@@ -238,7 +238,7 @@ module _ (code : Listing) (known : Known) (place : ℕ) (stack : List ℕ) (slot
         at = d.at;
         plain = clears;
         names = d.further.0;
-        shows = λ new made. fewer_shown code d.further.0 ((x, record { sort = Array t size; index = d.start }) ∷ known) new _ d.further.1
+        shows = λ new made. fewer_shown code d.further.0 ((x, record { ty = Array t size; index = d.start }) ∷ known) new _ d.further.1
             (shows_made code known visible new slots t x size d.start shows d.own (subst (KeepsSlots slots.numbers) clears (plain_keeps (instr.ClearArray (record { start = d.start; len = size })) stack slots.numbers)) made);
         stands = record { stand = d.further.2; returns = h.returns };
       }

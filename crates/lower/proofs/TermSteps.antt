@@ -18,9 +18,9 @@ use Rattle.semantics.specs.Variable as variable
 use Rattle.semantics.specs.Variable.{StaticReference}
 use Rattle.code_meaning.proofs.StaticPlaces.{there_at}
 use Rattle.base.specs.Element.{ElementType, JInt}
-use Rattle.type_rules.specs.Sorts.{Sort, Jint, Ref, Global, FieldId, MethodId, Buffer, Array, OperatorGroup, Logic, Equality, Order, OnWords, group, is_jint}
-use Rattle.type_rules.specs.Sorts as sort
-use Rattle.type_rules.specs.SortGroups.{IsIndexSort, IsNumberSort, OperatorFits}
+use Rattle.type_rules.specs.ExprTypes.{ExprType, Jint, Ref, Global, FieldId, MethodId, Buffer, Array, OperatorGroup, Logic, Equality, Order, OnWords, group, is_jint}
+use Rattle.type_rules.specs.ExprTypes as ty
+use Rattle.type_rules.specs.TypeGroups.{IsIndexType, IsNumberType, OperatorFits}
 use Rattle.code.specs.declared.instr.Operator.TheVariants as operator
 use Rattle.code.specs.declared.instr.TrappingOperator.TheVariants as trapping
 use Rattle.code.specs.declared.instr.NullableVariable.{NullableVariable}
@@ -37,8 +37,8 @@ use Rattle.semantics.specs.Term as term
 use Rattle.semantics.specs.Term.{Term, Done, Read, IsNull, Prefix, And, Or, Binary, Reduction, done, with_part, reduce}
 use Rattle.code_meaning.specs.Layout.{Slot, Known}
 use Rattle.code_meaning.specs.Coding.{nullable_of, test_of, null_code, element_code, of_slot, load_code, prefix_code, operator_code, is_signed, skip_code, term_code}
-use Rattle.code_meaning.specs.Slots.{word_of, ValueHasSort, Visible, Slots, OfField, OfMethod, is_empty, is_no_buffer, ShowsNumber, ShowsArray, ShowsBuffer, ShowsSlot, elements_in, seen_element, SeesBuffers, slot_elements, holds_null}
-use Rattle.code_meaning.specs.Fits.{IsNullable, HasElements, TermHasSort, IsUntouched}
+use Rattle.code_meaning.specs.Slots.{word_of, ValueHasType, Visible, Slots, OfField, OfMethod, is_empty, is_no_buffer, ShowsNumber, ShowsArray, ShowsBuffer, ShowsSlot, elements_in, seen_element, SeesBuffers, slot_elements, holds_null}
+use Rattle.code_meaning.specs.Fits.{IsNullable, HasElements, TermHasType, IsUntouched}
 use Rattle.code_meaning.specs.Stands.{held, IsBegun}
 use Rattle.code_meaning.specs.Does.{trap_of, Loads, Works}
 
@@ -47,11 +47,11 @@ abbrev pub IsOpen : Term → Type 0
 IsOpen (Done v) = ⊥
 IsOpen t = Unit {0}
 
--- a way over these instructions
+-- a path over these instructions
 abbrev pub LeadsOver : Plain → List Instr → Type 0
 LeadsOver plain.Next skipped = skipped ≡ []
 LeadsOver (plain.Skip n) skipped = n ≡ length skipped
-LeadsOver way skipped = ⊥
+LeadsOver path skipped = ⊥
 
 -- ---- terms that are not begun
 
@@ -88,34 +88,34 @@ pub left_first : (op : BinaryOp) (a b : Term) → IsOpen a → IsBegun (Binary o
 left_first op (Done v) b o h = absurd o
 left_first op a b o h = h
 
--- ---- the sorts of operands
+-- ---- the types of operands
 
-result_unsigned : (g : OperatorGroup) (r s : Sort) → OperatorFits g r s → is_jint (Some s) ≡ false
+result_unsigned : (g : OperatorGroup) (r s : ExprType) → OperatorFits g r s → is_jint (Some s) ≡ false
 result_unsigned Logic r s h = absurd h
-result_unsigned Equality r s h = ap (λ (q : Sort). is_jint (Some q)) h.1
-result_unsigned Order r s h = ap (λ (q : Sort). is_jint (Some q)) h.1
-result_unsigned OnWords r s h = ap (λ (q : Sort). is_jint (Some q)) h.1
+result_unsigned Equality r s h = ap (λ (q : ExprType). is_jint (Some q)) h.1
+result_unsigned Order r s h = ap (λ (q : ExprType). is_jint (Some q)) h.1
+result_unsigned OnWords r s h = ap (λ (q : ExprType). is_jint (Some q)) h.1
 
--- whether a term is a `jint` is known from its sort
-pub signed_is : (known : Known) (t : Term) (s : Sort) → TermHasSort known t s → is_signed known t ≡ is_jint (Some s)
-signed_is known (Done (Word n)) s h = ap (λ (q : Sort). is_jint (Some q)) (sym h.1)
-signed_is known (Done (Int z)) s h = ap (λ (q : Sort). is_jint (Some q)) (sym h.1)
-signed_is known (Done (Flag b)) s h = ap (λ (q : Sort). is_jint (Some q)) (sym h)
-signed_is known (Done (Truth b)) s h = ap (λ (q : Sort). is_jint (Some q)) (sym h)
-signed_is known (term.Number n true) s h = ap (λ (q : Sort). is_jint (Some q)) (sym h.1)
-signed_is known (term.Number n false) s h = ap (λ (q : Sort). is_jint (Some q)) (sym h.1)
-signed_is known (term.Named tree.True) s h = ap (λ (q : Sort). is_jint (Some q)) (sym h)
-signed_is known (term.Named tree.False) s h = ap (λ (q : Sort). is_jint (Some q)) (sym h)
+-- whether a term is a `jint` is known from its type
+pub signed_is : (known : Known) (t : Term) (s : ExprType) → TermHasType known t s → is_signed known t ≡ is_jint (Some s)
+signed_is known (Done (Word n)) s h = ap (λ (q : ExprType). is_jint (Some q)) (sym h.1)
+signed_is known (Done (Int z)) s h = ap (λ (q : ExprType). is_jint (Some q)) (sym h.1)
+signed_is known (Done (Flag b)) s h = ap (λ (q : ExprType). is_jint (Some q)) (sym h)
+signed_is known (Done (Truth b)) s h = ap (λ (q : ExprType). is_jint (Some q)) (sym h)
+signed_is known (term.Number n true) s h = ap (λ (q : ExprType). is_jint (Some q)) (sym h.1)
+signed_is known (term.Number n false) s h = ap (λ (q : ExprType). is_jint (Some q)) (sym h.1)
+signed_is known (term.Named tree.True) s h = ap (λ (q : ExprType). is_jint (Some q)) (sym h)
+signed_is known (term.Named tree.False) s h = ap (λ (q : ExprType). is_jint (Some q)) (sym h)
 signed_is known (term.Named c) s h = absurd h
-signed_is known (Read x) s h = ap (λ (o : Option Slot). is_jint (option_map (λ (q : Slot). q.sort) o)) h.1
-signed_is known (term.Element x t) s h = ap (λ (q : Sort). is_jint (Some q)) (sym h.4)
-signed_is known (IsNull equal x) s h = ap (λ (q : Sort). is_jint (Some q)) (sym h.1)
-signed_is known (Prefix LogicalNot t) s h = ap (λ (q : Sort). is_jint (Some q)) (sym h.1)
-signed_is known (Prefix Complement t) s h = ap (λ (q : Sort). is_jint (Some q)) (sym h.1)
-signed_is known (Prefix ToWord t) s h = ap (λ (q : Sort). is_jint (Some q)) (sym h.3)
-signed_is known (Prefix ToInt t) s h = ap (λ (q : Sort). is_jint (Some q)) (sym h.3)
-signed_is known (And a b) s h = ap (λ (q : Sort). is_jint (Some q)) (sym h.2)
-signed_is known (Or a b) s h = ap (λ (q : Sort). is_jint (Some q)) (sym h.2)
+signed_is known (Read x) s h = ap (λ (o : Option Slot). is_jint (option_map (λ (q : Slot). q.ty) o)) h.1
+signed_is known (term.Element x t) s h = ap (λ (q : ExprType). is_jint (Some q)) (sym h.4)
+signed_is known (IsNull equal x) s h = ap (λ (q : ExprType). is_jint (Some q)) (sym h.1)
+signed_is known (Prefix LogicalNot t) s h = ap (λ (q : ExprType). is_jint (Some q)) (sym h.1)
+signed_is known (Prefix Complement t) s h = ap (λ (q : ExprType). is_jint (Some q)) (sym h.1)
+signed_is known (Prefix ToWord t) s h = ap (λ (q : ExprType). is_jint (Some q)) (sym h.3)
+signed_is known (Prefix ToInt t) s h = ap (λ (q : ExprType). is_jint (Some q)) (sym h.3)
+signed_is known (And a b) s h = ap (λ (q : ExprType). is_jint (Some q)) (sym h.2)
+signed_is known (Or a b) s h = ap (λ (q : ExprType). is_jint (Some q)) (sym h.2)
 signed_is known (Binary op a b) s h = sym (result_unsigned (group op) h.0 s h.1)
 
 -- ---- numbers
@@ -160,15 +160,15 @@ positive (suc n) h = omega arith
 -- A term in a statement on this line, where these names are known and the slots show what can be seen.
 module _ (known : Known) (line : ℕ) (slots : Slots) (visible : Visible) where
   -- the instruction does what the term's step does; `more` comes after it
-  pub record TermGoes (t : Term) (s : Sort) (here : Instr) (more : List Instr) : Type 0 where
+  pub record TermGoes (t : Term) (s : ExprType) (here : Instr) (more : List Instr) : Type 0 where
     pub next : Term
     pub is : reduce visible.sight t ≡ Gives next
     pub skipped : List Instr
     pub code : more ≡ skipped ++ term_code known line next
-    pub way : Plain
-    pub leads : LeadsOver way skipped
-    pub works : (stack : List ℕ) → Works visible slots here (held t ++ stack) way (held next ++ stack)
-    pub sort : TermHasSort known next s
+    pub path : Plain
+    pub leads : LeadsOver path skipped
+    pub works : (stack : List ℕ) → Works visible slots here (held t ++ stack) path (held next ++ stack)
+    pub ty : TermHasType known next s
     pub begun : IsBegun next
 
   -- both trap
@@ -182,50 +182,50 @@ module _ (known : Known) (line : ℕ) (slots : Slots) (visible : Visible) where
   IsStuck t = reduce visible.sight t ≡ Stuck
 
   -- a term's step, and what the instruction for it does
-  pub record StepsTerm (t : Term) (s : Sort) : Type 0 where
+  pub record StepsTerm (t : Term) (s : ExprType) : Type 0 where
     pub here : Instr
     pub more : List Instr
     pub code : term_code known line t ≡ here ∷ more
     pub outcome : TermGoes t s here more ⊎ TermTraps t here ⊎ IsStuck t
 
   -- a part becomes a value by one instruction
-  gives_value : (t : Term) (v : Value) (s : Sort) (here : Instr) → term_code known line t ≡ here ∷ [] → reduce visible.sight t ≡ Gives (Done v) → ((stack : List ℕ) → Works visible slots here (held t ++ stack) plain.Next (word_of v ∷ stack)) → ValueHasSort v s → StepsTerm t s
+  gives_value : (t : Term) (v : Value) (s : ExprType) (here : Instr) → term_code known line t ≡ here ∷ [] → reduce visible.sight t ≡ Gives (Done v) → ((stack : List ℕ) → Works visible slots here (held t ++ stack) plain.Next (word_of v ∷ stack)) → ValueHasType v s → StepsTerm t s
   gives_value t v s here code is works fits = record {
     here = here;
     more = [];
     code = code;
-    outcome = inl (record { next = Done v; is = is; skipped = []; code = refl; way = plain.Next; leads = refl; works = works; sort = fits; begun = tt });
+    outcome = inl (record { next = Done v; is = is; skipped = []; code = refl; path = plain.Next; leads = refl; works = works; ty = fits; begun = tt });
   }
 
-  gives_trap : (t : Term) (s : Sort) (here : Instr) (reason : PlainTrap) → term_code known line t ≡ here ∷ [] → reduce visible.sight t ≡ Traps (trap_of reason)
+  gives_trap : (t : Term) (s : ExprType) (here : Instr) (reason : PlainTrap) → term_code known line t ≡ here ∷ [] → reduce visible.sight t ≡ Traps (trap_of reason)
       → ((stack : List ℕ) → Works visible slots here (held t ++ stack) (plain.Trap reason line) (held t ++ stack)) → StepsTerm t s
   gives_trap t s here reason code is works = record { here = here; more = []; code = code; outcome = inr (inl (record { trap = reason; is = is; works = works })) }
 
-  gives_nothing : (t : Term) (s : Sort) (here : Instr) → term_code known line t ≡ here ∷ [] → IsStuck t → StepsTerm t s
+  gives_nothing : (t : Term) (s : ExprType) (here : Instr) → term_code known line t ≡ here ∷ [] → IsStuck t → StepsTerm t s
   gives_nothing t s here code is = record { here = here; more = []; code = code; outcome = inr (inr is) }
 
   -- ---- a part inside a term
 
-  record Inside (whole : Term → Term) (t : Term) (r s : Sort) : Type 0 where
+  record Inside (whole : Term → Term) (t : Term) (r s : ExprType) : Type 0 where
     tail : List Instr
     base : List ℕ
     reduces : reduce visible.sight (whole t) ≡ outcome_map whole (reduce visible.sight t)
-    codes : (u : Term) → TermHasSort known u r → term_code known line (whole u) ≡ term_code known line u ++ tail
+    codes : (u : Term) → TermHasType known u r → term_code known line (whole u) ≡ term_code known line u ++ tail
     holds : (u : Term) → held (whole u) ≡ held u ++ base
-    sorts : (u : Term) → TermHasSort known u r → TermHasSort known (whole u) s
+    types : (u : Term) → TermHasType known u r → TermHasType known (whole u) s
     begins : (u : Term) → IsBegun u → IsBegun (whole u)
 
-  inside_outcome : (whole : Term → Term) (t : Term) (r s : Sort) (here : Instr) (more : List Instr) → (i : Inside whole t r s) → TermGoes t r here more ⊎ TermTraps t here ⊎ IsStuck t
+  inside_outcome : (whole : Term → Term) (t : Term) (r s : ExprType) (here : Instr) (more : List Instr) → (i : Inside whole t r s) → TermGoes t r here more ⊎ TermTraps t here ⊎ IsStuck t
       → TermGoes (whole t) s here (more ++ i.tail) ⊎ TermTraps (whole t) here ⊎ IsStuck (whole t)
   inside_outcome whole t r s here more i (inl g) = inl (record {
     next = whole g.next;
     is = i.reduces ∙ ap (outcome_map whole) g.is;
     skipped = g.skipped;
-    code = ap (λ c. c ++ i.tail) g.code ∙ append_assoc g.skipped (term_code known line g.next) i.tail ∙ ap (λ c. g.skipped ++ c) (sym (i.codes g.next g.sort));
-    way = g.way;
+    code = ap (λ c. c ++ i.tail) g.code ∙ append_assoc g.skipped (term_code known line g.next) i.tail ∙ ap (λ c. g.skipped ++ c) (sym (i.codes g.next g.ty));
+    path = g.path;
     leads = g.leads;
     works = λ stack. rw (i.holds t, i.holds g.next, append_assoc (held t) i.base stack, append_assoc (held g.next) i.base stack) (g.works (i.base ++ stack));
-    sort = i.sorts g.next g.sort;
+    ty = i.types g.next g.ty;
     begun = i.begins g.next g.begun;
   })
   inside_outcome whole t r s here more i (inr (inl g)) = inr (inl (record {
@@ -235,7 +235,7 @@ module _ (known : Known) (line : ℕ) (slots : Slots) (visible : Visible) where
   }))
   inside_outcome whole t r s here more i (inr (inr is)) = inr (inr (i.reduces ∙ ap (outcome_map whole) is))
 
-  inside : (whole : Term → Term) (t : Term) (r s : Sort) → Inside whole t r s → TermHasSort known t r → StepsTerm t r → StepsTerm (whole t) s
+  inside : (whole : Term → Term) (t : Term) (r s : ExprType) → Inside whole t r s → TermHasType known t r → StepsTerm t r → StepsTerm (whole t) s
   inside whole t r s i h st = record {
     here = st.here;
     more = st.more ++ i.tail;
@@ -248,76 +248,76 @@ module _ (known : Known) (line : ℕ) (slots : Slots) (visible : Visible) where
   into_part f whole (Done v) step o = absurd o
   into_part f whole t step o = refl
 
-  in_prefix : (op : PrefixOp) (t : Term) (r s : Sort) → IsOpen t → ((u : Term) → TermHasSort known u r → TermHasSort known (Prefix op u) s) → Inside (Prefix op) t r s
-  in_prefix op t r s o sorts = record {
+  in_prefix : (op : PrefixOp) (t : Term) (r s : ExprType) → IsOpen t → ((u : Term) → TermHasType known u r → TermHasType known (Prefix op u) s) → Inside (Prefix op) t r s
+  in_prefix op t r s o types = record {
     tail = prefix_code op ∷ [];
     base = [];
     reduces = into_part _ (Prefix op) t _ o;
     codes = λ u h. refl;
     holds = λ u. sym (append-nil (held u));
-    sorts = sorts;
+    types = types;
     begins = λ u h. h;
   }
 
-  in_element : (x : Identifier) (t : Term) (r s : Sort) → IsOpen t → ((u : Term) → TermHasSort known u r → TermHasSort known (term.Element x u) s) → Inside (term.Element x) t r s
-  in_element x t r s o sorts = record {
+  in_element : (x : Identifier) (t : Term) (r s : ExprType) → IsOpen t → ((u : Term) → TermHasType known u r → TermHasType known (term.Element x u) s) → Inside (term.Element x) t r s
+  in_element x t r s o types = record {
     tail = of_slot (element_code line) (lookup x known);
     base = [];
     reduces = into_part _ (term.Element x) t _ o;
     codes = λ u h. refl;
     holds = λ u. sym (append-nil (held u));
-    sorts = sorts;
+    types = types;
     begins = λ u h. h;
   }
 
-  in_and : (a b : Term) (s : Sort) → IsOpen a → IsUntouched b → TermHasSort known b sort.Truth → s ≡ sort.Truth → Inside (λ u. And u b) a sort.Truth s
+  in_and : (a b : Term) (s : ExprType) → IsOpen a → IsUntouched b → TermHasType known b ty.Truth → s ≡ ty.Truth → Inside (λ u. And u b) a ty.Truth s
   in_and a b s o u h k = record {
     tail = skip_code true (length (term_code known line b)) ∷ term_code known line b;
     base = [];
     reduces = into_part _ (λ t. And t b) a _ o;
     codes = λ w g. refl;
     holds = λ w. sym (append-nil (held w));
-    sorts = λ w g. (g, h, k);
+    types = λ w g. (g, h, k);
     begins = λ w g. (g, u);
   }
 
-  in_or : (a b : Term) (s : Sort) → IsOpen a → IsUntouched b → TermHasSort known b sort.Truth → s ≡ sort.Truth → Inside (λ u. Or u b) a sort.Truth s
+  in_or : (a b : Term) (s : ExprType) → IsOpen a → IsUntouched b → TermHasType known b ty.Truth → s ≡ ty.Truth → Inside (λ u. Or u b) a ty.Truth s
   in_or a b s o u h k = record {
     tail = skip_code false (length (term_code known line b)) ∷ term_code known line b;
     base = [];
     reduces = into_part _ (λ t. Or t b) a _ o;
     codes = λ w g. refl;
     holds = λ w. sym (append-nil (held w));
-    sorts = λ w g. (g, h, k);
+    types = λ w g. (g, h, k);
     begins = λ w g. (g, u);
   }
 
-  in_left : (op : BinaryOp) (a b : Term) (r s : Sort) → IsOpen a → IsUntouched b → OperatorFits (group op) r s → TermHasSort known b r → Inside (λ u. Binary op u b) a r s
+  in_left : (op : BinaryOp) (a b : Term) (r s : ExprType) → IsOpen a → IsUntouched b → OperatorFits (group op) r s → TermHasType known b r → Inside (λ u. Binary op u b) a r s
   in_left op a b r s o u f h = record {
     tail = term_code known line b ++ operator_code line (is_jint (Some r)) op ∷ [];
     base = [];
     reduces = into_part _ (λ t. Binary op t b) a _ o;
     codes = λ w g. ap (λ q. term_code known line w ++ (term_code known line b ++ operator_code line q op ∷ [])) (signed_is known w r g);
     holds = λ w. ap (λ q. q ++ held w) (untouched_held b u) ∙ sym (append-nil (held w));
-    sorts = λ w g. (r, f, g, h);
+    types = λ w g. (r, f, g, h);
     begins = λ w g. begun_left op w b g u;
   }
 
-  in_right : (op : BinaryOp) (v : Value) (b : Term) (r s : Sort) → IsOpen b → OperatorFits (group op) r s → ValueHasSort v r → Inside (Binary op (Done v)) b r s
+  in_right : (op : BinaryOp) (v : Value) (b : Term) (r s : ExprType) → IsOpen b → OperatorFits (group op) r s → ValueHasType v r → Inside (Binary op (Done v)) b r s
   in_right op v b r s o f h = record {
     tail = operator_code line (is_signed known (Done v)) op ∷ [];
     base = word_of v ∷ [];
     reduces = into_part _ (Binary op (Done v)) b _ o;
     codes = λ w g. refl;
     holds = λ w. refl;
-    sorts = λ w g. (r, f, h, g);
+    types = λ w g. (r, f, h, g);
     begins = λ w g. g;
   }
 
   -- ---- `&&` and `||` after their left side
 
-  goes_right : (t b : Term) (s : Sort) (here : Instr) → term_code known line t ≡ here ∷ term_code known line b → reduce visible.sight t ≡ Gives b
-      → ((stack : List ℕ) → Works visible slots here (held t ++ stack) plain.Next stack) → IsUntouched b → TermHasSort known b s → StepsTerm t s
+  goes_right : (t b : Term) (s : ExprType) (here : Instr) → term_code known line t ≡ here ∷ term_code known line b → reduce visible.sight t ≡ Gives b
+      → ((stack : List ℕ) → Works visible slots here (held t ++ stack) plain.Next stack) → IsUntouched b → TermHasType known b s → StepsTerm t s
   goes_right t b s here code is works u h = record {
     here = here;
     more = term_code known line b;
@@ -327,16 +327,16 @@ module _ (known : Known) (line : ℕ) (slots : Slots) (visible : Visible) where
       is = is;
       skipped = [];
       code = refl;
-      way = plain.Next;
+      path = plain.Next;
       leads = refl;
       works = λ stack. rw (untouched_held b u) (works stack);
-      sort = h;
+      ty = h;
       begun = untouched_begun b u;
     });
   }
 
-  skips_right : (t b : Term) (v : Value) (s : Sort) (here : Instr) → term_code known line t ≡ here ∷ term_code known line b → reduce visible.sight t ≡ Gives (Done v)
-      → ((stack : List ℕ) → Works visible slots here (held t ++ stack) (plain.Skip (length (term_code known line b))) (word_of v ∷ stack)) → ValueHasSort v s → StepsTerm t s
+  skips_right : (t b : Term) (v : Value) (s : ExprType) (here : Instr) → term_code known line t ≡ here ∷ term_code known line b → reduce visible.sight t ≡ Gives (Done v)
+      → ((stack : List ℕ) → Works visible slots here (held t ++ stack) (plain.Skip (length (term_code known line b))) (word_of v ∷ stack)) → ValueHasType v s → StepsTerm t s
   skips_right t b v s here code is works h = record {
     here = here;
     more = term_code known line b;
@@ -346,77 +346,77 @@ module _ (known : Known) (line : ℕ) (slots : Slots) (visible : Visible) where
       is = is;
       skipped = term_code known line b;
       code = sym (append-nil (term_code known line b));
-      way = plain.Skip (length (term_code known line b));
+      path = plain.Skip (length (term_code known line b));
       leads = refl;
       works = works;
-      sort = h;
+      ty = h;
       begun = tt;
     });
   }
 
-  and_step : (b : Term) (s : Sort) (v : Value) → ValueHasSort v sort.Truth → TermHasSort known b sort.Truth → s ≡ sort.Truth → IsUntouched b → StepsTerm (And (Done v) b) s
-  and_step b s (Word n) h k e u = absurd (let c : sort.Truth ≡ sort.Word = h.1 in cc)
-  and_step b s (Int z) h k e u = absurd (let c : sort.Truth ≡ Jint = h.1 in cc)
-  and_step b s (Flag q) h k e u = absurd (let c : sort.Truth ≡ sort.Flag = h in cc)
-  and_step b s (Truth true) h k e u = goes_right (And (Done (Truth true)) b) b s (instr.JumpIfFalseOrPop (length (term_code known line b))) refl refl (λ stack. refl) u (subst (TermHasSort known b) (sym e) k)
+  and_step : (b : Term) (s : ExprType) (v : Value) → ValueHasType v ty.Truth → TermHasType known b ty.Truth → s ≡ ty.Truth → IsUntouched b → StepsTerm (And (Done v) b) s
+  and_step b s (Word n) h k e u = absurd (let c : ty.Truth ≡ ty.Word = h.1 in cc)
+  and_step b s (Int z) h k e u = absurd (let c : ty.Truth ≡ Jint = h.1 in cc)
+  and_step b s (Flag q) h k e u = absurd (let c : ty.Truth ≡ ty.Flag = h in cc)
+  and_step b s (Truth true) h k e u = goes_right (And (Done (Truth true)) b) b s (instr.JumpIfFalseOrPop (length (term_code known line b))) refl refl (λ stack. refl) u (subst (TermHasType known b) (sym e) k)
   and_step b s (Truth false) h k e u = skips_right (And (Done (Truth false)) b) b (Truth false) s (instr.JumpIfFalseOrPop (length (term_code known line b))) refl refl (λ stack. refl) e
 
-  or_step : (b : Term) (s : Sort) (v : Value) → ValueHasSort v sort.Truth → TermHasSort known b sort.Truth → s ≡ sort.Truth → IsUntouched b → StepsTerm (Or (Done v) b) s
-  or_step b s (Word n) h k e u = absurd (let c : sort.Truth ≡ sort.Word = h.1 in cc)
-  or_step b s (Int z) h k e u = absurd (let c : sort.Truth ≡ Jint = h.1 in cc)
-  or_step b s (Flag q) h k e u = absurd (let c : sort.Truth ≡ sort.Flag = h in cc)
+  or_step : (b : Term) (s : ExprType) (v : Value) → ValueHasType v ty.Truth → TermHasType known b ty.Truth → s ≡ ty.Truth → IsUntouched b → StepsTerm (Or (Done v) b) s
+  or_step b s (Word n) h k e u = absurd (let c : ty.Truth ≡ ty.Word = h.1 in cc)
+  or_step b s (Int z) h k e u = absurd (let c : ty.Truth ≡ Jint = h.1 in cc)
+  or_step b s (Flag q) h k e u = absurd (let c : ty.Truth ≡ ty.Flag = h in cc)
   or_step b s (Truth true) h k e u = skips_right (Or (Done (Truth true)) b) b (Truth true) s (instr.JumpIfTrueOrPop (length (term_code known line b))) refl refl (λ stack. refl) e
-  or_step b s (Truth false) h k e u = goes_right (Or (Done (Truth false)) b) b s (instr.JumpIfTrueOrPop (length (term_code known line b))) refl refl (λ stack. refl) u (subst (TermHasSort known b) (sym e) k)
+  or_step b s (Truth false) h k e u = goes_right (Or (Done (Truth false)) b) b s (instr.JumpIfTrueOrPop (length (term_code known line b))) refl refl (λ stack. refl) u (subst (TermHasType known b) (sym e) k)
 
   -- ---- operators on values
 
-  prefix_step : (op : PrefixOp) (v : Value) (s : Sort) → TermHasSort known (Prefix op (Done v)) s → StepsTerm (Prefix op (Done v)) s
+  prefix_step : (op : PrefixOp) (v : Value) (s : ExprType) → TermHasType known (Prefix op (Done v)) s → StepsTerm (Prefix op (Done v)) s
   prefix_step LogicalNot (Truth true) s h = gives_value (Prefix LogicalNot (Done (Truth true))) (Truth false) s instr.Not refl refl (λ stack. refl) h.1
   prefix_step LogicalNot (Truth false) s h = gives_value (Prefix LogicalNot (Done (Truth false))) (Truth true) s instr.Not refl refl (λ stack. refl) h.1
-  prefix_step LogicalNot (Word n) s h = absurd (let c : sort.Truth ≡ sort.Word = h.0.1 in cc)
-  prefix_step LogicalNot (Int z) s h = absurd (let c : sort.Truth ≡ Jint = h.0.1 in cc)
-  prefix_step LogicalNot (Flag b) s h = absurd (let c : sort.Truth ≡ sort.Flag = h.0 in cc)
+  prefix_step LogicalNot (Word n) s h = absurd (let c : ty.Truth ≡ ty.Word = h.0.1 in cc)
+  prefix_step LogicalNot (Int z) s h = absurd (let c : ty.Truth ≡ Jint = h.0.1 in cc)
+  prefix_step LogicalNot (Flag b) s h = absurd (let c : ty.Truth ≡ ty.Flag = h.0 in cc)
   prefix_step Complement (Word n) s h = gives_value (Prefix Complement (Done (Word n))) (Word (4294967295 - n)) s instr.Complement refl refl (λ stack. refl) (omega arith, h.1)
-  prefix_step Complement (Int z) s h = absurd (let c : sort.Word ≡ Jint = h.0.1 in cc)
-  prefix_step Complement (Flag b) s h = absurd (let c : sort.Word ≡ sort.Flag = h.0 in cc)
-  prefix_step Complement (Truth b) s h = absurd (let c : sort.Word ≡ sort.Truth = h.0 in cc)
+  prefix_step Complement (Int z) s h = absurd (let c : ty.Word ≡ Jint = h.0.1 in cc)
+  prefix_step Complement (Flag b) s h = absurd (let c : ty.Word ≡ ty.Flag = h.0 in cc)
+  prefix_step Complement (Truth b) s h = absurd (let c : ty.Word ≡ ty.Truth = h.0 in cc)
   prefix_step ToWord (Word n) s h = gives_value (Prefix ToWord (Done (Word n))) (Word n) s instr.Convert refl refl (λ stack. refl) (h.2.0, h.3)
   prefix_step ToWord (Int z) s h = gives_value (Prefix ToWord (Done (Int z))) (Word (cast_unsigned w32 z)) s instr.Convert refl refl (λ stack. refl) (Fits-lt-pow (Fits-of_z h.2.0), h.3)
   prefix_step ToWord (Flag true) s h = gives_value (Prefix ToWord (Done (Flag true))) (Word 1) s instr.Convert refl refl (λ stack. refl) (lit< tt, h.3)
   prefix_step ToWord (Flag false) s h = gives_value (Prefix ToWord (Done (Flag false))) (Word 0) s instr.Convert refl refl (λ stack. refl) (lit< tt, h.3)
-  prefix_step ToWord (Truth b) s h = absurd (subst IsNumberSort h.2 h.1)
+  prefix_step ToWord (Truth b) s h = absurd (subst IsNumberType h.2 h.1)
   prefix_step ToInt (Word n) s h = gives_value (Prefix ToInt (Done (Word n))) (Int (convert_int n)) s instr.Convert refl refl (λ stack. ap (λ (w : ℕ). Some (plain.Next, w ∷ stack, slots.numbers)) (sym (same_word n h.2.0))) (int_fits n h.2.0, h.3)
   prefix_step ToInt (Int z) s h = gives_value (Prefix ToInt (Done (Int z))) (Int z) s instr.Convert refl refl (λ stack. refl) (h.2.0, h.3)
   prefix_step ToInt (Flag true) s h = gives_value (Prefix ToInt (Done (Flag true))) (Int (pos 1)) s instr.Convert refl refl (λ stack. refl) (record { sfits = lit< tt }, h.3)
   prefix_step ToInt (Flag false) s h = gives_value (Prefix ToInt (Done (Flag false))) (Int (pos 0)) s instr.Convert refl refl (λ stack. refl) (record { sfits = lit< tt }, h.3)
-  prefix_step ToInt (Truth b) s h = absurd (subst IsNumberSort h.2 h.1)
+  prefix_step ToInt (Truth b) s h = absurd (subst IsNumberType h.2 h.1)
 
   -- ---- operators on two values
 
-  divide : (a b : ℕ) (s : Sort) → a < 2 ^ 32 → s ≡ sort.Word → (z : Bool) → (b == 0) ≡ z → StepsTerm (Binary Divide (Done (Word a)) (Done (Word b))) s
+  divide : (a b : ℕ) (s : ExprType) → a < 2 ^ 32 → s ≡ ty.Word → (z : Bool) → (b == 0) ≡ z → StepsTerm (Binary Divide (Done (Word a)) (Done (Word b))) s
   divide a b s h e true k = gives_trap (Binary Divide (Done (Word a)) (Done (Word b))) s (instr.OperateOrTrap trapping.Divide line) trap.DivisionByZero refl (rw k refl) (λ stack. rw k refl)
   divide a b s h e false k =
       let small = div-le_self a b in
       gives_value (Binary Divide (Done (Word a)) (Done (Word b))) (Word (a / b)) s (instr.OperateOrTrap trapping.Divide line) refl (rw k refl) (λ stack. rw k refl) (omega arith, e)
 
-  remainder : (a b : ℕ) (s : Sort) → b < 2 ^ 32 → s ≡ sort.Word → (z : Bool) → (b == 0) ≡ z → StepsTerm (Binary Remainder (Done (Word a)) (Done (Word b))) s
+  remainder : (a b : ℕ) (s : ExprType) → b < 2 ^ 32 → s ≡ ty.Word → (z : Bool) → (b == 0) ≡ z → StepsTerm (Binary Remainder (Done (Word a)) (Done (Word b))) s
   remainder a b s h e true k = gives_trap (Binary Remainder (Done (Word a)) (Done (Word b))) s (instr.OperateOrTrap trapping.Remainder line) trap.DivisionByZero refl (rw k refl) (λ stack. rw k refl)
   remainder a b s h e false k =
       let some : 0 < b = positive b k in
       let small = mod-lt a some in
       gives_value (Binary Remainder (Done (Word a)) (Done (Word b))) (Word (a % b)) s (instr.OperateOrTrap trapping.Remainder line) refl (rw k refl) (λ stack. rw k refl) (omega arith, e)
 
-  shift_left : (a b : ℕ) (s : Sort) → s ≡ sort.Word → (z : Bool) → nat_lt b 32 ≡ z → StepsTerm (Binary ShiftLeft (Done (Word a)) (Done (Word b))) s
+  shift_left : (a b : ℕ) (s : ExprType) → s ≡ ty.Word → (z : Bool) → nat_lt b 32 ≡ z → StepsTerm (Binary ShiftLeft (Done (Word a)) (Done (Word b))) s
   shift_left a b s e true k = gives_value (Binary ShiftLeft (Done (Word a)) (Done (Word b))) (Word (a * 2 ^ b % 2 ^ 32)) s (instr.OperateOrTrap trapping.ShiftLeft line) refl (rw k refl) (λ stack. rw k refl) (mod-lt (a * 2 ^ b) (lit< tt), e)
   shift_left a b s e false k = gives_trap (Binary ShiftLeft (Done (Word a)) (Done (Word b))) s (instr.OperateOrTrap trapping.ShiftLeft line) trap.ShiftTooFar refl (rw k refl) (λ stack. rw k refl)
 
-  shift_right : (a b : ℕ) (s : Sort) → a < 2 ^ 32 → s ≡ sort.Word → (z : Bool) → nat_lt b 32 ≡ z → StepsTerm (Binary ShiftRight (Done (Word a)) (Done (Word b))) s
+  shift_right : (a b : ℕ) (s : ExprType) → a < 2 ^ 32 → s ≡ ty.Word → (z : Bool) → nat_lt b 32 ≡ z → StepsTerm (Binary ShiftRight (Done (Word a)) (Done (Word b))) s
   shift_right a b s h e true k =
       let small = div-le_self a (2 ^ b) in
       gives_value (Binary ShiftRight (Done (Word a)) (Done (Word b))) (Word (a / 2 ^ b)) s (instr.OperateOrTrap trapping.ShiftRight line) refl (rw k refl) (λ stack. rw k refl) (omega arith, e)
   shift_right a b s h e false k = gives_trap (Binary ShiftRight (Done (Word a)) (Done (Word b))) s (instr.OperateOrTrap trapping.ShiftRight line) trap.ShiftTooFar refl (rw k refl) (λ stack. rw k refl)
 
-  words_step : (op : BinaryOp) (a b : ℕ) (r s : Sort) → a < 2 ^ 32 → b < 2 ^ 32 → OperatorFits (group op) r s → StepsTerm (Binary op (Done (Word a)) (Done (Word b))) s
+  words_step : (op : BinaryOp) (a b : ℕ) (r s : ExprType) → a < 2 ^ 32 → b < 2 ^ 32 → OperatorFits (group op) r s → StepsTerm (Binary op (Done (Word a)) (Done (Word b))) s
   words_step LogicalOr a b r s h k f = absurd f
   words_step LogicalAnd a b r s h k f = absurd f
   words_step BitOr a b r s h k f = gives_value _ (Word (operate operator.Or a b)) s (instr.Operate operator.Or) refl refl (λ stack. refl) (Fits-lt-pow (Fits-or {w = w32} (Fits-of_lt h) (Fits-of_lt k)), f.1)
@@ -441,7 +441,7 @@ module _ (known : Known) (line : ℕ) (slots : Slots) (visible : Visible) where
       → plain_of here (cast_unsigned w32 b ∷ cast_unsigned w32 a ∷ stack) slots.numbers ≡ Some (plain.Next, truth_word p ∷ stack, slots.numbers)
   compared here a b q p stack same h = h ∙ ap (λ (t : Bool). Some (plain.Next, truth_word t ∷ stack, slots.numbers)) same
 
-  ints_step : (op : BinaryOp) (a b : ℤ) (r s : Sort) → FitsSigned w32 a → FitsSigned w32 b → r ≡ Jint → OperatorFits (group op) r s → StepsTerm (Binary op (Done (Int a)) (Done (Int b))) s
+  ints_step : (op : BinaryOp) (a b : ℤ) (r s : ExprType) → FitsSigned w32 a → FitsSigned w32 b → r ≡ Jint → OperatorFits (group op) r s → StepsTerm (Binary op (Done (Int a)) (Done (Int b))) s
   ints_step LogicalOr a b r s h k e f = absurd f
   ints_step LogicalAnd a b r s h k e f = absurd f
   ints_step Equal a b r s h k e f = gives_value _ (Truth (int_eq a b)) s (instr.Operate operator.Equal) refl refl (λ stack. compared (instr.Operate operator.Equal) a b (cast_unsigned w32 a == cast_unsigned w32 b) (int_eq a b) stack (sym (equal_words a b h k)) refl) f.1
@@ -451,31 +451,31 @@ module _ (known : Known) (line : ℕ) (slots : Slots) (visible : Visible) where
   ints_step LessEqual a b r s h k e f = gives_value _ (Truth (int_le a b)) s (instr.Operate operator.SignedLessEqual) refl refl (λ stack. compared (instr.Operate operator.SignedLessEqual) a b _ (int_le a b) stack (rw (to_z-of_z h, to_z-of_z k) refl) refl) f.1
   ints_step Greater a b r s h k e f = gives_value _ (Truth (int_lt b a)) s (instr.Operate operator.SignedGreater) refl refl (λ stack. compared (instr.Operate operator.SignedGreater) a b _ (int_lt b a) stack (rw (to_z-of_z h, to_z-of_z k) refl) refl) f.1
   ints_step GreaterEqual a b r s h k e f = gives_value _ (Truth (int_le b a)) s (instr.Operate operator.SignedGreaterEqual) refl refl (λ stack. compared (instr.Operate operator.SignedGreaterEqual) a b _ (int_le b a) stack (rw (to_z-of_z h, to_z-of_z k) refl) refl) f.1
-  ints_step BitOr a b r s h k e f = absurd (let c : Jint ≡ sort.Word = sym e ∙ f.0 in cc)
-  ints_step BitXor a b r s h k e f = absurd (let c : Jint ≡ sort.Word = sym e ∙ f.0 in cc)
-  ints_step BitAnd a b r s h k e f = absurd (let c : Jint ≡ sort.Word = sym e ∙ f.0 in cc)
-  ints_step ShiftLeft a b r s h k e f = absurd (let c : Jint ≡ sort.Word = sym e ∙ f.0 in cc)
-  ints_step ShiftRight a b r s h k e f = absurd (let c : Jint ≡ sort.Word = sym e ∙ f.0 in cc)
-  ints_step Add a b r s h k e f = absurd (let c : Jint ≡ sort.Word = sym e ∙ f.0 in cc)
-  ints_step Subtract a b r s h k e f = absurd (let c : Jint ≡ sort.Word = sym e ∙ f.0 in cc)
-  ints_step Multiply a b r s h k e f = absurd (let c : Jint ≡ sort.Word = sym e ∙ f.0 in cc)
-  ints_step Divide a b r s h k e f = absurd (let c : Jint ≡ sort.Word = sym e ∙ f.0 in cc)
-  ints_step Remainder a b r s h k e f = absurd (let c : Jint ≡ sort.Word = sym e ∙ f.0 in cc)
+  ints_step BitOr a b r s h k e f = absurd (let c : Jint ≡ ty.Word = sym e ∙ f.0 in cc)
+  ints_step BitXor a b r s h k e f = absurd (let c : Jint ≡ ty.Word = sym e ∙ f.0 in cc)
+  ints_step BitAnd a b r s h k e f = absurd (let c : Jint ≡ ty.Word = sym e ∙ f.0 in cc)
+  ints_step ShiftLeft a b r s h k e f = absurd (let c : Jint ≡ ty.Word = sym e ∙ f.0 in cc)
+  ints_step ShiftRight a b r s h k e f = absurd (let c : Jint ≡ ty.Word = sym e ∙ f.0 in cc)
+  ints_step Add a b r s h k e f = absurd (let c : Jint ≡ ty.Word = sym e ∙ f.0 in cc)
+  ints_step Subtract a b r s h k e f = absurd (let c : Jint ≡ ty.Word = sym e ∙ f.0 in cc)
+  ints_step Multiply a b r s h k e f = absurd (let c : Jint ≡ ty.Word = sym e ∙ f.0 in cc)
+  ints_step Divide a b r s h k e f = absurd (let c : Jint ≡ ty.Word = sym e ∙ f.0 in cc)
+  ints_step Remainder a b r s h k e f = absurd (let c : Jint ≡ ty.Word = sym e ∙ f.0 in cc)
 
-  equal_flags : (a b : Bool) (s : Sort) → s ≡ sort.Truth → StepsTerm (Binary Equal (Done (Flag a)) (Done (Flag b))) s
+  equal_flags : (a b : Bool) (s : ExprType) → s ≡ ty.Truth → StepsTerm (Binary Equal (Done (Flag a)) (Done (Flag b))) s
   equal_flags true true s e = gives_value _ (Truth true) s (instr.Operate operator.Equal) refl refl (λ stack. refl) e
   equal_flags true false s e = gives_value _ (Truth false) s (instr.Operate operator.Equal) refl refl (λ stack. refl) e
   equal_flags false true s e = gives_value _ (Truth false) s (instr.Operate operator.Equal) refl refl (λ stack. refl) e
   equal_flags false false s e = gives_value _ (Truth true) s (instr.Operate operator.Equal) refl refl (λ stack. refl) e
 
-  unequal_flags : (a b : Bool) (s : Sort) → s ≡ sort.Truth → StepsTerm (Binary NotEqual (Done (Flag a)) (Done (Flag b))) s
+  unequal_flags : (a b : Bool) (s : ExprType) → s ≡ ty.Truth → StepsTerm (Binary NotEqual (Done (Flag a)) (Done (Flag b))) s
   unequal_flags true true s e = gives_value _ (Truth false) s (instr.Operate operator.NotEqual) refl refl (λ stack. refl) e
   unequal_flags true false s e = gives_value _ (Truth true) s (instr.Operate operator.NotEqual) refl refl (λ stack. refl) e
   unequal_flags false true s e = gives_value _ (Truth true) s (instr.Operate operator.NotEqual) refl refl (λ stack. refl) e
   unequal_flags false false s e = gives_value _ (Truth false) s (instr.Operate operator.NotEqual) refl refl (λ stack. refl) e
 
   -- flags are compared for equality alone
-  flags_fit : (op : BinaryOp) (a b : Bool) (s : Sort) → OperatorFits (group op) sort.Flag s → StepsTerm (Binary op (Done (Flag a)) (Done (Flag b))) s
+  flags_fit : (op : BinaryOp) (a b : Bool) (s : ExprType) → OperatorFits (group op) ty.Flag s → StepsTerm (Binary op (Done (Flag a)) (Done (Flag b))) s
   flags_fit LogicalOr a b s f = absurd f
   flags_fit LogicalAnd a b s f = absurd f
   flags_fit Equal a b s f = equal_flags a b s f.1
@@ -484,35 +484,35 @@ module _ (known : Known) (line : ℕ) (slots : Slots) (visible : Visible) where
   flags_fit LessEqual a b s f = absurd f.0
   flags_fit Greater a b s f = absurd f.0
   flags_fit GreaterEqual a b s f = absurd f.0
-  flags_fit BitOr a b s f = absurd (let c : sort.Flag ≡ sort.Word = f.0 in cc)
-  flags_fit BitXor a b s f = absurd (let c : sort.Flag ≡ sort.Word = f.0 in cc)
-  flags_fit BitAnd a b s f = absurd (let c : sort.Flag ≡ sort.Word = f.0 in cc)
-  flags_fit ShiftLeft a b s f = absurd (let c : sort.Flag ≡ sort.Word = f.0 in cc)
-  flags_fit ShiftRight a b s f = absurd (let c : sort.Flag ≡ sort.Word = f.0 in cc)
-  flags_fit Add a b s f = absurd (let c : sort.Flag ≡ sort.Word = f.0 in cc)
-  flags_fit Subtract a b s f = absurd (let c : sort.Flag ≡ sort.Word = f.0 in cc)
-  flags_fit Multiply a b s f = absurd (let c : sort.Flag ≡ sort.Word = f.0 in cc)
-  flags_fit Divide a b s f = absurd (let c : sort.Flag ≡ sort.Word = f.0 in cc)
-  flags_fit Remainder a b s f = absurd (let c : sort.Flag ≡ sort.Word = f.0 in cc)
+  flags_fit BitOr a b s f = absurd (let c : ty.Flag ≡ ty.Word = f.0 in cc)
+  flags_fit BitXor a b s f = absurd (let c : ty.Flag ≡ ty.Word = f.0 in cc)
+  flags_fit BitAnd a b s f = absurd (let c : ty.Flag ≡ ty.Word = f.0 in cc)
+  flags_fit ShiftLeft a b s f = absurd (let c : ty.Flag ≡ ty.Word = f.0 in cc)
+  flags_fit ShiftRight a b s f = absurd (let c : ty.Flag ≡ ty.Word = f.0 in cc)
+  flags_fit Add a b s f = absurd (let c : ty.Flag ≡ ty.Word = f.0 in cc)
+  flags_fit Subtract a b s f = absurd (let c : ty.Flag ≡ ty.Word = f.0 in cc)
+  flags_fit Multiply a b s f = absurd (let c : ty.Flag ≡ ty.Word = f.0 in cc)
+  flags_fit Divide a b s f = absurd (let c : ty.Flag ≡ ty.Word = f.0 in cc)
+  flags_fit Remainder a b s f = absurd (let c : ty.Flag ≡ ty.Word = f.0 in cc)
 
-  no_truths : (g : OperatorGroup) (s : Sort) → OperatorFits g sort.Truth s → ⊥
+  no_truths : (g : OperatorGroup) (s : ExprType) → OperatorFits g ty.Truth s → ⊥
   no_truths Logic s f = f
   no_truths Equality s f = f.0
   no_truths Order s f = f.0
-  no_truths OnWords s f = let c : sort.Truth ≡ sort.Word = f.0 in absurd (cc)
+  no_truths OnWords s f = let c : ty.Truth ≡ ty.Word = f.0 in absurd (cc)
 
-  values_step : (op : BinaryOp) (v w : Value) (r s : Sort) → OperatorFits (group op) r s → ValueHasSort v r → ValueHasSort w r → StepsTerm (Binary op (Done v) (Done w)) s
+  values_step : (op : BinaryOp) (v w : Value) (r s : ExprType) → OperatorFits (group op) r s → ValueHasType v r → ValueHasType w r → StepsTerm (Binary op (Done v) (Done w)) s
   values_step op (Word a) (Word b) r s f h k = words_step op a b r s h.0 k.0 f
   values_step op (Int a) (Int b) r s f h k = ints_step op a b r s h.0 k.0 h.1 f
-  values_step op (Flag a) (Flag b) r s f h k = flags_fit op a b s (subst (λ (q : Sort). OperatorFits (group op) q s) h f)
-  values_step op (Truth a) w r s f h k = absurd (no_truths (group op) s (subst (λ (q : Sort). OperatorFits (group op) q s) h f))
-  values_step op v (Truth b) r s f h k = absurd (no_truths (group op) s (subst (λ (q : Sort). OperatorFits (group op) q s) k f))
-  values_step op (Word a) (Int b) r s f h k = absurd (let c : sort.Word ≡ Jint = sym h.1 ∙ k.1 in cc)
-  values_step op (Word a) (Flag b) r s f h k = absurd (let c : sort.Word ≡ sort.Flag = sym h.1 ∙ k in cc)
-  values_step op (Int a) (Word b) r s f h k = absurd (let c : Jint ≡ sort.Word = sym h.1 ∙ k.1 in cc)
-  values_step op (Int a) (Flag b) r s f h k = absurd (let c : Jint ≡ sort.Flag = sym h.1 ∙ k in cc)
-  values_step op (Flag a) (Word b) r s f h k = absurd (let c : sort.Flag ≡ sort.Word = sym h ∙ k.1 in cc)
-  values_step op (Flag a) (Int b) r s f h k = absurd (let c : sort.Flag ≡ Jint = sym h ∙ k.1 in cc)
+  values_step op (Flag a) (Flag b) r s f h k = flags_fit op a b s (subst (λ (q : ExprType). OperatorFits (group op) q s) h f)
+  values_step op (Truth a) w r s f h k = absurd (no_truths (group op) s (subst (λ (q : ExprType). OperatorFits (group op) q s) h f))
+  values_step op v (Truth b) r s f h k = absurd (no_truths (group op) s (subst (λ (q : ExprType). OperatorFits (group op) q s) k f))
+  values_step op (Word a) (Int b) r s f h k = absurd (let c : ty.Word ≡ Jint = sym h.1 ∙ k.1 in cc)
+  values_step op (Word a) (Flag b) r s f h k = absurd (let c : ty.Word ≡ ty.Flag = sym h.1 ∙ k in cc)
+  values_step op (Int a) (Word b) r s f h k = absurd (let c : Jint ≡ ty.Word = sym h.1 ∙ k.1 in cc)
+  values_step op (Int a) (Flag b) r s f h k = absurd (let c : Jint ≡ ty.Flag = sym h.1 ∙ k in cc)
+  values_step op (Flag a) (Word b) r s f h k = absurd (let c : ty.Flag ≡ ty.Word = sym h ∙ k.1 in cc)
+  values_step op (Flag a) (Int b) r s f h k = absurd (let c : ty.Flag ≡ Jint = sym h ∙ k.1 in cc)
 
   -- ---- names
 
@@ -522,14 +522,14 @@ module _ (known : Known) (line : ℕ) (slots : Slots) (visible : Visible) where
   none_kept f (Some a) = refl
 
   -- what is shown of a name that can be NULL
-  record ShowsNull (x : Identifier) (kind : Sort) (i : ℕ) : Type 0 where
+  record ShowsNull (x : Identifier) (kind : ExprType) (i : ℕ) : Type 0 where
     null : Bool
     is : visible.sight.is_null x ≡ Gives null
     variable : NullableVariable
     same : nullable_of kind i ≡ Some variable
     holds : holds_null visible slots variable ≡ Some null
 
-  shows_null : (x : Identifier) (s : Slot) (kind : Sort) → IsNullable kind → ShowsSlot visible x slots s kind → ShowsNull x kind s.index
+  shows_null : (x : Identifier) (s : Slot) (kind : ExprType) → IsNullable kind → ShowsSlot visible x slots s kind → ShowsNull x kind s.index
   shows_null x s Ref n h = record { null = is_none h.reference; is = h.is_null; variable = nullable.Local s.index; same = refl; holds = ap (option_map is_none) h.there }
   shows_null x s Global n h = record {
     null = is_empty h.static.held;
@@ -551,7 +551,7 @@ module _ (known : Known) (line : ℕ) (slots : Slots) (visible : Visible) where
   other_truth true = refl
   other_truth false = refl
 
-  null_step : (equal : Bool) (x : Identifier) (slot : Slot) (s : Sort) → lookup x known ≡ Some slot → ShowsNull x slot.sort slot.index → s ≡ sort.Truth → StepsTerm (IsNull equal x) s
+  null_step : (equal : Bool) (x : Identifier) (slot : Slot) (s : ExprType) → lookup x known ≡ Some slot → ShowsNull x slot.ty slot.index → s ≡ ty.Truth → StepsTerm (IsNull equal x) s
   null_step true x slot s at n e =
       gives_value (IsNull true x) (Truth n.null) s (instr.TestNull n.variable true) (ap (null_code true) at ∙ ap (test_of true) n.same) (ap (λ o. done (outcome_map Truth o)) n.is)
       (λ stack. (n.null, n.holds, refl, ap (λ (w : ℕ). w ∷ stack) (same_truth n.null))) e
@@ -559,14 +559,14 @@ module _ (known : Known) (line : ℕ) (slots : Slots) (visible : Visible) where
       gives_value (IsNull false x) (Truth (not n.null)) s (instr.TestNull n.variable false) (ap (null_code false) at ∙ ap (test_of false) n.same) (ap (λ o. done (outcome_map (λ b. Truth (not b)) o)) n.is)
       (λ stack. (n.null, n.holds, refl, ap (λ (w : ℕ). w ∷ stack) (other_truth n.null))) e
 
-  read_step : (x : Identifier) (s : Slot) → lookup x known ≡ Some s → ShowsNumber visible x slots.numbers s → StepsTerm (Read x) s.sort
+  read_step : (x : Identifier) (s : Slot) → lookup x known ≡ Some s → ShowsNumber visible x slots.numbers s → StepsTerm (Read x) s.ty
   read_step x s at h =
-      gives_value (Read x) h.value s.sort (instr.Load s.index) (ap (of_slot load_code) at) (ap done h.is) (λ stack. ap (option_map (λ (n : ℕ). (plain.Next, n ∷ stack, slots.numbers))) h.word) h.sort
+      gives_value (Read x) h.value s.ty (instr.Load s.index) (ap (of_slot load_code) at) (ap done h.is) (λ stack. ap (option_map (λ (n : ℕ). (plain.Next, n ∷ stack, slots.numbers))) h.word) h.ty
 
   -- ---- elements
 
   -- an array and an index that isn't negative
-  element_step : (x : Identifier) (v : Value) (s : Sort) (t : ElementType) (size start k : ℕ) → lookup x known ≡ Some (record { sort = Array t size; index = start }) → ShowsArray visible x slots.numbers t size start
+  element_step : (x : Identifier) (v : Value) (s : ExprType) (t : ElementType) (size start k : ℕ) → lookup x known ≡ Some (record { ty = Array t size; index = start }) → ShowsArray visible x slots.numbers t size start
       → word_of v ≡ k → term.index_of v ≡ Gives k → s ≡ Jint → (b : Bool) → nat_lt k size ≡ b → StepsTerm (term.Element x (Done v)) s
   element_step x v s t size start k at shown word index e true below =
       let element = shown.elements k (ltb-true k size below) in
@@ -574,14 +574,14 @@ module _ (known : Known) (line : ℕ) (slots : Slots) (visible : Visible) where
   element_step x v s t size start k at shown word index e false below =
       gives_trap (term.Element x (Done v)) s (instr.LoadElement (record { start = start; len = size }) line) trap.OutOfRange (ap (of_slot (element_code line)) at) (rw (index, shown.past k (ltb-false k size below)) refl) (λ stack. rw (word, below) refl)
 
-  index_step : (x : Identifier) (v : Value) (r s : Sort) (t : ElementType) (size start : ℕ) → lookup x known ≡ Some (record { sort = Array t size; index = start }) → ShowsArray visible x slots.numbers t size start
-      → IsIndexSort r → ValueHasSort v r → s ≡ Jint → StepsTerm (term.Element x (Done v)) s
+  index_step : (x : Identifier) (v : Value) (r s : ExprType) (t : ElementType) (size start : ℕ) → lookup x known ≡ Some (record { ty = Array t size; index = start }) → ShowsArray visible x slots.numbers t size start
+      → IsIndexType r → ValueHasType v r → s ≡ Jint → StepsTerm (term.Element x (Done v)) s
   index_step x (Word n) r s t size start at shown i h e = element_step x (Word n) s t size start n at shown refl refl e (nat_lt n size) refl
   index_step x (Int (pos n)) r s t size start at shown i h e = element_step x (Int (pos n)) s t size start n at shown refl refl e (nat_lt n size) refl
   index_step x (Int (negsuc n)) r s t size start at shown i h e =
       gives_trap (term.Element x (Done (Int (negsuc n)))) s (instr.LoadElement (record { start = start; len = size }) line) trap.OutOfRange (ap (of_slot (element_code line)) at) refl (λ stack. rw (negative_past n size h.0 shown.few) refl)
-  index_step x (Flag b) r s t size start at shown i h e = absurd (subst IsIndexSort h i)
-  index_step x (Truth b) r s t size start at shown i h e = absurd (subst IsIndexSort h i)
+  index_step x (Flag b) r s t size start at shown i h e = absurd (subst IsIndexType h i)
+  index_step x (Truth b) r s t size start at shown i h e = absurd (subst IsIndexType h i)
 
   -- a buffer, of which the elements are seen
   module _ (sees : SeesBuffers visible slots.buffers) where
@@ -603,13 +603,13 @@ module _ (known : Known) (line : ℕ) (slots : Slots) (visible : Visible) where
     slot_has x t i h = ap (option_map (λ (b : variable.Buffer). elements_in b visible.numbers)) h.there
 
     -- an element is there, or none
-    loaded : (x : Identifier) (t : ElementType) (i k word : ℕ) (stack : List ℕ) (h : ShowsBuffer visible x slots.buffers t i) (found : Option ℤ) (way : Plain) (after : List ℕ) → word ≡ k → slice_get (elements_in h.buffer visible.numbers) k ≡ found
-        → Loads line word stack found way after → Works visible slots (instr.LoadBuffer i line) (word ∷ stack) way after
-    loaded x t i k word stack h found way after same is loads =
-        (elements_in h.buffer visible.numbers, slot_has x t i h, subst (λ (o : Option ℤ). Loads line word stack o way after) (sym (ap (slice_get (elements_in h.buffer visible.numbers)) same ∙ is)) loads)
+    loaded : (x : Identifier) (t : ElementType) (i k word : ℕ) (stack : List ℕ) (h : ShowsBuffer visible x slots.buffers t i) (found : Option ℤ) (path : Plain) (after : List ℕ) → word ≡ k → slice_get (elements_in h.buffer visible.numbers) k ≡ found
+        → Loads line word stack found path after → Works visible slots (instr.LoadBuffer i line) (word ∷ stack) path after
+    loaded x t i k word stack h found path after same is loads =
+        (elements_in h.buffer visible.numbers, slot_has x t i h, subst (λ (o : Option ℤ). Loads line word stack o path after) (sym (ap (slice_get (elements_in h.buffer visible.numbers)) same ∙ is)) loads)
 
     -- an index that isn't negative
-    buffer_element : (x : Identifier) (v : Value) (s : Sort) (t : ElementType) (writable : Bool) (i k : ℕ) → lookup x known ≡ Some (record { sort = Buffer t writable; index = i }) → (h : ShowsBuffer visible x slots.buffers t i)
+    buffer_element : (x : Identifier) (v : Value) (s : ExprType) (t : ElementType) (writable : Bool) (i k : ℕ) → lookup x known ≡ Some (record { ty = Buffer t writable; index = i }) → (h : ShowsBuffer visible x slots.buffers t i)
         → word_of v ≡ k → term.index_of v ≡ Gives k → s ≡ Jint → (null : Bool) → is_no_buffer h.buffer ≡ null → (found : Option ℤ) → slice_get (elements_in h.buffer visible.numbers) k ≡ found → StepsTerm (term.Element x (Done v)) s
     buffer_element x v s t writable i k at h word index e true null found is =
         gives_nothing (term.Element x (Done v)) s (instr.LoadBuffer i line) (ap (of_slot (element_code line)) at) (rw (index, seen_as x t i k h true null) refl)
@@ -622,7 +622,7 @@ module _ (known : Known) (line : ℕ) (slots : Slots) (visible : Visible) where
         gives_trap (term.Element x (Done v)) s (instr.LoadBuffer i line) trap.OutOfRange (ap (of_slot (element_code line)) at) (rw (index, seen) refl)
         (λ stack. loaded x t i k (word_of v) stack h None (plain.Trap trap.OutOfRange line) (word_of v ∷ stack) word is (refl, refl))
 
-    buffer_index : (x : Identifier) (v : Value) (r s : Sort) (t : ElementType) (writable : Bool) (i : ℕ) → lookup x known ≡ Some (record { sort = Buffer t writable; index = i }) → ShowsBuffer visible x slots.buffers t i → IsIndexSort r → ValueHasSort v r → s ≡ Jint
+    buffer_index : (x : Identifier) (v : Value) (r s : ExprType) (t : ElementType) (writable : Bool) (i : ℕ) → lookup x known ≡ Some (record { ty = Buffer t writable; index = i }) → ShowsBuffer visible x slots.buffers t i → IsIndexType r → ValueHasType v r → s ≡ Jint
         → StepsTerm (term.Element x (Done v)) s
     buffer_index x (Word n) r s t writable i at h index fits e = buffer_element x (Word n) s t writable i n at h refl refl e (is_no_buffer h.buffer) refl (slice_get (elements_in h.buffer visible.numbers) n) refl
     buffer_index x (Int (pos n)) r s t writable i at h index fits e = buffer_element x (Int (pos n)) s t writable i n at h refl refl e (is_no_buffer h.buffer) refl (slice_get (elements_in h.buffer visible.numbers) n) refl
@@ -630,11 +630,11 @@ module _ (known : Known) (line : ℕ) (slots : Slots) (visible : Visible) where
         let word = cast_unsigned w32 (negsuc n) in
         gives_trap (term.Element x (Done (Int (negsuc n)))) s (instr.LoadBuffer i line) trap.OutOfRange (ap (of_slot (element_code line)) at) refl
         (λ stack. loaded x t i word word stack h None (plain.Trap trap.OutOfRange line) (word ∷ stack) refl (none_negative i h.buffer n h.there fits.0) (refl, refl))
-    buffer_index x (Flag b) r s t writable i at h index fits e = absurd (subst IsIndexSort fits index)
-    buffer_index x (Truth b) r s t writable i at h index fits e = absurd (subst IsIndexSort fits index)
+    buffer_index x (Flag b) r s t writable i at h index fits e = absurd (subst IsIndexType fits index)
+    buffer_index x (Truth b) r s t writable i at h index fits e = absurd (subst IsIndexType fits index)
 
     -- a name that has elements
-    named_element : (x : Identifier) (v : Value) (r s kind : Sort) (i : ℕ) → HasElements kind → lookup x known ≡ Some (record { sort = kind; index = i }) → ShowsSlot visible x slots (record { sort = kind; index = i }) kind → IsIndexSort r → ValueHasSort v r → s ≡ Jint
+    named_element : (x : Identifier) (v : Value) (r s kind : ExprType) (i : ℕ) → HasElements kind → lookup x known ≡ Some (record { ty = kind; index = i }) → ShowsSlot visible x slots (record { ty = kind; index = i }) kind → IsIndexType r → ValueHasType v r → s ≡ Jint
         → StepsTerm (term.Element x (Done v)) s
     named_element x v r s (Array t size) i has at shown index fits e = index_step x v r s t size i at shown index fits e
     named_element x v r s (Buffer t writable) i has at shown index fits e = buffer_index x v r s t writable i at shown index fits e
@@ -644,16 +644,16 @@ module _ (known : Known) (line : ℕ) (slots : Slots) (visible : Visible) where
 
   -- the slots show each known name
   abbrev pub AllShown : Type 0
-  AllShown = (x : Identifier) (s : Slot) → lookup x known ≡ Some s → ShowsSlot visible x slots s s.sort
+  AllShown = (x : Identifier) (s : Slot) → lookup x known ≡ Some s → ShowsSlot visible x slots s s.ty
 
-  -- a slot of a number sort shows a number
-  pub shows_number : (x : Identifier) (s : Slot) (kind : Sort) → IsNumberSort kind → ShowsSlot visible x slots s kind → ShowsNumber visible x slots.numbers s
-  shows_number x s sort.Word kind h = h
+  -- a slot of a number type shows a number
+  pub shows_number : (x : Identifier) (s : Slot) (kind : ExprType) → IsNumberType kind → ShowsSlot visible x slots s kind → ShowsNumber visible x slots.numbers s
+  shows_number x s ty.Word kind h = h
   shows_number x s Jint kind h = h
-  shows_number x s sort.Flag kind h = h
+  shows_number x s ty.Flag kind h = h
   shows_number x s other kind h = absurd kind
 
-  pub steps_term : AllShown → SeesBuffers visible slots.buffers → (t : Term) (s : Sort) → IsOpen t → TermHasSort known t s → IsBegun t → StepsTerm t s
+  pub steps_term : AllShown → SeesBuffers visible slots.buffers → (t : Term) (s : ExprType) → IsOpen t → TermHasType known t s → IsBegun t → StepsTerm t s
   steps_term shown sees (Done v) s o h b = absurd o
   steps_term shown sees (term.Number n true) s o h b = gives_value (term.Number n true) (Word n) s (instr.Push n) refl refl (λ stack. refl) h
   steps_term shown sees (term.Number n false) s o h b = gives_value (term.Number n false) (Int (pos n)) s (instr.Push n) refl refl (λ stack. refl) (record { sfits = h.0 }, h.1)
@@ -661,20 +661,20 @@ module _ (known : Known) (line : ℕ) (slots : Slots) (visible : Visible) where
   steps_term shown sees (term.Named tree.False) s o h b = gives_value (term.Named tree.False) (Flag false) s (instr.Push 0) refl refl (λ stack. refl) h
   steps_term shown sees (term.Named c) s o h b = absurd h
   steps_term shown sees (Read x) s o h b =
-      let slot : Slot = record { sort = s; index = h.0 } in
+      let slot : Slot = record { ty = s; index = h.0 } in
       read_step x slot h.1 (shows_number x slot s h.2 (shown x slot h.1))
-  steps_term shown sees (term.Element x (Done v)) s o h b = named_element sees x v h.0 s h.3.0.sort h.3.0.index h.3.2 h.3.1 (shown x h.3.0 h.3.1) h.1 h.2 h.4
+  steps_term shown sees (term.Element x (Done v)) s o h b = named_element sees x v h.0 s h.3.0.ty h.3.0.index h.3.2 h.3.1 (shown x h.3.0 h.3.1) h.1 h.2 h.4
   steps_term shown sees (term.Element x t) s o h b = inside (term.Element x) t h.0 s (in_element x t h.0 s tt (λ u k. (h.0, h.1, k, h.3, h.4))) h.2 (steps_term shown sees t h.0 tt h.2 b)
-  steps_term shown sees (IsNull equal x) s o h b = null_step equal x h.0.0 s h.0.1 (shows_null x h.0.0 h.0.0.sort h.0.2 (shown x h.0.0 h.0.1)) h.1
+  steps_term shown sees (IsNull equal x) s o h b = null_step equal x h.0.0 s h.0.1 (shows_null x h.0.0 h.0.0.ty h.0.2 (shown x h.0.0 h.0.1)) h.1
   steps_term shown sees (Prefix op (Done v)) s o h b = prefix_step op v s h
-  steps_term shown sees (Prefix LogicalNot t) s o h b = inside (Prefix LogicalNot) t sort.Truth s (in_prefix LogicalNot t sort.Truth s tt (λ u k. (k, h.1))) h.0 (steps_term shown sees t sort.Truth tt h.0 b)
-  steps_term shown sees (Prefix Complement t) s o h b = inside (Prefix Complement) t sort.Word s (in_prefix Complement t sort.Word s tt (λ u k. (k, h.1))) h.0 (steps_term shown sees t sort.Word tt h.0 b)
+  steps_term shown sees (Prefix LogicalNot t) s o h b = inside (Prefix LogicalNot) t ty.Truth s (in_prefix LogicalNot t ty.Truth s tt (λ u k. (k, h.1))) h.0 (steps_term shown sees t ty.Truth tt h.0 b)
+  steps_term shown sees (Prefix Complement t) s o h b = inside (Prefix Complement) t ty.Word s (in_prefix Complement t ty.Word s tt (λ u k. (k, h.1))) h.0 (steps_term shown sees t ty.Word tt h.0 b)
   steps_term shown sees (Prefix ToWord t) s o h b = inside (Prefix ToWord) t h.0 s (in_prefix ToWord t h.0 s tt (λ u k. (h.0, h.1, k, h.3))) h.2 (steps_term shown sees t h.0 tt h.2 b)
   steps_term shown sees (Prefix ToInt t) s o h b = inside (Prefix ToInt) t h.0 s (in_prefix ToInt t h.0 s tt (λ u k. (h.0, h.1, k, h.3))) h.2 (steps_term shown sees t h.0 tt h.2 b)
   steps_term shown sees (And (Done v) c) s o h b = and_step c s v h.0 h.1 h.2 b.1
-  steps_term shown sees (And a c) s o h b = inside (λ u. And u c) a sort.Truth s (in_and a c s tt b.1 h.1 h.2) h.0 (steps_term shown sees a sort.Truth tt h.0 b.0)
+  steps_term shown sees (And a c) s o h b = inside (λ u. And u c) a ty.Truth s (in_and a c s tt b.1 h.1 h.2) h.0 (steps_term shown sees a ty.Truth tt h.0 b.0)
   steps_term shown sees (Or (Done v) c) s o h b = or_step c s v h.0 h.1 h.2 b.1
-  steps_term shown sees (Or a c) s o h b = inside (λ u. Or u c) a sort.Truth s (in_or a c s tt b.1 h.1 h.2) h.0 (steps_term shown sees a sort.Truth tt h.0 b.0)
+  steps_term shown sees (Or a c) s o h b = inside (λ u. Or u c) a ty.Truth s (in_or a c s tt b.1 h.1 h.2) h.0 (steps_term shown sees a ty.Truth tt h.0 b.0)
   steps_term shown sees (Binary op (Done v) (Done w)) s o h b = values_step op v w h.0 s h.1 h.2 h.3
   steps_term shown sees (Binary op (Done v) c) s o h b = inside (Binary op (Done v)) c h.0 s (in_right op v c h.0 s tt h.1 h.2) h.3 (steps_term shown sees c h.0 tt h.3 b)
   steps_term shown sees (Binary op a c) s o h b = inside (λ u. Binary op u c) a h.0 s (in_left op a c h.0 s tt b.1 h.1 h.3) h.2 (steps_term shown sees a h.0 tt h.2 b.0)

@@ -10,9 +10,9 @@ use Rattle.std.proofs.lemmas.Bool.{lt-ltb, le-leb}
 use Rattle.base.specs.Bytes.{Identifier, lookup}
 use Rattle.syntax.specs.Tree as tree
 use Rattle.syntax.specs.Tree.{PrefixOp, LogicalNot, Complement, ToWord, ToInt, BinaryOp, LogicalOr, LogicalAnd, BitOr, BitXor, BitAnd, Equal, NotEqual, Less, LessEqual, Greater, GreaterEqual, ShiftLeft, ShiftRight, Add, Subtract, Multiply, Divide, Remainder, Expr, Argument, RightSide, FromExpr, FromCall, Test, TestExpr, TestCall, Stmt, Block, End, Next, Call}
-use Rattle.type_rules.specs.Sorts.{Sort, Jint, Ref, Global, Weak, FieldId, MethodId, Buffer, Array}
-use Rattle.type_rules.specs.Sorts as sort
-use Rattle.type_rules.specs.SortRules.{variable_sort}
+use Rattle.type_rules.specs.ExprTypes.{ExprType, Jint, Ref, Global, Weak, FieldId, MethodId, Buffer, Array}
+use Rattle.type_rules.specs.ExprTypes as ty
+use Rattle.type_rules.specs.TypeRules.{variable_type}
 use Rattle.base.specs.Element.{JChar}
 use Rattle.code.specs.declared.instr.Target.{Target}
 use Rattle.code.specs.declared.instr.Target.TheVariants as destination
@@ -23,8 +23,8 @@ use Rattle.code.proofs.Pieces.{IsPiece, piece_none, piece_append, piece_one, pie
 use Rattle.semantics.specs.Term as term
 use Rattle.semantics.specs.Term.{Term, Done, Read, IsNull, Prefix, And, Or, Binary, term_of}
 use Rattle.code_meaning.specs.Layout.{Slot, Known, Layout, new_slot, closed, layout_after, block_layout}
-use Rattle.code_meaning.specs.Coding.{nullable_of, test_of, null_code, element_of, element_code, write_code, of_slot, load_code, prefix_code, operator_code, is_signed, skip_code, term_code, expr_code, named_call_code, value_code, right_code, assign_code, returned_code, return_code, test_code, ways_code, if_code, stmt_code, block_code, argument_code, arguments_code, operand_code, operand_of, passed_variable, passed_code, passed_rest, number_code, address_operand, variable_operand, arguments_texts, result_target}
-use Rattle.code_meaning.specs.Fits.{IsNullable, HasElements, TermHasSort, IsUntouched, term_height, NumberFits, ValueFits, RightFits, TestFits, ReturnFits, StmtFits, BlockFits, CallFits, PassedFits, ArgumentFits}
+use Rattle.code_meaning.specs.Coding.{nullable_of, test_of, null_code, element_of, element_code, write_code, of_slot, load_code, prefix_code, operator_code, is_signed, skip_code, term_code, expr_code, named_call_code, value_code, right_code, assign_code, returned_code, return_code, test_code, paths_code, if_code, stmt_code, block_code, argument_code, arguments_code, operand_code, operand_of, passed_variable, passed_code, passed_rest, number_code, address_operand, variable_operand, arguments_texts, result_target}
+use Rattle.code_meaning.specs.Fits.{IsNullable, HasElements, TermHasType, IsUntouched, term_height, NumberFits, ValueFits, RightFits, TestFits, ReturnFits, StmtFits, BlockFits, CallFits, PassedFits, ArgumentFits}
 use Rattle.lower.proofs.Bodies.{value_is}
 use Rattle.lower.proofs.CallCounts.{few_arguments}
 
@@ -39,7 +39,7 @@ push_piece n d h = piece_one (instr.Push n) d (suc d) (pushed n d h) tt
 load_piece : (i d : ℕ) → d < 64 → IsPiece (instr.Load i ∷ []) d (suc d)
 load_piece i d h = piece_one (instr.Load i) d (suc d) (rw (lt-ltb d 64 h) refl) tt
 
-null_piece : (equal : Bool) (s : Sort) (i d : ℕ) → IsNullable s → d < 64 → IsPiece (test_of equal (nullable_of s i)) d (suc d)
+null_piece : (equal : Bool) (s : ExprType) (i d : ℕ) → IsNullable s → d < 64 → IsPiece (test_of equal (nullable_of s i)) d (suc d)
 null_piece equal Ref i d n h = piece_one (instr.TestNull _ equal) d (suc d) (rw (lt-ltb d 64 h) refl) tt
 null_piece equal Global i d n h = piece_one (instr.TestNull _ equal) d (suc d) (rw (lt-ltb d 64 h) refl) tt
 null_piece equal FieldId i d n h = piece_one (instr.TestNull _ equal) d (suc d) (rw (lt-ltb d 64 h) refl) tt
@@ -47,12 +47,12 @@ null_piece equal MethodId i d n h = piece_one (instr.TestNull _ equal) d (suc d)
 null_piece equal (Buffer t w) i d n h = piece_one (instr.TestNull _ equal) d (suc d) (rw (lt-ltb d 64 h) refl) tt
 null_piece equal s i d n h = absurd n
 
-element_piece : (line : ℕ) (s : Sort) (i d : ℕ) → HasElements s → IsPiece (element_code line s i) (suc d) (suc d)
+element_piece : (line : ℕ) (s : ExprType) (i d : ℕ) → HasElements s → IsPiece (element_code line s i) (suc d) (suc d)
 element_piece line (Array t n) i d h = piece_one (instr.LoadElement _ line) (suc d) (suc d) refl tt
 element_piece line (Buffer t w) i d h = piece_one (instr.LoadBuffer i line) (suc d) (suc d) refl tt
 element_piece line s i d h = absurd h
 
-written_piece : (line : ℕ) (s : Sort) (i : ℕ) → HasElements s → IsPiece (write_code line s i) 2 0
+written_piece : (line : ℕ) (s : ExprType) (i : ℕ) → HasElements s → IsPiece (write_code line s i) 2 0
 written_piece line (Array t n) i h = piece_one (instr.StoreElement (element_of t) _ line) 2 0 refl tt
 written_piece line (Buffer t w) i h = piece_one (instr.StoreBuffer (element_of t) i line) 2 0 refl tt
 written_piece line s i h = absurd h
@@ -89,41 +89,41 @@ operator_piece line signed Remainder d = piece_one (operator_code line signed Re
 
 -- ---- expressions
 
-pub term_piece : (known : Known) (line : ℕ) (t : Term) (s : Sort) (d : ℕ) → TermHasSort known t s → IsUntouched t → d + term_height t < 64 → IsPiece (term_code known line t) d (suc d)
-term_piece known line (Done v) s d sorted u h = absurd u
-term_piece known line (term.Number n signed) s d sorted u h = push_piece n d (omega arith)
-term_piece known line (term.Named tree.True) s d sorted u h = push_piece 1 d (omega arith)
-term_piece known line (term.Named tree.False) s d sorted u h = push_piece 0 d (omega arith)
-term_piece known line (term.Named c) s d sorted u h = absurd sorted
-term_piece known line (Read x) s d sorted u h = subst (λ c. IsPiece c d (suc d)) (sym (ap (of_slot load_code) sorted.1)) (load_piece sorted.0 d (omega arith))
-term_piece known line (term.Element x t) s d sorted u h =
-    piece_append (term_code known line t) (of_slot (element_code line) (lookup x known)) d (suc d) (suc d) (term_piece known line t sorted.0 d sorted.2 u (omega arith))
-    (subst (λ c. IsPiece c (suc d) (suc d)) (sym (ap (of_slot (element_code line)) sorted.3.1)) (element_piece line sorted.3.0.sort sorted.3.0.index d sorted.3.2))
-term_piece known line (IsNull equal x) s d sorted u h =
-    let slot = sorted.0.0 in
-    subst (λ c. IsPiece c d (suc d)) (sym (ap (null_code equal) sorted.0.1)) (null_piece equal slot.sort slot.index d sorted.0.2 (omega arith))
-term_piece known line (Prefix LogicalNot t) s d sorted u h = piece_append (term_code known line t) (prefix_code LogicalNot ∷ []) d (suc d) (suc d) (term_piece known line t sort.Truth d sorted.0 u (omega arith)) (prefix_piece LogicalNot d)
-term_piece known line (Prefix Complement t) s d sorted u h = piece_append (term_code known line t) (prefix_code Complement ∷ []) d (suc d) (suc d) (term_piece known line t sort.Word d sorted.0 u (omega arith)) (prefix_piece Complement d)
-term_piece known line (Prefix ToWord t) s d sorted u h = piece_append (term_code known line t) (prefix_code ToWord ∷ []) d (suc d) (suc d) (term_piece known line t sorted.0 d sorted.2 u (omega arith)) (prefix_piece ToWord d)
-term_piece known line (Prefix ToInt t) s d sorted u h = piece_append (term_code known line t) (prefix_code ToInt ∷ []) d (suc d) (suc d) (term_piece known line t sorted.0 d sorted.2 u (omega arith)) (prefix_piece ToInt d)
-term_piece known line (And a b) s d sorted u h =
-    let right = term_piece known line b sort.Truth d sorted.1 u.1 (omega arith) in
-    piece_append (term_code known line a) (skip_code true (length (term_code known line b)) ∷ term_code known line b) d (suc d) (suc d) (term_piece known line a sort.Truth d sorted.0 u.0 (omega arith)) (piece_and (term_code known line b) d right)
-term_piece known line (Or a b) s d sorted u h =
-    let right = term_piece known line b sort.Truth d sorted.1 u.1 (omega arith) in
-    piece_append (term_code known line a) (skip_code false (length (term_code known line b)) ∷ term_code known line b) d (suc d) (suc d) (term_piece known line a sort.Truth d sorted.0 u.0 (omega arith)) (piece_or (term_code known line b) d right)
-term_piece known line (Binary op a b) s d sorted u h =
+pub term_piece : (known : Known) (line : ℕ) (t : Term) (s : ExprType) (d : ℕ) → TermHasType known t s → IsUntouched t → d + term_height t < 64 → IsPiece (term_code known line t) d (suc d)
+term_piece known line (Done v) s d well_typed u h = absurd u
+term_piece known line (term.Number n signed) s d well_typed u h = push_piece n d (omega arith)
+term_piece known line (term.Named tree.True) s d well_typed u h = push_piece 1 d (omega arith)
+term_piece known line (term.Named tree.False) s d well_typed u h = push_piece 0 d (omega arith)
+term_piece known line (term.Named c) s d well_typed u h = absurd well_typed
+term_piece known line (Read x) s d well_typed u h = subst (λ c. IsPiece c d (suc d)) (sym (ap (of_slot load_code) well_typed.1)) (load_piece well_typed.0 d (omega arith))
+term_piece known line (term.Element x t) s d well_typed u h =
+    piece_append (term_code known line t) (of_slot (element_code line) (lookup x known)) d (suc d) (suc d) (term_piece known line t well_typed.0 d well_typed.2 u (omega arith))
+    (subst (λ c. IsPiece c (suc d) (suc d)) (sym (ap (of_slot (element_code line)) well_typed.3.1)) (element_piece line well_typed.3.0.ty well_typed.3.0.index d well_typed.3.2))
+term_piece known line (IsNull equal x) s d well_typed u h =
+    let slot = well_typed.0.0 in
+    subst (λ c. IsPiece c d (suc d)) (sym (ap (null_code equal) well_typed.0.1)) (null_piece equal slot.ty slot.index d well_typed.0.2 (omega arith))
+term_piece known line (Prefix LogicalNot t) s d well_typed u h = piece_append (term_code known line t) (prefix_code LogicalNot ∷ []) d (suc d) (suc d) (term_piece known line t ty.Truth d well_typed.0 u (omega arith)) (prefix_piece LogicalNot d)
+term_piece known line (Prefix Complement t) s d well_typed u h = piece_append (term_code known line t) (prefix_code Complement ∷ []) d (suc d) (suc d) (term_piece known line t ty.Word d well_typed.0 u (omega arith)) (prefix_piece Complement d)
+term_piece known line (Prefix ToWord t) s d well_typed u h = piece_append (term_code known line t) (prefix_code ToWord ∷ []) d (suc d) (suc d) (term_piece known line t well_typed.0 d well_typed.2 u (omega arith)) (prefix_piece ToWord d)
+term_piece known line (Prefix ToInt t) s d well_typed u h = piece_append (term_code known line t) (prefix_code ToInt ∷ []) d (suc d) (suc d) (term_piece known line t well_typed.0 d well_typed.2 u (omega arith)) (prefix_piece ToInt d)
+term_piece known line (And a b) s d well_typed u h =
+    let right = term_piece known line b ty.Truth d well_typed.1 u.1 (omega arith) in
+    piece_append (term_code known line a) (skip_code true (length (term_code known line b)) ∷ term_code known line b) d (suc d) (suc d) (term_piece known line a ty.Truth d well_typed.0 u.0 (omega arith)) (piece_and (term_code known line b) d right)
+term_piece known line (Or a b) s d well_typed u h =
+    let right = term_piece known line b ty.Truth d well_typed.1 u.1 (omega arith) in
+    piece_append (term_code known line a) (skip_code false (length (term_code known line b)) ∷ term_code known line b) d (suc d) (suc d) (term_piece known line a ty.Truth d well_typed.0 u.0 (omega arith)) (piece_or (term_code known line b) d right)
+term_piece known line (Binary op a b) s d well_typed u h =
     let last = operator_code line (is_signed known a) op ∷ [] in
-    let right = term_piece known line b sorted.0 (suc d) sorted.3 u.1 (omega arith) in
-    piece_append (term_code known line a) (term_code known line b ++ last) d (suc d) (suc d) (term_piece known line a sorted.0 d sorted.2 u.0 (omega arith))
+    let right = term_piece known line b well_typed.0 (suc d) well_typed.3 u.1 (omega arith) in
+    piece_append (term_code known line a) (term_code known line b ++ last) d (suc d) (suc d) (term_piece known line a well_typed.0 d well_typed.2 u.0 (omega arith))
     (piece_append (term_code known line b) last (suc d) (suc (suc d)) (suc d) right (operator_piece line (is_signed known a) op d))
 
 -- an expression with this number of words in front of it
-number_piece : (known : Known) (line : ℕ) (t : Term) (s : Sort) (d : ℕ) → NumberFits known t s → d ≤ 31 → IsPiece (term_code known line t) d (suc d)
-number_piece known line t s d h few = let low = h.low in term_piece known line t s d h.sort h.untouched (omega arith)
+number_piece : (known : Known) (line : ℕ) (t : Term) (s : ExprType) (d : ℕ) → NumberFits known t s → d ≤ 31 → IsPiece (term_code known line t) d (suc d)
+number_piece known line t s d h few = let low = h.low in term_piece known line t s d h.ty h.untouched (omega arith)
 
 -- an expression and the instruction that takes its value
-taken_piece : (known : Known) (line : ℕ) (t : Term) (s : Sort) (last : Instr) → NumberFits known t s → IsPiece (last ∷ []) 1 0 → IsPiece (term_code known line t ++ last ∷ []) 0 0
+taken_piece : (known : Known) (line : ℕ) (t : Term) (s : ExprType) (last : Instr) → NumberFits known t s → IsPiece (last ∷ []) 1 0 → IsPiece (term_code known line t ++ last ∷ []) 0 0
 taken_piece known line t s last h piece = piece_append (term_code known line t) (last ∷ []) 0 1 0 (number_piece known line t s 0 h (omega arith)) piece
 
 -- ---- statements
@@ -144,17 +144,17 @@ one_at_most o = omega arith
 -- no variable is a word
 slot_word : (o : Option Slot) → one_word (operand_of o) ≡ 0
 slot_word None = refl
-slot_word (Some s) = by_sort s.sort s.index
+slot_word (Some s) = on_type s.ty s.index
   where
-    by_sort : (s : Sort) (i : ℕ) → one_word (variable_operand s i) ≡ 0
-    by_sort Ref i = refl
-    by_sort Global i = refl
-    by_sort Weak i = refl
-    by_sort FieldId i = refl
-    by_sort MethodId i = refl
-    by_sort (Array t n) i = refl
-    by_sort (Buffer t w) i = refl
-    by_sort s i = refl
+    on_type : (s : ExprType) (i : ℕ) → one_word (variable_operand s i) ≡ 0
+    on_type Ref i = refl
+    on_type Global i = refl
+    on_type Weak i = refl
+    on_type FieldId i = refl
+    on_type MethodId i = refl
+    on_type (Array t n) i = refl
+    on_type (Buffer t w) i = refl
+    on_type s i = refl
 
 -- and no address
 address_word : (o : Option Slot) → one_word (address_operand o) ≡ 0
@@ -183,15 +183,15 @@ one_more : (code : List Instr) (d : ℕ) → IsPiece code d (suc d) → IsPiece 
 one_more code d h = subst (IsPiece code d) (let same : suc d ≡ d + 1 = omega arith in same) h
 
 -- what a method is given is a number, or a reference that needs no instruction
-passed_slot : (s : Sort) (i d : ℕ) → ((s ≡ Jint) ⊎ (s ≡ Ref) ⊎ (s ≡ Global)) → d ≤ 31 → IsPiece (number_code s i) d (d + one_word (passed_variable (Some (record { sort = s; index = i }))))
+passed_slot : (s : ExprType) (i d : ℕ) → ((s ≡ Jint) ⊎ (s ≡ Ref) ⊎ (s ≡ Global)) → d ≤ 31 → IsPiece (number_code s i) d (d + one_word (passed_variable (Some (record { ty = s; index = i }))))
 passed_slot s i d (inl e) few =
-    subst (λ (r : Sort). IsPiece (number_code r i) d (d + one_word (passed_variable (Some (record { sort = r; index = i }))))) (sym e) (one_more (instr.Load i ∷ []) d (load_piece i d (omega (arith, few))))
-passed_slot s i d (inr (inl e)) few = subst (λ (r : Sort). IsPiece (number_code r i) d (d + one_word (passed_variable (Some (record { sort = r; index = i }))))) (sym e) (empty_piece d 0 refl)
-passed_slot s i d (inr (inr e)) few = subst (λ (r : Sort). IsPiece (number_code r i) d (d + one_word (passed_variable (Some (record { sort = r; index = i }))))) (sym e) (empty_piece d 0 refl)
+    subst (λ (r : ExprType). IsPiece (number_code r i) d (d + one_word (passed_variable (Some (record { ty = r; index = i }))))) (sym e) (one_more (instr.Load i ∷ []) d (load_piece i d (omega (arith, few))))
+passed_slot s i d (inr (inl e)) few = subst (λ (r : ExprType). IsPiece (number_code r i) d (d + one_word (passed_variable (Some (record { ty = r; index = i }))))) (sym e) (empty_piece d 0 refl)
+passed_slot s i d (inr (inr e)) few = subst (λ (r : ExprType). IsPiece (number_code r i) d (d + one_word (passed_variable (Some (record { ty = r; index = i }))))) (sym e) (empty_piece d 0 refl)
 
 passed_piece : (known : Known) (line : ℕ) (e : Expr) (d : ℕ) → PassedFits known e → d ≤ 31 → IsPiece (passed_rest known line e) d (d + one_word (passed_code known e))
 passed_piece known line (tree.Named tree.Null) d h few = empty_piece d 0 refl
-passed_piece known line (tree.Variable x) d h few = subst (λ o. IsPiece (of_slot number_code o) d (d + one_word (passed_variable o))) (sym h.1) (passed_slot h.0.sort h.0.index d h.2 few)
+passed_piece known line (tree.Variable x) d h few = subst (λ o. IsPiece (of_slot number_code o) d (d + one_word (passed_variable o))) (sym h.1) (passed_slot h.0.ty h.0.index d h.2 few)
 passed_piece known line e d h few = one_more (expr_code known line e) d (number_piece known line (term_of e) Jint d h few)
 
 argument_piece : (known : Known) (line : ℕ) (p : ParameterKind) (a : Argument) (d : ℕ) → ArgumentFits known p a → d ≤ 31 → IsPiece (argument_code known line (p, a)) d (d + one_word (operand_code known (p, a)))
@@ -234,24 +234,24 @@ call_piece known line target c m fits gives =
     (piece_append (arguments_code known line given) call 0 (0 + words_taken operands) m (arguments_piece known line parameters c.arguments 0 fits.arguments (omega (arith, few)))
     (call_instr line target fits.function operands (arguments_texts c.arguments) (0 + words_taken operands) m none gives))
 
-value_piece : (known : Known) (line : ℕ) (kind : Sort) (i : ℕ) (e : Expr) → ValueFits known kind e → IsPiece (value_code known line (record { sort = kind; index = i }) e) 0 0
-value_piece known line sort.Word i e fits = subst (λ c. IsPiece c 0 0) (sym (value_is known line (record { sort = sort.Word; index = i }) e sort.Word fits)) (taken_piece known line (term_of e) sort.Word (instr.Store i) fits (piece_one (instr.Store i) 1 0 refl tt))
-value_piece known line Jint i e fits = subst (λ c. IsPiece c 0 0) (sym (value_is known line (record { sort = Jint; index = i }) e Jint fits)) (taken_piece known line (term_of e) Jint (instr.Store i) fits (piece_one (instr.Store i) 1 0 refl tt))
-value_piece known line sort.Flag i e fits = subst (λ c. IsPiece c 0 0) (sym (value_is known line (record { sort = sort.Flag; index = i }) e sort.Flag fits)) (taken_piece known line (term_of e) sort.Flag (instr.Store i) fits (piece_one (instr.Store i) 1 0 refl tt))
-value_piece known line sort.Truth i e fits = absurd fits
-value_piece known line Ref i e fits = subst (λ (d : Expr). IsPiece (value_code known line (record { sort = Ref; index = i }) d) 0 0) (sym fits) (piece_one (instr.StoreNull _) 0 0 refl tt)
-value_piece known line Global i e fits = subst (λ (d : Expr). IsPiece (value_code known line (record { sort = Global; index = i }) d) 0 0) (sym fits) (piece_one (instr.StoreNull _) 0 0 refl tt)
-value_piece known line Weak i e fits = subst (λ (d : Expr). IsPiece (value_code known line (record { sort = Weak; index = i }) d) 0 0) (sym fits) (piece_one (instr.StoreNull _) 0 0 refl tt)
-value_piece known line FieldId i e fits = subst (λ (d : Expr). IsPiece (value_code known line (record { sort = FieldId; index = i }) d) 0 0) (sym fits) (piece_one (instr.StoreNull _) 0 0 refl tt)
-value_piece known line MethodId i e fits = subst (λ (d : Expr). IsPiece (value_code known line (record { sort = MethodId; index = i }) d) 0 0) (sym fits) (piece_one (instr.StoreNull _) 0 0 refl tt)
-value_piece known line (Buffer t w) i e fits = subst (λ (d : Expr). IsPiece (value_code known line (record { sort = Buffer t w; index = i }) d) 0 0) (sym fits) (piece_one (instr.StoreNull _) 0 0 refl tt)
+value_piece : (known : Known) (line : ℕ) (kind : ExprType) (i : ℕ) (e : Expr) → ValueFits known kind e → IsPiece (value_code known line (record { ty = kind; index = i }) e) 0 0
+value_piece known line ty.Word i e fits = subst (λ c. IsPiece c 0 0) (sym (value_is known line (record { ty = ty.Word; index = i }) e ty.Word fits)) (taken_piece known line (term_of e) ty.Word (instr.Store i) fits (piece_one (instr.Store i) 1 0 refl tt))
+value_piece known line Jint i e fits = subst (λ c. IsPiece c 0 0) (sym (value_is known line (record { ty = Jint; index = i }) e Jint fits)) (taken_piece known line (term_of e) Jint (instr.Store i) fits (piece_one (instr.Store i) 1 0 refl tt))
+value_piece known line ty.Flag i e fits = subst (λ c. IsPiece c 0 0) (sym (value_is known line (record { ty = ty.Flag; index = i }) e ty.Flag fits)) (taken_piece known line (term_of e) ty.Flag (instr.Store i) fits (piece_one (instr.Store i) 1 0 refl tt))
+value_piece known line ty.Truth i e fits = absurd fits
+value_piece known line Ref i e fits = subst (λ (d : Expr). IsPiece (value_code known line (record { ty = Ref; index = i }) d) 0 0) (sym fits) (piece_one (instr.StoreNull _) 0 0 refl tt)
+value_piece known line Global i e fits = subst (λ (d : Expr). IsPiece (value_code known line (record { ty = Global; index = i }) d) 0 0) (sym fits) (piece_one (instr.StoreNull _) 0 0 refl tt)
+value_piece known line Weak i e fits = subst (λ (d : Expr). IsPiece (value_code known line (record { ty = Weak; index = i }) d) 0 0) (sym fits) (piece_one (instr.StoreNull _) 0 0 refl tt)
+value_piece known line FieldId i e fits = subst (λ (d : Expr). IsPiece (value_code known line (record { ty = FieldId; index = i }) d) 0 0) (sym fits) (piece_one (instr.StoreNull _) 0 0 refl tt)
+value_piece known line MethodId i e fits = subst (λ (d : Expr). IsPiece (value_code known line (record { ty = MethodId; index = i }) d) 0 0) (sym fits) (piece_one (instr.StoreNull _) 0 0 refl tt)
+value_piece known line (Buffer t w) i e fits = subst (λ (d : Expr). IsPiece (value_code known line (record { ty = Buffer t w; index = i }) d) 0 0) (sym fits) (piece_one (instr.StoreNull _) 0 0 refl tt)
 value_piece known line (Array t n) i e fits = absurd fits
 
-right_piece : (known : Known) (line : ℕ) (s : Slot) (r : RightSide) → RightFits known s.sort r → IsPiece (right_code known line s r) 0 0
-right_piece known line s (FromExpr e) fits = value_piece known line s.sort s.index e fits
-right_piece known line s (FromCall c) fits = call_piece known line (result_target s.sort s.index) c 0 fits.fits (into_variable s.sort s.index)
+right_piece : (known : Known) (line : ℕ) (s : Slot) (r : RightSide) → RightFits known s.ty r → IsPiece (right_code known line s r) 0 0
+right_piece known line s (FromExpr e) fits = value_piece known line s.ty s.index e fits
+right_piece known line s (FromCall c) fits = call_piece known line (result_target s.ty s.index) c 0 fits.fits (into_variable s.ty s.index)
   where
-    into_variable : (s : Sort) (i : ℕ) → with_result (result_target s i) 0 ≡ Some 0
+    into_variable : (s : ExprType) (i : ℕ) → with_result (result_target s i) 0 ≡ Some 0
     into_variable Ref i = refl
     into_variable Global i = refl
     into_variable Weak i = refl
@@ -262,29 +262,29 @@ right_piece known line s (FromCall c) fits = call_piece known line (result_targe
 return_piece : (known : Known) (line : ℕ) (t : Term) → ReturnFits known t → IsPiece (return_code known line t) 0 0
 return_piece known line (term.Named tree.Null) fits = piece_one (instr.ReturnReference _) 0 0 refl tt
 return_piece known line (Read x) (s, found, inl e) =
-    subst (λ c. IsPiece c 0 0) (sym (ap (of_slot returned_code) (found ∙ ap (λ (r : Sort). Some (record { sort = r; index = s.index })) e))) (piece_one (instr.ReturnReference _) 0 0 refl tt)
+    subst (λ c. IsPiece c 0 0) (sym (ap (of_slot returned_code) (found ∙ ap (λ (r : ExprType). Some (record { ty = r; index = s.index })) e))) (piece_one (instr.ReturnReference _) 0 0 refl tt)
 return_piece known line (Read x) (s, found, inr e) =
-    subst (λ c. IsPiece c 0 0) (sym (ap (of_slot returned_code) (found ∙ ap (λ (r : Sort). Some (record { sort = r; index = s.index })) e)))
+    subst (λ c. IsPiece c 0 0) (sym (ap (of_slot returned_code) (found ∙ ap (λ (r : ExprType). Some (record { ty = r; index = s.index })) e)))
     (piece_append (instr.Load s.index ∷ []) (instr.ReturnJint ∷ []) 0 1 0 (load_piece s.index 0 (omega arith)) (piece_one instr.ReturnJint 1 0 refl tt))
 return_piece known line t fits = taken_piece known line t Jint instr.ReturnJint fits (piece_one instr.ReturnJint 1 0 refl tt)
 
 test_piece : (known : Known) (line : ℕ) (test : Test) → TestFits known test → IsPiece (test_code known line test) 0 1
-test_piece known line (TestExpr e) fits = number_piece known line (term_of e) sort.Truth 0 fits (omega arith)
+test_piece known line (TestExpr e) fits = number_piece known line (term_of e) ty.Truth 0 fits (omega arith)
 test_piece known line (TestCall c) fits = call_piece known line destination.Test c 1 fits.fits refl
 
 if_piece : (known : Known) (line : ℕ) (test : Test) (then' else' : List Instr) → TestFits known test → IsPiece then' 0 0 → IsPiece else' 0 0 → IsPiece (if_code known line test then' else') 0 0
 if_piece known line test then' else' fits h k =
-    piece_append (test_code known line test) (ways_code then' (else' ++ instr.Jump 0 ∷ [])) 0 1 0 (test_piece known line test fits) (piece_if then' (else' ++ instr.Jump 0 ∷ []) h (piece_append else' (instr.Jump 0 ∷ []) 0 0 0 k piece_end))
+    piece_append (test_code known line test) (paths_code then' (else' ++ instr.Jump 0 ∷ [])) 0 1 0 (test_piece known line test fits) (piece_if then' (else' ++ instr.Jump 0 ∷ []) h (piece_append else' (instr.Jump 0 ∷ []) 0 0 0 k piece_end))
 
 write_piece : (l : Layout) (line : ℕ) (x : Identifier) (i e : Expr) → StmtFits l (tree.AssignElement line x i e) → IsPiece (stmt_code l (tree.AssignElement line x i e)) 0 0
 write_piece l line x i e fits =
     piece_append (expr_code l.known line i) (expr_code l.known line e ++ of_slot (write_code line) (lookup x l.known)) 0 1 0 (number_piece l.known line (term_of i) fits.1.0 0 fits.1.2 (omega arith))
     (piece_append (expr_code l.known line e) (of_slot (write_code line) (lookup x l.known)) 1 2 0 (number_piece l.known line (term_of e) Jint 1 fits.2 (omega arith))
-    (subst (λ c. IsPiece c 2 0) (sym (ap (of_slot (write_code line)) fits.0.1)) (written_piece line fits.0.0.sort fits.0.0.index fits.0.2)))
+    (subst (λ c. IsPiece c 2 0) (sym (ap (of_slot (write_code line)) fits.0.1)) (written_piece line fits.0.0.ty fits.0.0.index fits.0.2)))
 
 mutual
   pub stmt_piece : (s : Stmt) (l : Layout) → StmtFits l s → IsPiece (stmt_code l s) 0 0
-  stmt_piece (tree.Declare line t x r) l fits = right_piece l.known line (new_slot (variable_sort t) l) r fits.1
+  stmt_piece (tree.Declare line t x r) l fits = right_piece l.known line (new_slot (variable_type t) l) r fits.1
   stmt_piece (tree.DeclareBuffer line t x r) l fits = right_piece l.known line (new_slot (Buffer t true) l) r fits.1
   stmt_piece (tree.DeclareChars line x r) l fits = right_piece l.known line (new_slot (Buffer JChar false) l) r fits.1
   stmt_piece (tree.DeclareArray line t x size) l fits = piece_one (instr.ClearArray _) 0 0 refl tt
@@ -295,7 +295,7 @@ mutual
   stmt_piece (tree.If line test then') l fits = if_piece l.known line test (block_code l then') [] fits.0 (block_piece then' l fits.1) (piece_none 0)
   stmt_piece (tree.IfElse line test then' else') l fits =
       if_piece l.known line test (block_code l then') (block_code (closed l (block_layout l then')) else') fits.0 (block_piece then' l fits.1) (block_piece else' (closed l (block_layout l then')) fits.2)
-  stmt_piece (tree.While line test body) l fits = piece_loop (expr_code l.known line test) (block_code l body) (number_piece l.known line (term_of test) sort.Truth 0 fits.0 (omega arith)) (block_piece body l fits.1)
+  stmt_piece (tree.While line test body) l fits = piece_loop (expr_code l.known line test) (block_code l body) (number_piece l.known line (term_of test) ty.Truth 0 fits.0 (omega arith)) (block_piece body l fits.1)
   stmt_piece (tree.Return line) l fits = piece_one instr.Return 0 0 refl tt
   stmt_piece (tree.ReturnValue line e) l fits = return_piece l.known line (term_of e) fits
 

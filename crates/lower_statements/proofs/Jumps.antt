@@ -3,7 +3,7 @@ use Rattle.std.proofs.Common.{◌≡◌, ℕ, ◌+◌, List, [], ◌∷◌, ◌+
 use Rattle.std.specs.Prelude.{slice_set, IfOk, IsErr}
 use Rattle.code.specs.declared.instr.Instr.{Instr}
 use Rattle.code.specs.declared.instr.Instr.TheVariants as instr
-use Rattle.code_meaning.specs.Coding.{skip_code, logical_code, first_code, ways_code, loop_code}
+use Rattle.code_meaning.specs.Coding.{skip_code, logical_code, first_code, paths_code, loop_code}
 
 -- what holds of a success, holds in other words
 pub on_ok : {A E : Type 0} (r : Result A E) (P Q : Type 0) → (P → Q) → OnOk r P → OnOk r Q
@@ -31,10 +31,10 @@ set_after (x ∷ a) b i j = ap (λ r. x ∷ r) (set_after a b i j)
 pub set_there : (a b : List Instr) (place : ℕ) (i j : Instr) → place ≡ length a → slice_set (a ++ i ∷ b) place j ≡ a ++ j ∷ b
 set_there a b place i j h = ap (λ p. slice_set (a ++ i ∷ b) p j) h ∙ set_after a b i j
 
--- both ways of an `if`, where the code in front of it, its test and the two ways are these
-pub ways_made : (old test then' else' : List Instr) (end n : ℕ) → end + 1 ≡ length (old ++ first_code test then') → n ≡ length else' + 1
-    → slice_set (((old ++ first_code test then') ++ else') ++ instr.Jump 0 ∷ []) end (instr.Jump n) ≡ old ++ (test ++ ways_code then' (else' ++ instr.Jump 0 ∷ []))
-ways_made old test then' else' end n at size =
+-- both branches of an `if`, where the code in front of it, its test and the two branches are these
+pub paths_made : (old test then' else' : List Instr) (end n : ℕ) → end + 1 ≡ length (old ++ first_code test then') → n ≡ length else' + 1
+    → slice_set (((old ++ first_code test then') ++ else') ++ instr.Jump 0 ∷ []) end (instr.Jump n) ≡ old ++ (test ++ paths_code then' (else' ++ instr.Jump 0 ∷ []))
+paths_made old test then' else' end n at size =
     let jump = instr.JumpIfFalse (length then' + 1) in
     let front = old ++ (test ++ (jump ∷ then')) in
     let back = else' ++ instr.Jump 0 ∷ [] in
@@ -52,7 +52,7 @@ side_made c old left right place n at size =
     ap (λ r. slice_set r place (skip_code c n)) (append_assoc (old ++ left) (skip_code c 0 ∷ []) right) ∙ set_there (old ++ left) right place (skip_code c 0) (skip_code c n) at
     ∙ ap (λ m. (old ++ left) ++ skip_code c m ∷ right) size ∙ append_assoc old left (skip_code c (length right) ∷ right)
 
--- the first way of an `if`
+-- the first branch of an `if`
 pub first_made : (old test then' : List Instr) (jump n : ℕ) → jump ≡ length (old ++ test) → n ≡ length then' + 1
     → slice_set ((((old ++ test) ++ instr.JumpIfFalse 0 ∷ []) ++ then') ++ instr.Jump 0 ∷ []) jump (instr.JumpIfFalse n) ≡ old ++ first_code test then'
 first_made old test then' jump n at size =

@@ -5,7 +5,7 @@ ghost use Rattle.std.specs.Option.{option_map};
 ghost use Rattle.base.specs.Bytes.{lookup};
 ghost use Rattle.syntax.specs.Views.{static_tree, function_tree, parameter_tree};
 ghost use Rattle.code_meaning.specs.Layout.{new_slot, with_static, parameter_slots, numbers_of, references_of, slots_after, with_name, entry_layout};
-ghost use Rattle.type_rules.specs.SortViews.{sort_value};
+ghost use Rattle.type_rules.specs.TypeViews.{type_value};
 ghost use Rattle.lower_statements.specs.Names.{slot_view};
 
 use crate::emitting::counted;
@@ -13,12 +13,12 @@ use code::slots::SlotCounts;
 use std::alloc::{AllocError, Global};
 use std::marker::Model;
 use syntax::{Function, Name, Parameter, Static};
-use type_rules::{Known, Sort, parameter_sort, static_sort};
+use type_rules::{ExprType, Known, parameter_type, static_type};
 
-/// A name's sort and where its value is, counted among the slots of its kind; the elements of an array begin there.
+/// A name's type and where its value is, counted among the slots of its kind; the elements of an array begin there.
 #[derive(Clone, Copy)]
 pub struct Slot {
-    pub sort: Sort,
+    pub ty: ExprType,
     pub index: u32,
 }
 
@@ -62,8 +62,8 @@ impl<'a> Names<'a> {
         ensures { OnOk result (self.new.known ≡ with_static (static_tree named.now) self.old.known) }
     {
         let index = counted(self.len())?;
-        let sort = static_sort(named.kind);
-        self.known.declare(&named.name, Slot { sort, index })
+        let ty = static_type(named.kind);
+        self.known.declare(&named.name, Slot { ty, index })
     }
 
     /// The names and slots at a function's first statement, after these statics.
@@ -79,7 +79,7 @@ impl<'a> Names<'a> {
         };
         self.declare_parameters(&function.parameters)?;
         let slot = Slot {
-            sort: Sort::Ref,
+            ty: ExprType::Ref,
             index: 0,
         };
         self.known.declare(&function.class_name, slot)
@@ -100,9 +100,9 @@ impl<'a> Names<'a> {
         match parameters {
             [] => Ok(()),
             [parameter, parameters @ ..] => {
-                let sort = parameter_sort(parameter.kind);
-                let slot = self.new_slot(sort);
-                self.slots = slots_after(self.slots, sort)?;
+                let ty = parameter_type(parameter.kind);
+                let slot = self.new_slot(ty);
+                self.slots = slots_after(self.slots, ty)?;
                 self.declare_parameters(parameters)?;
                 self.known.declare(&parameter.name, slot)
             }
@@ -117,27 +117,29 @@ impl<'a> Names<'a> {
     }
 
     /// The slot of a name that is declared next.
-    pub fn new_slot(&self, sort: Sort) -> Slot
-        ensures { slot_view result ≡ new_slot (sort_value sort) self.now }
+    pub fn new_slot(&self, ty: ExprType) -> Slot
+        ensures { slot_view result ≡ new_slot (type_value ty) self.now }
     {
-        let index = match sort {
-            Sort::Ref => self.slots.references,
-            Sort::Global | Sort::Weak => self.slots.statics,
-            Sort::FieldId | Sort::MethodId => self.slots.field_ids,
-            Sort::Buffer(..) => self.slots.buffers,
-            Sort::Word | Sort::Jint | Sort::Flag | Sort::Truth | Sort::Array(..) => {
-                self.slots.numbers
-            }
+        let index = match ty {
+            ExprType::Ref => self.slots.references,
+            ExprType::Global | ExprType::Weak => self.slots.statics,
+            ExprType::FieldId | ExprType::MethodId => self.slots.field_ids,
+            ExprType::Buffer(..) => self.slots.buffers,
+            ExprType::Word
+            | ExprType::Jint
+            | ExprType::Flag
+            | ExprType::Truth
+            | ExprType::Array(..) => { self.slots.numbers }
         };
-        Slot { sort, index }
+        Slot { ty, index }
     }
 
     /// Declares a name. More slots than can be counted are no memory.
-    pub fn declare(&mut self, name: &'a Name, sort: Sort) -> Result<(), AllocError>
-        ensures { OnOk result (self.new ≡ with_name name.now (sort_value sort) self.old) }
+    pub fn declare(&mut self, name: &'a Name, ty: ExprType) -> Result<(), AllocError>
+        ensures { OnOk result (self.new ≡ with_name name.now (type_value ty) self.old) }
     {
-        let slots = slots_after(self.slots, sort)?;
-        let slot = self.new_slot(sort);
+        let slots = slots_after(self.slots, ty)?;
+        let slot = self.new_slot(ty);
         self.known.declare(name, slot)?;
         self.slots = slots;
         Ok(())
@@ -176,18 +178,18 @@ fn more(count: u32, by: u32) -> Result<u32, AllocError>
 }
 
 /// The slots with those of one variable more.
-fn slots_after(slots: SlotCounts, sort: Sort) -> Result<SlotCounts, AllocError>
-    ensures { IfOk result (λ s. s ≡ slots_after (sort_value sort) slots) }
+fn slots_after(slots: SlotCounts, ty: ExprType) -> Result<SlotCounts, AllocError>
+    ensures { IfOk result (λ s. s ≡ slots_after (type_value ty) slots) }
 {
     let mut after = slots;
-    match sort {
-        Sort::Ref => after.references = more(slots.references, 1)?,
-        Sort::Global | Sort::Weak => after.statics = more(slots.statics, 1)?,
-        Sort::FieldId | Sort::MethodId => after.field_ids = more(slots.field_ids, 1)?,
-        Sort::Buffer(..) => after.buffers = more(slots.buffers, 1)?,
-        Sort::Word | Sort::Jint | Sort::Flag => after.numbers = more(slots.numbers, 1)?,
-        Sort::Array(_, len) => after.numbers = more(slots.numbers, len)?,
-        Sort::Truth => {}
+    match ty {
+        ExprType::Ref => after.references = more(slots.references, 1)?,
+        ExprType::Global | ExprType::Weak => after.statics = more(slots.statics, 1)?,
+        ExprType::FieldId | ExprType::MethodId => after.field_ids = more(slots.field_ids, 1)?,
+        ExprType::Buffer(..) => after.buffers = more(slots.buffers, 1)?,
+        ExprType::Word | ExprType::Jint | ExprType::Flag => after.numbers = more(slots.numbers, 1)?,
+        ExprType::Array(_, len) => after.numbers = more(slots.numbers, len)?,
+        ExprType::Truth => {}
     }
     Ok(after)
 }

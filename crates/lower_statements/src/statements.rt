@@ -5,7 +5,7 @@ ghost use Rattle.base.specs.Bytes.{lookup};
 ghost use Rattle.syntax.specs.Views.{expr_tree, argument_tree, call_tree, right_side_tree, test_tree, form_tree, block_tree};
 ghost use Rattle.jni.specs.JniFunction.{function_named};
 ghost use Rattle.jni.specs.Table.{function_value, parameter_value};
-ghost use Rattle.type_rules.specs.SortViews.{sort_value};
+ghost use Rattle.type_rules.specs.TypeViews.{type_value};
 ghost use Rattle.semantics.specs.Arguments.{mode_of};
 ghost use Rattle.semantics.specs.Term.{term_of};
 ghost use Rattle.code_meaning.specs.Layout.{closed, layout_after, block_layout, with_name, new_slot};
@@ -23,7 +23,7 @@ use code_meaning::Parameters;
 use jni::{JniFunction, ParameterKind, function_named};
 use std::alloc::{AllocError, Global};
 use syntax::{Argument, Block, Call, Constant, ElementType, Expr, Form, Name, RightSide, Test};
-use type_rules::{Sort, variable_sort};
+use type_rules::{ExprType, variable_type};
 
 /// A statement on this line, with the names that are known after it.
 #[cycle(statements)]
@@ -89,14 +89,21 @@ fn emit_declaring<'a>(
 {
     match form {
         Form::Declare(kind, name, right) => {
-            emit_declaration(code, names, line, name, variable_sort(*kind), right)
+            emit_declaration(code, names, line, name, variable_type(*kind), right)
         }
         Form::DeclareBuffer(element, name, right) => {
-            emit_declaration(code, names, line, name, Sort::Buffer(*element, true), right)
+            emit_declaration(
+                code,
+                names,
+                line,
+                name,
+                ExprType::Buffer(*element, true),
+                right,
+            )
         }
         Form::DeclareChars(name, right) => {
-            let sort = Sort::Buffer(ElementType::Char, false);
-            emit_declaration(code, names, line, name, sort, right)
+            let ty = ExprType::Buffer(ElementType::Char, false);
+            emit_declaration(code, names, line, name, ty, right)
         }
         Form::DeclareArray(element, name, size) => {
             emit_array(code, names, name, *element, *size)
@@ -123,7 +130,7 @@ pub fn emit_block<'a>(
     Ok(())
 }
 
-/// An `if` up to the end of its first way. It answers the place of the jump there, which is not known yet.
+/// An `if` up to the end of its first branch. It answers the place of the jump there, which is not known yet.
 #[cycle(statements)]
 fn emit_first<'a>(
     code: &mut Vec<Instr>,
@@ -145,7 +152,7 @@ fn emit_first<'a>(
     close_first(code, jump)
 }
 
-/// The end of an `if`'s first way: a jump, and how far that after the test leads. It answers the place of the former, which is
+/// The end of an `if`'s first branch: a jump, and how far that after the test leads. It answers the place of the former, which is
 /// not known yet.
 fn close_first(code: &mut Vec<Instr>, jump: usize) -> Result<usize, AllocError>
     requires { jump < vec_len code.old }
@@ -159,7 +166,7 @@ fn close_first(code: &mut Vec<Instr>, jump: usize) -> Result<usize, AllocError>
     Ok(end)
 }
 
-/// The end of an `if`: the jump after its second way, and how far that after its first one leads.
+/// The end of an `if`: the jump after its second branch, and how far that after its first one leads.
 fn emit_end(code: &mut Vec<Instr>, end: usize) -> Result<(), AllocError>
     requires { end < vec_len code.old }
     ensures { OnOk result (code.new.items ≡ slice_set (code.old.items ++ Instr.Jump 0 ∷ []) end (Instr.Jump (vec_len code.old - end))) }
@@ -170,7 +177,7 @@ fn emit_end(code: &mut Vec<Instr>, end: usize) -> Result<(), AllocError>
     Ok(())
 }
 
-/// A loop: its test, its body, and the way back to the test.
+/// A loop: its test, its body, and the path back to the test.
 #[cycle(statements)]
 fn emit_loop<'a>(
     code: &mut Vec<Instr>,
@@ -228,15 +235,15 @@ fn emit_declaration<'a>(
     names: &mut Names<'a>,
     line: u32,
     name: &'a Name,
-    sort: Sort,
+    ty: ExprType,
     right: &RightSide,
 ) -> Result<(), AllocError>
     ensures code { OnOk result (code.new.items ≡ code.old.items
-        ++ right_code names.old.known line (new_slot (sort_value sort) names.old) (right_side_tree right.now)) }
-    ensures names { OnOk result (names.new ≡ with_name name.now (sort_value sort) names.old) }
+        ++ right_code names.old.known line (new_slot (type_value ty) names.old) (right_side_tree right.now)) }
+    ensures names { OnOk result (names.new ≡ with_name name.now (type_value ty) names.old) }
 {
-    emit_right(code, names, line, names.new_slot(sort), right)?;
-    names.declare(name, sort)
+    emit_right(code, names, line, names.new_slot(ty), right)?;
+    names.declare(name, ty)
 }
 
 /// A new array of `len` zeros.
@@ -248,11 +255,11 @@ fn emit_array<'a>(
     len: u32,
 ) -> Result<(), AllocError>
     ensures code { OnOk result (code.new.items ≡ code.old.items ++ Instr.ClearArray (record { start = names.old.slots.numbers; len = len }) ∷ []) }
-    ensures names { OnOk result (names.new ≡ with_name name.now (sort_value (Sort.Array element len)) names.old) }
+    ensures names { OnOk result (names.new ≡ with_name name.now (type_value (ExprType.Array element len)) names.old) }
 {
     let start = names.slots().numbers;
     emit(code, Instr::ClearArray(LocalArray { start, len }))?;
-    names.declare(name, Sort::Array(element, len))
+    names.declare(name, ExprType::Array(element, len))
 }
 
 /// What a known variable is set to.
@@ -297,14 +304,14 @@ fn emit_right(
 /// Where a call's result for the variable of a slot goes.
 #[tactic(auto, using(code_meaning::proofs::ElementWords::element_same))]
 fn result_target(slot: Slot) -> Target
-    ensures { result ≡ result_target (sort_value slot.sort) slot.index }
+    ensures { result ≡ result_target (type_value slot.ty) slot.index }
 {
-    match slot.sort {
-        Sort::Ref => Target::Local(slot.index),
-        Sort::Global | Sort::Weak => Target::Static(slot.index),
-        Sort::FieldId => Target::FieldId(slot.index),
-        Sort::MethodId => Target::MethodId(slot.index),
-        Sort::Buffer(element, _) => Target::Buffer(element, slot.index),
+    match slot.ty {
+        ExprType::Ref => Target::Local(slot.index),
+        ExprType::Global | ExprType::Weak => Target::Static(slot.index),
+        ExprType::FieldId => Target::FieldId(slot.index),
+        ExprType::MethodId => Target::MethodId(slot.index),
+        ExprType::Buffer(element, _) => Target::Buffer(element, slot.index),
         _ => Target::Number(slot.index),
     }
 }
@@ -354,7 +361,7 @@ fn emit_write(
     match names.slot_of(name) {
         Some(
             Slot {
-                sort: Sort::Array(element, len),
+                ty: ExprType::Array(element, len),
                 index,
             },
         ) => {
@@ -363,7 +370,7 @@ fn emit_write(
         }
         Some(
             Slot {
-                sort: Sort::Buffer(element, _),
+                ty: ExprType::Buffer(element, _),
                 index,
             },
         ) => emit(
@@ -489,7 +496,7 @@ fn emit_number(code: &mut Vec<Instr>, names: &Names<'_>, name: &Name) -> Result<
     match names.slot_of(name) {
         Some(
             Slot {
-                sort: Sort::Jint,
+                ty: ExprType::Jint,
                 index,
             },
         ) => emit(code, Instr::Load(index)),
@@ -543,13 +550,13 @@ fn operand_of(names: &Names<'_>, parameter: ParameterKind, argument: &Argument) 
         (ParameterKind::Passed, Argument::Value(given)) => passed_operand(names, given),
         (ParameterKind::Mode, Argument::Value(mode)) => Operand::Mode(release_mode(mode)),
         (_, Argument::Value(Expr::Variable(name))) => match names.slot_of(name) {
-            Some(Slot { sort, index }) => variable_operand(sort, index),
+            Some(Slot { ty, index }) => variable_operand(ty, index),
             None => Operand::Null,
         },
         (_, Argument::Value(_)) => Operand::Null,
         (_, Argument::Text(_)) => Operand::Text,
         (_, Argument::AddressOf(name)) => match names.slot_of(name) {
-            Some(Slot { sort: _, index }) => Operand::IsCopy(index),
+            Some(Slot { ty: _, index }) => Operand::IsCopy(index),
             None => Operand::Null,
         },
     }
@@ -564,11 +571,11 @@ fn passed_operand(names: &Names<'_>, given: &Expr) -> Operand
         Expr::Variable(name) => match names.slot_of(name) {
             Some(
                 Slot {
-                    sort: Sort::Jint,
+                    ty: ExprType::Jint,
                     index: _,
                 },
             ) => Operand::Number,
-            Some(Slot { sort, index }) => variable_operand(sort, index),
+            Some(Slot { ty, index }) => variable_operand(ty, index),
             None => Operand::Null,
         },
         _ => Operand::Number,
@@ -587,16 +594,16 @@ fn release_mode(mode: &Expr) -> ReleaseMode
 }
 
 /// A variable that isn't a number.
-fn variable_operand(sort: Sort, index: u32) -> Operand
-    ensures { result ≡ variable_operand (sort_value sort) index }
+fn variable_operand(ty: ExprType, index: u32) -> Operand
+    ensures { result ≡ variable_operand (type_value ty) index }
 {
-    match sort {
-        Sort::Ref => Operand::Local(index),
-        Sort::Global | Sort::Weak => Operand::Static(index),
-        Sort::FieldId => Operand::FieldId(index),
-        Sort::MethodId => Operand::MethodId(index),
-        Sort::Array(_, len) => Operand::Array(LocalArray { start: index, len }),
-        Sort::Buffer(..) => Operand::Buffer(index),
+    match ty {
+        ExprType::Ref => Operand::Local(index),
+        ExprType::Global | ExprType::Weak => Operand::Static(index),
+        ExprType::FieldId => Operand::FieldId(index),
+        ExprType::MethodId => Operand::MethodId(index),
+        ExprType::Array(_, len) => Operand::Array(LocalArray { start: index, len }),
+        ExprType::Buffer(..) => Operand::Buffer(index),
         _ => Operand::Null,
     }
 }
@@ -646,7 +653,7 @@ fn emit_returned(code: &mut Vec<Instr>, names: &Names<'_>, name: &Name) -> Resul
     match names.slot_of(name) {
         Some(
             Slot {
-                sort: Sort::Ref,
+                ty: ExprType::Ref,
                 index,
             },
         ) => emit(code, Instr::ReturnReference(ReferenceOperand::Local(index))),

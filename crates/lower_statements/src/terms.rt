@@ -8,14 +8,14 @@ ghost use Rattle.syntax.specs.Views.{constant_tree, prefix_tree, binary_tree, ex
 ghost use Rattle.semantics.specs.Term as term;
 ghost use Rattle.semantics.specs.Term.{term_of};
 ghost use Rattle.code_meaning.specs.Coding.{nullable_of, element_code, null_code, of_slot, load_code, constant_code, prefix_code, operator_code, is_signed, skip_code, logical_code, term_code, expr_code};
-ghost use Rattle.type_rules.specs.SortViews.{sort_value};
+ghost use Rattle.type_rules.specs.TypeViews.{type_value};
 
 use crate::emitting::{counted, emit, replace};
 use crate::names::{Names, Slot};
 use code::instr::{Instr, LocalArray, NullableVariable, Operator, TrappingOperator};
 use std::alloc::AllocError;
 use syntax::{BinaryOp, Constant, Expr, Name, PrefixOp};
-use type_rules::Sort;
+use type_rules::ExprType;
 
 /// An expression in a statement on this line. What no accepted program has becomes nothing.
 #[cycle(expressions)]
@@ -80,7 +80,7 @@ fn emit_element(
     match names.slot_of(name) {
         Some(
             Slot {
-                sort: Sort::Array(_, len),
+                ty: ExprType::Array(_, len),
                 index,
             },
         ) => emit(
@@ -89,7 +89,7 @@ fn emit_element(
         ),
         Some(
             Slot {
-                sort: Sort::Buffer(..),
+                ty: ExprType::Buffer(..),
                 index,
             },
         ) => emit(code, Instr::LoadBuffer { slot: index, line }),
@@ -228,14 +228,15 @@ fn emit_null_test(
 
 /// The variable of a slot, if it can be NULL.
 pub fn nullable(slot: Slot) -> Option<NullableVariable>
-    ensures { result ≡ nullable_of (sort_value slot.sort) slot.index }
+    ensures { result ≡ nullable_of (type_value slot.ty) slot.index }
 {
-    match slot.sort {
-        Sort::Ref => Some(NullableVariable::Local(slot.index)),
-        Sort::Global | Sort::Weak => Some(NullableVariable::Static(slot.index)),
-        Sort::FieldId | Sort::MethodId => Some(NullableVariable::FieldId(slot.index)),
-        Sort::Buffer(..) => Some(NullableVariable::Buffer(slot.index)),
-        Sort::Word | Sort::Jint | Sort::Flag | Sort::Truth | Sort::Array(..) => None,
+    match slot.ty {
+        ExprType::Ref => Some(NullableVariable::Local(slot.index)),
+        ExprType::Global | ExprType::Weak => Some(NullableVariable::Static(slot.index)),
+        ExprType::FieldId | ExprType::MethodId => Some(NullableVariable::FieldId(slot.index)),
+        ExprType::Buffer(..) => Some(NullableVariable::Buffer(slot.index)),
+        ExprType::Word | ExprType::Jint | ExprType::Flag | ExprType::Truth | ExprType::Array(..) =>
+            None,
     }
 }
 
@@ -246,7 +247,7 @@ fn is_signed(names: &Names<'_>, operand: &Expr) -> bool
     match operand {
         Expr::Number { unsigned, .. } => !*unsigned,
         Expr::Variable(name) => match names.slot_of(name) {
-            Some(slot) => matches!(slot.sort, Sort::Jint),
+            Some(slot) => matches!(slot.ty, ExprType::Jint),
             None => false,
         },
         Expr::Element(..) | Expr::Prefix(PrefixOp::ToInt, _) => true,

@@ -20,9 +20,9 @@ use Rattle.monitors.specs.declared.monitors.Exit.{Exit}
 use Rattle.monitors.specs.declared.monitors.Exit.TheVariants as exit
 use Rattle.monitors.specs.Monitors as table
 use Rattle.monitors.specs.Monitors.{entering, leaving}
-use Rattle.machine_scenes.specs.Fit.{MonitorsAgree}
-use Rattle.machine_scenes.proofs.FitLaws.{busy, limited, refuses}
-use Rattle.machine_scenes.proofs.Foretold.{may_enter, owns}
+use Rattle.machine_scenes.specs.MonitorsAgree.{MonitorsAgree}
+use Rattle.machine_scenes.proofs.MonitorLaws.{busy, limited, refuses}
+use Rattle.machine_scenes.proofs.ForetoldMonitors.{may_enter, owns}
 use Rattle.machine_answers.specs.declared.answer.Given.TheVariants as given
 use Rattle.machine_answers.specs.Answers.{IsAnswer}
 use Rattle.machine_scenes.specs.Given.{name_there}

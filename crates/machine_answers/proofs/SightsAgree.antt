@@ -28,7 +28,7 @@ use Rattle.machine_answers.proofs.SightPlaces.{number_is, text_is}
 use Rattle.tables.specs.Locals.{LocalTable, popped}
 use Rattle.heap.specs.Heap.{Space}
 use Rattle.monitors.specs.declared.monitors.Monitor.{Monitor}
-use Rattle.machine_scenes.specs.Fit.{MonitorAgrees}
+use Rattle.machine_scenes.specs.MonitorsAgree.{MonitorAgrees}
 use Rattle.classes.specs.FieldViews.{field_of}
 use Rattle.classes.specs.declared.class.FieldHandle.{FieldHandle}
 use Rattle.class_rules.specs.Fields.{FieldId}

@@ -21,7 +21,7 @@ use Rattle.semantics.specs.Object.{Object, ObjectValue}
 use Rattle.semantics.specs.Thread.{Shared}
 use Rattle.semantics.specs.World.{World, loaded_objects}
 use Rattle.code_meaning.specs.Lowered.{Lowered}
-use Rattle.machine_scenes.proofs.Places.{there_stays}
+use Rattle.machine_scenes.proofs.MonitorPlaces.{there_stays}
 use Rattle.machine_scenes.specs.declared.store.Store.{Store}
 use Rattle.machine_scenes.specs.Buffers.{Acquired}
 use Rattle.machine_scenes.specs.StoreAgrees.{StoreAgrees, Keeps}

@@ -17,7 +17,7 @@ use Rattle.semantics.specs.Thread.{Shared}
 use Rattle.semantics.specs.World.{World}
 use Rattle.code_meaning.specs.Lowered.{Lowered}
 use Rattle.tables.specs.Elements.{OwnedNumbers}
-use Rattle.machine_scenes.proofs.Places.{there_stays}
+use Rattle.machine_scenes.proofs.MonitorPlaces.{there_stays}
 use Rattle.machine_scenes.specs.declared.store.Store.{Store}
 use Rattle.machine_scenes.specs.Buffers.{Acquired, IsTaken, SameAcquired}
 use Rattle.machine_scenes.specs.HeapAgrees.{BlockAgrees, BlocksAgree, ValueAgrees, ValuesAgree}

@@ -19,8 +19,8 @@ use Rattle.semantics.specs.Thread.{Shared}
 use Rattle.semantics.specs.World.{World, loaded_objects}
 use Rattle.code_meaning.specs.Lowered.{Lowered}
 use Rattle.monitors.specs.declared.monitors.Monitor.{Monitor}
-use Rattle.machine_scenes.specs.Fit.{AreThere, MonitorsAgree}
-use Rattle.machine_scenes.proofs.Places.{there_stays}
+use Rattle.machine_scenes.specs.MonitorsAgree.{AreThere, MonitorsAgree}
+use Rattle.machine_scenes.proofs.MonitorPlaces.{there_stays}
 use Rattle.machine_scenes.specs.declared.store.Store.{Store}
 use Rattle.machine_scenes.specs.HeapAgrees.{SlotsAgree, ValueAgrees}
 use Rattle.machine_scenes.specs.Buffers.{Acquired}

@@ -20,10 +20,10 @@ use Rattle.monitors.specs.declared.monitors.Enter.TheVariants.{Entered}
 use Rattle.monitors.specs.declared.monitors.Exit.{Exit}
 use Rattle.monitors.specs.declared.monitors.Exit.TheVariants.{Left}
 use Rattle.monitors.specs.Monitors.{AreOf, ChangesAt, entered, entering, left, leaving, monitor_of, object_of}
-use Rattle.machine_scenes.specs.Fit.{AreThere, MonitorsAgree}
-use Rattle.machine_scenes.proofs.FitLaws as fit
-use Rattle.machine_scenes.proofs.Foretold.{enters_so, leaves_so}
-use Rattle.machine_scenes.proofs.Places.{there_entered, there_left}
+use Rattle.machine_scenes.specs.MonitorsAgree.{AreThere, MonitorsAgree}
+use Rattle.machine_scenes.proofs.MonitorLaws as fit
+use Rattle.machine_scenes.proofs.ForetoldMonitors.{enters_so, leaves_so}
+use Rattle.machine_scenes.proofs.MonitorPlaces.{there_entered, there_left}
 use Rattle.tables.specs.Locals.{LocalTable}
 use Rattle.machine_answers.specs.declared.answer.Answer.{Answer}
 use Rattle.machine_answers.specs.declared.answer.Answer.TheVariants as answer

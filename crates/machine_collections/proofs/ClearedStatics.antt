@@ -3,8 +3,8 @@ use Rattle.std.proofs.Common.{◌≡◌, ℕ, suc, Bool, true, false, List, [], 
 use Rattle.std.specs.Option.{option_map}
 use Rattle.std.specs.Str.{bytes_eq}
 use Rattle.base.specs.Bytes.{Identifier, lookup}
-use Rattle.type_rules.specs.Sorts as sort
-use Rattle.type_rules.specs.Sorts.{Sort}
+use Rattle.type_rules.specs.ExprTypes as ty
+use Rattle.type_rules.specs.ExprTypes.{ExprType}
 use Rattle.code.specs.Depth.{Listing}
 use Rattle.code_meaning.specs.Layout.{Slot, Known}
 use Rattle.code_meaning.specs.Slots.{Slots, Shows, ShowsSlot, ShowsStatic, is_empty, kind_of_variable, static_index, type_of_array, visible_to}
@@ -105,12 +105,12 @@ module _ (own : Owners) (names : List ℕ) (shared : Shared) (s : source.Thread)
         reference = ap (λ (o : Option Variable). held_reference o (lookup x after.statics)) none ∙ ap (held_reference None) there;
       }
 
-  slot_shown : (x : Identifier) (slots : Slots) (slot : Slot) (of : Sort) → ShowsSlot (visible_to own shared s) x slots slot of → ShowsSlot (visible_to own after s) x slots slot of
-  slot_shown x slots slot sort.Word h = record { value = h.value; is = h.is; kind = h.kind; sort = h.sort; word = h.word }
-  slot_shown x slots slot sort.Jint h = record { value = h.value; is = h.is; kind = h.kind; sort = h.sort; word = h.word }
-  slot_shown x slots slot sort.Flag h = record { value = h.value; is = h.is; kind = h.kind; sort = h.sort; word = h.word }
-  slot_shown x slots slot sort.Truth h = h
-  slot_shown x slots slot sort.Ref h = record {
+  slot_shown : (x : Identifier) (slots : Slots) (slot : Slot) (of : ExprType) → ShowsSlot (visible_to own shared s) x slots slot of → ShowsSlot (visible_to own after s) x slots slot of
+  slot_shown x slots slot ty.Word h = record { value = h.value; is = h.is; kind = h.kind; ty = h.ty; word = h.word }
+  slot_shown x slots slot ty.Jint h = record { value = h.value; is = h.is; kind = h.kind; ty = h.ty; word = h.word }
+  slot_shown x slots slot ty.Flag h = record { value = h.value; is = h.is; kind = h.kind; ty = h.ty; word = h.word }
+  slot_shown x slots slot ty.Truth h = h
+  slot_shown x slots slot ty.Ref h = record {
     reference = h.reference;
     is = hidden (lookup x s.variables) ReferenceKind (lookup x after.statics) (lookup x shared.statics) h.kind ∙ h.is;
     is_null = nulls x ∙ h.is_null;
@@ -119,12 +119,12 @@ module _ (own : Owners) (names : List ℕ) (shared : Shared) (s : source.Thread)
     there = h.there;
     owner = h.owner;
   }
-  slot_shown x slots slot sort.Global h = static_shown x slot.index h
-  slot_shown x slots slot sort.Weak h = static_shown x slot.index h
-  slot_shown x slots slot sort.FieldId h = record { field = h.field; is = h.is; is_null = nulls x ∙ h.is_null; no_number = h.no_number; kind = h.kind; there = h.there }
-  slot_shown x slots slot sort.MethodId h = record { method = h.method; is = h.is; is_null = nulls x ∙ h.is_null; no_number = h.no_number; kind = h.kind; there = h.there }
-  slot_shown x slots slot (sort.Buffer t writable) h = record { buffer = h.buffer; is = h.is; is_null = nulls x ∙ h.is_null; kind = h.kind; there = h.there }
-  slot_shown x slots slot (sort.Array t size) h = record {
+  slot_shown x slots slot ty.Global h = static_shown x slot.index h
+  slot_shown x slots slot ty.Weak h = static_shown x slot.index h
+  slot_shown x slots slot ty.FieldId h = record { field = h.field; is = h.is; is_null = nulls x ∙ h.is_null; no_number = h.no_number; kind = h.kind; there = h.there }
+  slot_shown x slots slot ty.MethodId h = record { method = h.method; is = h.is; is_null = nulls x ∙ h.is_null; no_number = h.no_number; kind = h.kind; there = h.there }
+  slot_shown x slots slot (ty.Buffer t writable) h = record { buffer = h.buffer; is = h.is; is_null = nulls x ∙ h.is_null; kind = h.kind; there = h.there }
+  slot_shown x slots slot (ty.Array t size) h = record {
     few = h.few;
     array_type = h.array_type;
     elements = λ i below. let e = h.elements i below in record { number = e.number; is = e.is; fits = e.fits; word = e.word };
@@ -133,4 +133,4 @@ module _ (own : Owners) (names : List ℕ) (shared : Shared) (s : source.Thread)
 
   -- the slots show each known name still
   pub shows_cleared : (code : Listing) (known : Known) (slots : Slots) → Shows code known (visible_to own shared s) slots → Shows code known (visible_to own after s) slots
-  shows_cleared code known slots h = record { numbers = h.numbers; references = h.references; owners = h.owners; fields = h.fields; buffers = h.buffers; each = λ x slot at. slot_shown x slots slot slot.sort (h.each x slot at) }
+  shows_cleared code known slots h = record { numbers = h.numbers; references = h.references; owners = h.owners; fields = h.fields; buffers = h.buffers; each = λ x slot at. slot_shown x slots slot slot.ty (h.each x slot at) }

@@ -18,8 +18,8 @@ use Rattle.tables.specs.Keys.{value_at}
 use Rattle.tables.specs.References.{address_at, references_in}
 use Rattle.monitors.specs.declared.monitors.Monitor.{Monitor}
 use Rattle.monitors.specs.Monitors.{addresses}
-use Rattle.machine_scenes.specs.Fit.{AreThere, MonitorsAgree}
-use Rattle.machine_scenes.proofs.Moves.{moved}
+use Rattle.machine_scenes.specs.MonitorsAgree.{AreThere, MonitorsAgree}
+use Rattle.machine_scenes.proofs.MovedMonitors.{moved}
 use Rattle.machine_scenes.specs.Buffers.{Acquired, IsTaken}
 use Rattle.machine_scenes.specs.declared.store.Store.{Store}
 use Rattle.machine_scenes.specs.HeapAgrees.{HeapAgrees, IsTable, SlotsAgree}

@@ -25,7 +25,7 @@ use Rattle.compact.proofs.Blocks.{Contains-from_get, get-from_contains}
 use Rattle.std.proofs.lemmas.List.{append-nil}
 use Rattle.std.proofs.lemmas.List.Concat.{flat_map-cons}
 use Rattle.std.proofs.lemmas.Grind.{flat_map-append}
-use Rattle.machine_scenes.specs.Fit.{AreThere, MonitorsAgree}
+use Rattle.machine_scenes.specs.MonitorsAgree.{AreThere, MonitorsAgree}
 use Rattle.monitors.specs.Monitors.{addresses}
 use Rattle.machine_collections.proofs.OwnedMonitors.{monitor_addresses, monitor_names, monitors_are, monitors_name, monitors_place}
 use Rattle.machine_collections.proofs.ReachableNames.{in_times, times_in}

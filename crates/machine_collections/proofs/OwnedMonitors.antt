@@ -10,7 +10,7 @@ use Rattle.monitors.specs.Monitors.{addresses, held, monitor_of}
 use Rattle.semantics.specs.Reachable.{is_in}
 use Rattle.semantics.specs.Thread as source
 use Rattle.semantics.proofs.ReachableLemmas.{In, in_cases, in_head, in_tail}
-use Rattle.machine_scenes.specs.Fit.{AreThere, MonitorAgrees, MonitorsAgree}
+use Rattle.machine_scenes.specs.MonitorsAgree.{AreThere, MonitorAgrees, MonitorsAgree}
 use Rattle.machine_collections.specs.Moving.{moved_monitors, moved_slots}
 
 -- where the objects of monitors lie

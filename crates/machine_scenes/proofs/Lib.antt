@@ -1,7 +1,7 @@
 pub mod BlocksOfNames
 pub mod FilledBlocks
-pub mod FitLaws
-pub mod Foretold
+pub mod MonitorLaws
+pub mod ForetoldMonitors
 pub mod GlobalLaws
 pub mod Handles
 pub mod HeapLaws
@@ -11,11 +11,11 @@ pub mod KeyLaws
 pub mod Loaded
 pub mod LocalFrames
 pub mod LookUps
-pub mod Moves
+pub mod MovedMonitors
 pub mod Noted
 pub mod ObjectExtents
 pub mod ObjectsAtAddresses
 pub mod OperandsThere
-pub mod Places
+pub mod MonitorPlaces
 pub mod Taken
 pub mod WeakLaws

@@ -22,8 +22,8 @@ use Rattle.semantics.specs.Variable.{StaticReference, Statics, Variable, Variabl
 use Rattle.semantics.specs.Variable as buffer
 use Rattle.semantics.specs.World.{World, loaded_objects}
 use Rattle.monitors.specs.declared.monitors.Monitor.{Monitor}
-use Rattle.machine_scenes.specs.Fit.{AreThere}
-use Rattle.machine_scenes.proofs.Places.{there_stays}
+use Rattle.machine_scenes.specs.MonitorsAgree.{AreThere}
+use Rattle.machine_scenes.proofs.MonitorPlaces.{there_stays}
 use Rattle.tables.specs.Elements.{OwnedNumbers}
 use Rattle.tables.specs.Locals.{LocalTable}
 use Rattle.machine_scenes.specs.declared.buffer.Buffer.{Buffer}

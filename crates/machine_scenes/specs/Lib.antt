@@ -3,7 +3,7 @@ pub mod Locals
 pub mod Statics
 pub mod Buffers
 pub mod Layouts
-pub mod Fit
+pub mod MonitorsAgree
 pub mod StoreAgrees
 pub mod FieldIds
 pub mod Scenes

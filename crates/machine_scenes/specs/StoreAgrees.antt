@@ -14,7 +14,7 @@ use Rattle.semantics.specs.Thread.{Shared}
 use Rattle.semantics.specs.Variable.{StaticReference, Empty, Live, Weakly, Cleared, Deleted, Statics, assign}
 use Rattle.code_meaning.specs.Lowered.{Lowered}
 use Rattle.machine_scenes.specs.declared.store.Store.{Store}
-use Rattle.machine_scenes.specs.Fit.{AreThere, MonitorsAgree}
+use Rattle.machine_scenes.specs.MonitorsAgree.{AreThere, MonitorsAgree}
 use Rattle.machine_scenes.specs.Buffers.{Acquired, IsTaken}
 use Rattle.machine_scenes.specs.HeapAgrees.{HeapAgrees, IsTable, SlotsAgree}
 use Rattle.machine_scenes.specs.Layouts.{with_objects}

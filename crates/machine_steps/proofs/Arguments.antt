@@ -8,7 +8,7 @@ use Rattle.std.proofs.lemmas.Option.{slice_get_within}
 use Rattle.base.specs.Bytes.{Identifier, lookup}
 use Rattle.base.specs.Element.{ElementType}
 use Rattle.code.specs.declared.instr.LocalArray.{LocalArray as ArraySlots}
-use Rattle.code_meaning.specs.Fits.{IsArray, IsStaticIn, IsStaticSort}
+use Rattle.code_meaning.specs.Fits.{IsArray, IsStaticIn, IsStaticType}
 use Rattle.code_meaning.specs.Layout.{Known}
 use Rattle.syntax.specs.Tree.{SourceUnit}
 use Rattle.syntax.specs.Views.{unit_tree}
@@ -21,8 +21,8 @@ use Rattle.semantics_safety.specs.Owners.{Owners}
 use Rattle.machine_steps.proofs.Changes.{array_of}
 use Rattle.class_rules.specs.Class.{Classes}
 use Rattle.class_rules.specs.Fields.{FieldId}
-use Rattle.type_rules.specs.Sorts.{Sort, Ref, Global, Weak}
-use Rattle.type_rules.specs.Sorts as sort
+use Rattle.type_rules.specs.ExprTypes.{ExprType, Ref, Global, Weak}
+use Rattle.type_rules.specs.ExprTypes as ty
 use Rattle.tables.specs.Elements.{OwnedNumbers}
 use Rattle.heap.specs.Heap.{Space}
 use Rattle.semantics.specs.Method.{MethodId}
@@ -122,12 +122,12 @@ argument_agrees space held_by.Deleted Deleted e = e
 
 -- the static of a known name is shown, weak or not
 pub static_shown : (code : Listing) (known : Known) (visible : Visible) (slots : Slots) → Shows code known visible slots → (x : Identifier) (i : ℕ) → IsStaticIn known x i → ShowsStatic visible x i
-static_shown code known visible slots shows x i (s, of_static, at) = by_sort s of_static at
+static_shown code known visible slots shows x i (s, of_static, at) = on_type s of_static at
   where
-    by_sort : (s : Sort) → IsStaticSort s → lookup x known ≡ Some (record { sort = s; index = i }) → ShowsStatic visible x i
-    by_sort Global of_static at = shows.each x (record { sort = Global; index = i }) at
-    by_sort Weak of_static at = shows.each x (record { sort = Weak; index = i }) at
-    by_sort s of_static at = absurd of_static
+    on_type : (s : ExprType) → IsStaticType s → lookup x known ≡ Some (record { ty = s; index = i }) → ShowsStatic visible x i
+    on_type Global of_static at = shows.each x (record { ty = Global; index = i }) at
+    on_type Weak of_static at = shows.each x (record { ty = Weak; index = i }) at
+    on_type s of_static at = absurd of_static
 
 -- a slot with a local reference to an object has an owner
 abbrev pub HasOwner : List Reference → (owners : List (Option ℕ)) → Operand → Type 0
@@ -144,7 +144,7 @@ module _ (p : Lowered) (classes : Classes) (space : Space) (copies : List (Optio
   one_given operand.Null a owned (inr (inr (inl h))) = inr (inr (inl (record { method = None; is = h; agrees = tt })))
   one_given operand.Null a owned (inr (inr (inr h))) = inr (inr (inr h))
   one_given (operand.Local i) a owned h =
-      let shown = r.shows.each h.0 (record { sort = Ref; index = i }) h.2 in
+      let shown = r.shows.each h.0 (record { ty = Ref; index = i }) h.2 in
       record {
         name = h.0;
         reference = shown.reference;
@@ -161,10 +161,10 @@ module _ (p : Lowered) (classes : Classes) (space : Space) (copies : List (Optio
       }
   one_given operand.Number a owned h = h
   one_given (operand.FieldId i) a owned h =
-      let shown = r.shows.each h.0 (record { sort = sort.FieldId; index = i }) h.2 in
+      let shown = r.shows.each h.0 (record { ty = ty.FieldId; index = i }) h.2 in
       record { field = shown.field; is = h.1 ∙ ap FieldActual shown.is; agrees = field_there (unit_tree p.unit) classes call.slots.fields.items r.meant.fields i shown.field r.holds.fields shown.there }
   one_given (operand.MethodId i) a owned h =
-      let shown = r.shows.each h.0 (record { sort = sort.MethodId; index = i }) h.2 in
+      let shown = r.shows.each h.0 (record { ty = ty.MethodId; index = i }) h.2 in
       record { method = shown.method; is = h.1 ∙ ap MethodActual shown.is; agrees = method_there (unit_tree p.unit) classes call.slots.fields.items r.meant.fields i shown.method r.holds.fields shown.there }
   one_given operand.Text a owned h = h
   one_given (operand.Array array) a owned h = (h.0, h.1)
@@ -192,7 +192,7 @@ module _ (code : Listing) (known : Known) (place : ℕ) (stack : List ℕ) (slot
   -- a local array has its elements in its slots
   pub array_held : (x : Identifier) (t : ElementType) (array : ArraySlots) → IsArray known x t array.len array.start → HasElements slots.numbers array (lookup x s.variables)
   array_held x t array at =
-      let shown = shows.each x (record { sort = sort.Array t array.len; index = array.start }) at in
+      let shown = shows.each x (record { ty = ty.Array t array.len; index = array.start }) at in
       let held = array_of (lookup x s.variables) t shown.array_type in
       let element : (i : ℕ) → (visible_to own shared s).sight.element x i ≡ in_range (slice_get held.0 i) = λ i. ap (λ (o : Option Variable). outcome_then (λ (zs : List ℤ). in_range (slice_get zs i)) (elements_of shared.heap o)) held.1 in
       let count : length held.0 ≡ array.len = as_many held.0 array.len (λ i below. ((shown.elements i below).number, sym (element i) ∙ (shown.elements i below).is)) (λ i above. sym (element i) ∙ shown.past i above) in

@@ -86,8 +86,8 @@ use Rattle.base.specs.Element.{ElementType, JInt, JShort, JByte, JChar}
 use Rattle.base.specs.declared.element.ElementType.{ElementType as ElementOfCode}
 use Rattle.code_meaning.specs.Coding.{element_of}
 use Rattle.code_meaning.specs.Slots.{held_buffer, kind_of_variable}
-use Rattle.type_rules.specs.Sorts as sort
-use Rattle.type_rules.specs.Sorts.{Buffer}
+use Rattle.type_rules.specs.ExprTypes as ty
+use Rattle.type_rules.specs.ExprTypes.{Buffer}
 use Rattle.std.proofs.lemmas.Option.{slice_get_within}
 use Rattle.code_meaning.specs.Slots.{word_of}
 use Rattle.semantics.specs.CallStep.{element_type, target_element}
@@ -184,7 +184,7 @@ module _ (p : Lowered) (classes : Classes) (space : Space) (copies : List (Optio
   -- an operand that is a buffer has what the slot holds
   one_buffer : (o : Operand) (a : Actual) → IsOperand code r.known call.place call.stack (slots_of call r.meant) (visible_to own shared s) o a → HasBuffer space (holding call.slots.buffers.items copies k) s.variables o a
   one_buffer (operand.Buffer i) a h =
-      let shown = r.shows.each h.0 (record { sort = Buffer h.2 h.3; index = i }) h.4 in
+      let shown = r.shows.each h.0 (record { ty = Buffer h.2 h.3; index = i }) h.4 in
       let variable = buffer_by_kind (lookup h.0 s.variables) h.2 shown.kind in
       let same : variable.0 ≡ shown.buffer = sym (ap held_buffer variable.1) ∙ shown.is in
       let slot = buffer_held space copies k call.slots.buffers.items r.meant.buffers i shown.buffer r.holds.buffers shown.there in
@@ -208,7 +208,7 @@ module _ (p : Lowered) (classes : Classes) (space : Space) (copies : List (Optio
 
   -- the slot of the flag for `isCopy` is there
   one_told : (o : Operand) (a : Actual) → IsOperand code r.known call.place call.stack (slots_of call r.meant) (visible_to own shared s) o a → HasTold (told_slot (Some o)) (length call.slots.numbers.items)
-  one_told (operand.IsCopy i) a h = let shown = r.shows.each h.0 (record { sort = sort.Flag; index = i }) h.2 in slice_get_within call.slots.numbers.items i (word_of shown.value) shown.word
+  one_told (operand.IsCopy i) a h = let shown = r.shows.each h.0 (record { ty = ty.Flag; index = i }) h.2 in slice_get_within call.slots.numbers.items i (word_of shown.value) shown.word
   one_told operand.Null a h = tt
   one_told (operand.Local i) a h = tt
   one_told (operand.Static i) a h = tt

@@ -33,8 +33,8 @@ use Rattle.code_meaning.specs.Does.{CallsFunction, TakesBuffer, TakesResult}
 use Rattle.code_meaning.specs.Layout.{Known}
 use Rattle.code_meaning.specs.Lowered.{Lowered}
 use Rattle.code_meaning.specs.Slots.{SeesBuffers, Shows, kind_of_variable, visible_to}
-use Rattle.code_meaning.specs.Stands.{IsBufferResult, IsStaticResult, StandsFor, number_sort}
-use Rattle.type_rules.specs.SortRules.{is_droppable}
+use Rattle.code_meaning.specs.Stands.{IsBufferResult, IsStaticResult, StandsFor, number_type}
+use Rattle.type_rules.specs.TypeRules.{is_droppable}
 use Rattle.code_meaning.proofs.BufferLaws.{sees_buffers}
 use Rattle.tables.specs.Locals.{LocalTable, AreStacked}
 use Rattle.world_values.specs.SoundWorlds.{IsSound}
@@ -144,7 +144,7 @@ module _ (p : Lowered) (w : World) (store : Store) (pending : Option ℕ) (call 
 
   -- where nothing is given nothing is a target
   no_target : (d : Destination) (kind : ResultKind) (target : Target) (x : Identifier) → kind ≡ GivesNothing → TakesResult h.code r.known call.place call.stack (slots_of call r.meant) (visible_to own shared s) called.line d kind target rest → is_target target x ≡ true → ⊥
-  no_target (destination.Number i) kind target x nothing goes is = let clash : None ≡ Some goes.0 = sym (ap number_sort nothing) ∙ goes.1 in cc
+  no_target (destination.Number i) kind target x nothing goes is = let clash : None ≡ Some goes.0 = sym (ap number_type nothing) ∙ goes.1 in cc
   no_target (destination.Local i) kind target x nothing goes is = let clash : GivesNothing ≡ NewLocal = sym nothing ∙ goes.0 in cc
   no_target (destination.FieldId i) kind target x nothing goes is = let clash : GivesNothing ≡ GivesField = sym nothing ∙ goes.0 in cc
   no_target (destination.MethodId i) kind target x nothing goes is = let clash : GivesNothing ≡ GivesMethod = sym nothing ∙ goes.0 in cc
@@ -245,7 +245,7 @@ module _ (p : Lowered) (w : World) (store : Store) (pending : Option ℕ) (call 
 
       -- and nothing goes nowhere
       nowhere : (d : Destination) (kind : ResultKind) → kind ≡ GivesNothing → Went d kind called.target → Goes called.line d kind called.target
-      nowhere (destination.Number i) kind nothing goes = absurd (let clash : None ≡ Some goes.0 = sym (ap number_sort nothing) ∙ goes.1 in cc)
+      nowhere (destination.Number i) kind nothing goes = absurd (let clash : None ≡ Some goes.0 = sym (ap number_type nothing) ∙ goes.1 in cc)
       nowhere (destination.Local i) kind nothing goes = absurd (let clash : GivesNothing ≡ NewLocal = sym nothing ∙ goes.0 in cc)
       nowhere (destination.FieldId i) kind nothing goes = absurd (let clash : GivesNothing ≡ GivesField = sym nothing ∙ goes.0 in cc)
       nowhere (destination.MethodId i) kind nothing goes = absurd (let clash : GivesNothing ≡ GivesMethod = sym nothing ∙ goes.0 in cc)
@@ -265,7 +265,7 @@ module _ (p : Lowered) (w : World) (store : Store) (pending : Option ℕ) (call 
       }
 
       buffer_goes : ((x : Identifier) → kind_of_variable (lookup x vs) ≡ kind_of_variable (lookup x s.variables)) → (d : Destination) (kind : ResultKind) (target : Target) → IsBufferResult kind → Went d kind target → Goes called.line d kind target
-      buffer_goes kinds (destination.Number i) kind target b goes = absurd (let clash : None ≡ Some goes.0 = sym (ap number_sort b.1) ∙ goes.1 in cc)
+      buffer_goes kinds (destination.Number i) kind target b goes = absurd (let clash : None ≡ Some goes.0 = sym (ap number_type b.1) ∙ goes.1 in cc)
       buffer_goes kinds (destination.Local i) kind target b goes = absurd (let clash : GivesBuffer b.0 ≡ NewLocal = sym b.1 ∙ goes.0 in cc)
       buffer_goes kinds (destination.FieldId i) kind target b goes = absurd (let clash : GivesBuffer b.0 ≡ GivesField = sym b.1 ∙ goes.0 in cc)
       buffer_goes kinds (destination.MethodId i) kind target b goes = absurd (let clash : GivesBuffer b.0 ≡ GivesMethod = sym b.1 ∙ goes.0 in cc)

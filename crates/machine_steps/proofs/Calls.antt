@@ -93,11 +93,11 @@ plain_instr (instr.ReturnReference operand) s m x h = absurd (cc)
 plain_instr i s m x h = tt
 
 -- a plain instruction works on the stack
-pub plain_works : (visible : Visible) (slots : Slots) (i : Instr) (stack : List ℕ) (way : Plain) (after : List ℕ) → IsPlain i → Works visible slots i stack way after → plain_of i stack slots.numbers ≡ Some (way, after, slots.numbers)
-plain_works visible slots (instr.TestNull variable equal) stack way after p h = absurd p
-plain_works visible slots (instr.LoadBuffer slot line) stack way after p h = absurd p
-plain_works visible slots (instr.StoreBuffer type slot line) stack way after p h = absurd p
-plain_works visible slots i stack way after p h = h
+pub plain_works : (visible : Visible) (slots : Slots) (i : Instr) (stack : List ℕ) (path : Plain) (after : List ℕ) → IsPlain i → Works visible slots i stack path after → plain_of i stack slots.numbers ≡ Some (path, after, slots.numbers)
+plain_works visible slots (instr.TestNull variable equal) stack path after p h = absurd p
+plain_works visible slots (instr.LoadBuffer slot line) stack path after p h = absurd p
+plain_works visible slots (instr.StoreBuffer type slot line) stack path after p h = absurd p
+plain_works visible slots i stack path after p h = h
 
 -- what works on the stack is plain, or looks at what slots hold
 abbrev pub LooksAtSlots : Instr → Type 0
@@ -241,8 +241,8 @@ module _ (p : Lowered) (classes : Classes) (space : Space) (copies : List (Optio
     plain_there works = runs.plain call.stack call.slots.numbers.items works r.depth r.shows.numbers
 
     -- where a plain one leads
-    pub leads : (way : Plain) (stack numbers : List ℕ) → plain_of i call.stack call.slots.numbers.items ≡ Some (way, stack, numbers) → LeadsInside code.instrs call.place way (length stack)
-    leads way stack numbers is = runs.leads call.stack call.slots.numbers.items stack numbers way r.depth is
+    pub leads : (path : Plain) (stack numbers : List ℕ) → plain_of i call.stack call.slots.numbers.items ≡ Some (path, stack, numbers) → LeadsInside code.instrs call.place path (length stack)
+    leads path stack numbers is = runs.leads call.stack call.slots.numbers.items stack numbers path r.depth is
 
     -- the depth after one that isn't plain
     pub depth_behind : (after : ℕ) → (Leaves i → ⊥) → depth_after i (length call.stack) ≡ Some after → depth_at code.instrs (call.place + 1) ≡ Some after

@@ -37,8 +37,8 @@ use Rattle.code.specs.declared.instr.LocalArray.{LocalArray}
 use Rattle.code.specs.declared.instr.Operand.{Operand}
 use Rattle.code.specs.declared.instr.Operand.TheVariants as operand
 use Rattle.jni.specs.declared.mode.ReleaseMode.{ReleaseMode as ModeOfCode}
-use Rattle.type_rules.specs.Sorts as sort
-use Rattle.type_rules.specs.Sorts.{Buffer}
+use Rattle.type_rules.specs.ExprTypes as ty
+use Rattle.type_rules.specs.ExprTypes.{Buffer}
 use Rattle.code_meaning.specs.Coding.{mode_code}
 use Rattle.code_meaning.specs.Does.{ActualFits, IsOperand, OperandFits}
 use Rattle.code_meaning.specs.Fits.{HaveOwnSlots}
@@ -95,7 +95,7 @@ module _ (code : Listing) (known : Known) (place : ℕ) (stack : List ℕ) (slot
     variable : Identifier
     told : told_slot (Some o) ≡ Some slot
     address : address_in_actual (Some a) ≡ Some variable
-    there : lookup variable known ≡ Some (record { sort = sort.Flag; index = slot })
+    there : lookup variable known ≡ Some (record { ty = ty.Flag; index = slot })
 
   abbrev IsNoFlag : Operand → Actual → Type 0
   IsNoFlag o a = (told_slot (Some o) ≡ None) × (address_in_actual (Some a) ≡ None)
@@ -123,7 +123,7 @@ module _ (code : Listing) (known : Known) (place : ℕ) (stack : List ℕ) (slot
     variable : Identifier
     told : told_slot (slice_get operands 1) ≡ Some slot
     address : address_given args 1 ≡ Some variable
-    there : lookup variable known ≡ Some (record { sort = sort.Flag; index = slot })
+    there : lookup variable known ≡ Some (record { ty = ty.Flag; index = slot })
 
   abbrev TellsNothing : List Operand → List Actual → Type 0
   TellsNothing operands args = (told_slot (slice_get operands 1) ≡ None) × (address_given args 1 ≡ None)
@@ -139,7 +139,7 @@ module _ (code : Listing) (known : Known) (place : ℕ) (stack : List ℕ) (slot
 
   -- a buffer that is an operand has its slot
   buffer_known : (operands : List Operand) (args : List Actual) → AllZip (IsOperand code known place stack slots visible) operands args → (i : ℕ) → operand_of operands 1 ≡ operand.Buffer i
-      → (t : ElementType) × (writable : Bool) × (lookup (variable_given args 1) known ≡ Some (record { sort = Buffer t writable; index = i }))
+      → (t : ElementType) × (writable : Bool) × (lookup (variable_given args 1) known ≡ Some (record { ty = Buffer t writable; index = i }))
   buffer_known [] args h i at = absurd (cc)
   buffer_known (o ∷ []) args h i at = absurd (cc)
   buffer_known (o ∷ q ∷ operands) [] h i at = absurd h
@@ -220,10 +220,10 @@ module _ (unit : SourceUnit) (classes : Classes) (store : Store) (k : ℕ) (kind
 
 -- a flag is told
 module _ (code : Listing) (known : Known) (own : Owners) (shared : Shared) (s : source.Thread) (slots : Slots) (shows : Shows code known (visible_to own shared s) slots) (owned : HaveOwnSlots known) where
-  flag_shown : (x : Identifier) (i : ℕ) (b : Bool) → lookup x known ≡ Some (record { sort = sort.Flag; index = i })
+  flag_shown : (x : Identifier) (i : ℕ) (b : Bool) → lookup x known ≡ Some (record { ty = ty.Flag; index = i })
       → Shows code known (visible_to own shared (record s { variables = assign x (Scalar (Flag b)) s.variables })) (record slots { numbers = slice_set slots.numbers i (truth_word b) })
   flag_shown x i b at =
-      let slot : Slot = record { sort = sort.Flag; index = i } in
+      let slot : Slot = record { ty = ty.Flag; index = i } in
       let shown = shows.each x slot at in
       let new : source.Thread = record s { variables = assign x (Scalar (Flag b)) s.variables } in
       fewer_shown code known ((x, slot) ∷ known) (visible_to own shared new) (record slots { numbers = slice_set slots.numbers i (truth_word b) }) (known_among x slot known at)
@@ -232,10 +232,10 @@ module _ (code : Listing) (known : Known) (own : Owners) (shared : Shared) (s : 
       (is_set own own shared s new x (λ y other. refl) (Flag b) refl))
 
   -- a buffer is given up
-  freed_shown : (x : Identifier) (t : ElementType) (writable : Bool) (i : ℕ) → lookup x known ≡ Some (record { sort = Buffer t writable; index = i })
+  freed_shown : (x : Identifier) (t : ElementType) (writable : Bool) (i : ℕ) → lookup x known ≡ Some (record { ty = Buffer t writable; index = i })
       → Shows code known (visible_to own shared (record s { variables = change x freed s.variables })) (record slots { buffers = slice_set slots.buffers i NoBuffer })
   freed_shown x t writable i at =
-      let slot : Slot = record { sort = Buffer t writable; index = i } in
+      let slot : Slot = record { ty = Buffer t writable; index = i } in
       let shown = shows.each x slot at in
       let variable = buffer_by_kind (lookup x s.variables) t shown.kind in
       let new : source.Thread = record s { variables = change x freed s.variables } in
@@ -401,7 +401,7 @@ module _ (p : Lowered) (w : World) (store : Store) (pending : Option ℕ) (call 
     record Frees (release : Release) : Type 0 where
       type : ElementType
       writable : Bool
-      there : lookup (variable_given called.args 1) r.known ≡ Some (record { sort = Buffer type writable; index = release.slot })
+      there : lookup (variable_given called.args 1) r.known ≡ Some (record { ty = Buffer type writable; index = release.slot })
       mode : ReleaseMode
       coded : release.mode ≡ mode_code mode
       object : ℕ
@@ -423,7 +423,7 @@ module _ (p : Lowered) (w : World) (store : Store) (pending : Option ℕ) (call 
         record {
           type = named.0;
           writable = named.1;
-          there = subst (λ (i : ℕ). lookup (variable_given called.args 1) r.known ≡ Some (record { sort = Buffer named.0 named.1; index = i })) (sym slot) named.2;
+          there = subst (λ (i : ℕ). lookup (variable_given called.args 1) r.known ≡ Some (record { ty = Buffer named.0 named.1; index = i })) (sym slot) named.2;
           mode = mode;
           coded = it.2 ∙ coded;
           object = object_given called.args 0;
@@ -519,7 +519,7 @@ module _ (p : Lowered) (w : World) (store : Store) (pending : Option ℕ) (call 
     freed_viewed : (release : Release) (f : Frees release) (vs : Variables) → vs ≡ change (variable_given called.args 1) freed s.variables → Viewed vs (slice_set call.slots.buffers.items release.slot held.Null)
     freed_viewed release f vs is =
         let x = variable_given called.args 1 in
-        let shown = r.shows.each x (record { sort = Buffer f.type f.writable; index = release.slot }) f.there in
+        let shown = r.shows.each x (record { ty = Buffer f.type f.writable; index = release.slot }) f.there in
         let variable = buffer_by_kind (lookup x s.variables) f.type shown.kind in
         let same : variable.0 ≡ shown.buffer = sym (ap held_buffer variable.1) ∙ shown.is in
         views_freed store.heap store.elements owner call.slots.buffers.items r.meant.buffers release.slot x f.type shown.buffer s (record s { variables = vs }) r.holds.buffers.agree shown.there

@@ -16,7 +16,7 @@ use Rattle.code.specs.Depth.{Listing}
 use Rattle.code.specs.declared.instr.LocalArray.{LocalArray as ArraySlots}
 use Rattle.code.specs.declared.instr.Operand.{Operand}
 use Rattle.code.specs.declared.instr.Operand.TheVariants as operand
-use Rattle.type_rules.specs.Sorts.{Array}
+use Rattle.type_rules.specs.ExprTypes.{Array}
 use Rattle.code_meaning.specs.Does.{IsOperand}
 use Rattle.code_meaning.specs.Fits.{HaveOwnSlots, IsArray}
 use Rattle.code_meaning.specs.Layout.{Known}
@@ -105,7 +105,7 @@ module _ (code : Listing) (known : Known) (own : Owners) (shared : Shared) (s : 
 
   pub shows_copied : HaveOwnSlots known → Shows code known (visible_to own shared begun) (record slots { numbers = overlaid slots.numbers array.start words })
   shows_copied owned =
-      let shown = shows.each x (record { sort = Array t array.len; index = array.start }) at in
+      let shown = shows.each x (record { ty = Array t array.len; index = array.start }) at in
       let held = array_held code known 0 [] slots own shared s shows x t array at in
       let new : Variable = LocalArray held.type (overwritten held.elements 0 zs) in
       let set : begun.variables ≡ assign x new s.variables = change_is x (begun_with zs) (LocalArray held.type held.elements) s.variables held.is in
@@ -114,8 +114,8 @@ module _ (code : Listing) (known : Known) (own : Owners) (shared : Shared) (s : 
       let after : overwritten held.elements 0 zs ≡ overlaid held.elements 0 zs = sym (overlaid_is held.elements 0 zs (0 + length zs) refl (omega (arith, short))) in
       let element : (i : ℕ) → (visible_to own shared begun).sight.element x i ≡ in_range (slice_get (overlaid held.elements 0 zs) i) =
       λ i. element_of own own shared s begun x (λ y other. refl) new set i ∙ ap (λ (l : List ℤ). in_range (slice_get l i)) after in
-      fewer_shown code known ((x, record { sort = Array t array.len; index = array.start }) ∷ known) (visible_to own shared begun) (record slots { numbers = overlaid slots.numbers array.start words }) (known_among x (record { sort = Array t array.len; index = array.start }) known at)
-      (with_changed code known (visible_to own shared s) (visible_to own shared begun) slots (record slots { numbers = overlaid slots.numbers array.start words }) x (record { sort = Array t array.len; index = array.start }) shows (owned x (record { sort = Array t array.len; index = array.start }) at)
+      fewer_shown code known ((x, record { ty = Array t array.len; index = array.start }) ∷ known) (visible_to own shared begun) (record slots { numbers = overlaid slots.numbers array.start words }) (known_among x (record { ty = Array t array.len; index = array.start }) known at)
+      (with_changed code known (visible_to own shared s) (visible_to own shared begun) slots (record slots { numbers = overlaid slots.numbers array.start words }) x (record { ty = Array t array.len; index = array.start }) shows (owned x (record { ty = Array t array.len; index = array.start }) at)
       (others own own shared s begun x (λ y other. refl) new set) (λ y other. statics_stay shared.statics shared.statics refl y)
       (length_overlaid slots.numbers array.start words) refl refl refl
       (λ k outside. get_outside slots.numbers array.start words k (λ j small e. outside (omega (arith, e), omega (arith, e, small, few))))

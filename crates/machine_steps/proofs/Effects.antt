@@ -57,7 +57,7 @@ use Rattle.machine_threads.specs.InProgress.{CallStands, WorkAgrees}
 use Rattle.semantics.specs.EventViews.{event_view, trap_view}
 use Rattle.machine_answers.specs.Asked.{references_of}
 use Rattle.machine_scenes.specs.Statics.{StaticReference}
-use Rattle.machine_steps.specs.Moved.{HasMoved, end_of_way, WayIsSeen}
+use Rattle.machine_steps.specs.Moved.{HasMoved, end_of_path, PathIsSeen}
 use Rattle.machine_threads.specs.SlotsHold.{slots_of, values_in}
 use Rattle.machine_steps.specs.Variables.{is_null, HasSlot, nulled_buffers, nulled_slots, nulled_statics}
 use Rattle.machine_steps.proofs.Acquisitions.{assigned_nothing, assigned_same, copied_there, store_same, taken_by, viewed_there}
@@ -80,9 +80,9 @@ use Rattle.machine_calls.proofs.HeldStatics.{place_below}
 abbrev pub Answer : Type 0
 Answer = Option (Plain × List ℕ × List ℕ)
 
-way_of : Answer → Plain
-way_of None = plain.Next
-way_of (Some x) = x.0
+path_of : Answer → Plain
+path_of None = plain.Next
+path_of (Some x) = x.0
 
 stack_of : Answer → List ℕ
 stack_of None = []
@@ -92,9 +92,9 @@ numbers_of : Answer → List ℕ
 numbers_of None = []
 numbers_of (Some x) = x.2
 
-same_way : (o u : Plain) (a b m n : List ℕ) → ◌≡◌ {A = Answer} (Some (o, a, m)) (Some (u, b, n)) → o ≡ u
-unfolding way_of
-same_way o u a b m n h = ap way_of h
+same_path : (o u : Plain) (a b m n : List ℕ) → ◌≡◌ {A = Answer} (Some (o, a, m)) (Some (u, b, n)) → o ≡ u
+unfolding path_of
+same_path o u a b m n h = ap path_of h
 
 same_stack : (o u : Plain) (a b m n : List ℕ) → ◌≡◌ {A = Answer} (Some (o, a, m)) (Some (u, b, n)) → a ≡ b
 unfolding stack_of
@@ -104,20 +104,20 @@ same_numbers : (o u : Plain) (a b m n : List ℕ) → ◌≡◌ {A = Answer} (So
 unfolding numbers_of
 same_numbers o u a b m n h = ap numbers_of h
 
--- the depth at the end of a way
-depth_at_end : (code : Listing) (place : ℕ) (way : Plain) (depth : ℕ) (P : ℕ → Type 0) → LeadsInside code.instrs place way depth → AtEnd P place way → depth_at code.instrs (end_of_way place way) ≡ Some depth
+-- the depth at the end of a path
+depth_at_end : (code : Listing) (place : ℕ) (path : Plain) (depth : ℕ) (P : ℕ → Type 0) → LeadsInside code.instrs place path depth → AtEnd P place path → depth_at code.instrs (end_of_path place path) ≡ Some depth
 depth_at_end code place plain.Next depth P h end = h.words
 depth_at_end code place (plain.Skip n) depth P h end = h.words
 depth_at_end code place (plain.Back n) depth P h end = h.1.words
 depth_at_end code place (plain.Trap trap line) depth P h end = absurd end
 
-at_end : (place : ℕ) (way : Plain) (P : ℕ → Type 0) → AtEnd P place way → P (end_of_way place way)
+at_end : (place : ℕ) (path : Plain) (P : ℕ → Type 0) → AtEnd P place path → P (end_of_path place path)
 at_end place plain.Next P end = end
 at_end place (plain.Skip n) P end = end
 at_end place (plain.Back n) P end = end.1
 at_end place (plain.Trap trap line) P end = absurd end
 
-quiet_at_end : (place : ℕ) (way : Plain) (P : ℕ → Type 0) (e : Event) → AtEnd P place way → WayIsSeen way e → e ≡ event.Quiet
+quiet_at_end : (place : ℕ) (path : Plain) (P : ℕ → Type 0) (e : Event) → AtEnd P place path → PathIsSeen path e → e ≡ event.Quiet
 quiet_at_end place plain.Next P e end seen = seen
 quiet_at_end place (plain.Skip n) P e end seen = seen
 quiet_at_end place (plain.Back n) P e end seen = seen
@@ -169,7 +169,7 @@ module _ (p : Lowered) (classes : Classes) (space : Space) (copies : List (Optio
       → P (effect_of visible.sight task)
   other_cases P not_plain becomes nulls stores prints calls returns traps =
       does_cases code r.known call.place call.stack slots visible rest (λ e. e ≢ NoEffect → P e)
-      (λ tasks h some. becomes (looks i not_plain h.way h.after (works_here h.here h.way h.after h.at h.works)) tasks h)
+      (λ tasks h some. becomes (looks i not_plain h.path h.after (works_here h.here h.path h.after h.at h.works)) tasks h)
       (λ x v h some. absurd (writes (IsSet visible x v) h))
       (λ target h some. nulls target h (cc (at, h.at)))
       (λ x j z t a h some. absurd (writes (IsElementSet visible t x j z) h))
@@ -187,14 +187,14 @@ module _ (p : Lowered) (classes : Classes) (space : Space) (copies : List (Optio
           let same : h.here ≡ i = cc (at, h.at) in
           not_plain (plain_instr i call.stack slots.numbers _ (subst (λ (j : Instr). plain_of j call.stack slots.numbers ≡ Some (plain.Next, [], h.numbers)) same h.plain))
 
-      works_here : (j : Instr) (way : Plain) (after : List ℕ) → slice_get code.instrs call.place ≡ Some j → Works visible slots j call.stack way after → Works visible slots i call.stack way after
-      works_here j way after there works = let same : j ≡ i = cc (at, there) in subst (λ (g : Instr). Works visible slots g call.stack way after) same works
+      works_here : (j : Instr) (path : Plain) (after : List ℕ) → slice_get code.instrs call.place ≡ Some j → Works visible slots j call.stack path after → Works visible slots i call.stack path after
+      works_here j path after there works = let same : j ≡ i = cc (at, there) in subst (λ (g : Instr). Works visible slots g call.stack path after) same works
 
-      looks : (j : Instr) → (IsPlain j → ⊥) → (way : Plain) (after : List ℕ) → Works visible slots j call.stack way after → LooksAtSlots j
-      looks (instr.TestNull variable equal) n way after w = tt
-      looks (instr.LoadBuffer slot line) n way after w = tt
-      looks (instr.StoreBuffer type slot line) n way after w = tt
-      looks j n way after w = absurd (n (plain_instr j call.stack slots.numbers (way, after, slots.numbers) w))
+      looks : (j : Instr) → (IsPlain j → ⊥) → (path : Plain) (after : List ℕ) → Works visible slots j call.stack path after → LooksAtSlots j
+      looks (instr.TestNull variable equal) n path after w = tt
+      looks (instr.LoadBuffer slot line) n path after w = tt
+      looks (instr.StoreBuffer type slot line) n path after w = tt
+      looks j n path after w = absurd (n (plain_instr j call.stack slots.numbers (path, after, slots.numbers) w))
 
   -- the variable that is made NULL has its slot
   pub slot_there : (variable : NullableVariable) (statics : ℕ) → i ≡ instr.StoreNull variable → length visible.statics ≡ statics → HasSlot (length call.slots.references.items) (length call.slots.fields.items) (length call.slots.buffers.items) statics variable
@@ -260,24 +260,24 @@ module _ (p : Lowered) (w : World) (store : Store) (others : Acquired) (k owner 
   allowed_here = (sets_what_is_there seen.sight task, λ x h. steady.free x (subst (SetsWhole x) (sym (ap (next_effect shared s) tasks_are)) h), possible_here)
 
   -- an instruction on the stack and the number slots alone
-  module _ (after : Activation) (e : Event) (way : Plain) (stack numbers : List ℕ) (is : plain_of i call.stack call.slots.numbers.items ≡ Some (way, stack, numbers))
-      (m : HasMoved call after (end_of_way call.place way) stack (record (values_in call) { numbers = numbers })) (way_seen : WayIsSeen way e) where
+  module _ (after : Activation) (e : Event) (path : Plain) (stack numbers : List ℕ) (is : plain_of i call.stack call.slots.numbers.items ≡ Some (path, stack, numbers))
+      (m : HasMoved call after (end_of_path call.place path) stack (record (values_in call) { numbers = numbers })) (path_seen : PathIsSeen path e) where
     becomes : IsPlain i → (tasks : List Task) → GoesOn code r.known call.place call.stack held seen (tasks ++ rest) → agrees.GoesOn p w store store others k owner own shared s rest after pending (Becomes tasks) false e
     becomes works tasks h =
         let same : h.here ≡ i = cc (h.at, at) in
-        let plain_is : plain_of i call.stack call.slots.numbers.items ≡ Some (h.way, h.after, call.slots.numbers.items) = plain_works seen held i call.stack h.way h.after works (subst (λ (j : Instr). Works seen held j call.stack h.way h.after) same h.works) in
-        let way_is : h.way ≡ way = same_way _ _ _ _ _ _ (sym plain_is ∙ is) in
+        let plain_is : plain_of i call.stack call.slots.numbers.items ≡ Some (h.path, h.after, call.slots.numbers.items) = plain_works seen held i call.stack h.path h.after works (subst (λ (j : Instr). Works seen held j call.stack h.path h.after) same h.works) in
+        let path_is : h.path ≡ path = same_path _ _ _ _ _ _ (sym plain_is ∙ is) in
         let after_is : h.after ≡ stack = same_stack _ _ _ _ _ _ (sym plain_is ∙ is) in
         let numbers_are : call.slots.numbers.items ≡ numbers = same_numbers _ _ _ _ _ _ (sym plain_is ∙ is) in
-        let end : AtEnd (λ q. StandsFor code h.names q stack (tasks ++ rest)) call.place way =
-        subst (λ (u : Plain). AtEnd (λ q. StandsFor code h.names q stack (tasks ++ rest)) call.place u) way_is (subst (λ (st : List ℕ). AtEnd (λ q. StandsFor code h.names q st (tasks ++ rest)) call.place h.way) after_is h.stands) in
+        let end : AtEnd (λ q. StandsFor code h.names q stack (tasks ++ rest)) call.place path =
+        subst (λ (u : Plain). AtEnd (λ q. StandsFor code h.names q stack (tasks ++ rest)) call.place u) path_is (subst (λ (st : List ℕ). AtEnd (λ q. StandsFor code h.names q st (tasks ++ rest)) call.place h.path) after_is h.stands) in
         let next : source.Thread = with_tasks s (tasks ++ rest) in
         record {
           next = next;
-          steps = ap (λ (v : Event). source.Advances shared next (event_view v)) (sym (quiet_at_end call.place way (λ q. StandsFor code h.names q stack (tasks ++ rest)) e end way_seen));
-          work = stands_at p classes space store.elements owner call code seen s.frames task rest r after (end_of_way call.place way) stack (record (values_in call) { numbers = numbers }) r.meant h.names (visible_to own shared next) (tasks ++ rest)
-              (depth_at_end code call.place way (length stack) (λ q. StandsFor code h.names q stack (tasks ++ rest)) (leads p classes space store.elements owner call code seen s.frames task rest r i at way stack numbers is) end) m (holds_with p classes space store.elements owner call code seen s.frames task rest r numbers)
-              (at_end call.place way (λ q. StandsFor code h.names q stack (tasks ++ rest)) end)
+          steps = ap (λ (v : Event). source.Advances shared next (event_view v)) (sym (quiet_at_end call.place path (λ q. StandsFor code h.names q stack (tasks ++ rest)) e end path_seen));
+          work = stands_at p classes space store.elements owner call code seen s.frames task rest r after (end_of_path call.place path) stack (record (values_in call) { numbers = numbers }) r.meant h.names (visible_to own shared next) (tasks ++ rest)
+              (depth_at_end code call.place path (length stack) (λ q. StandsFor code h.names q stack (tasks ++ rest)) (leads p classes space store.elements owner call code seen s.frames task rest r i at path stack numbers is) end) m (holds_with p classes space store.elements owner call code seen s.frames task rest r numbers)
+              (at_end call.place path (λ q. StandsFor code h.names q stack (tasks ++ rest)) end)
               (subst (λ (ns : List ℕ). Shows code h.names (visible_to own shared next) (record { numbers = ns; references = r.meant.references; owners = r.meant.owners; fields = r.meant.fields; buffers = r.meant.buffers })) numbers_are h.shows);
           next_shared = shared;
           store_agrees = shares;
@@ -296,18 +296,18 @@ module _ (p : Lowered) (w : World) (store : Store) (others : Acquired) (k owner 
     writes did changed h vs steps shown taken left =
         let same : h.here ≡ i = cc (h.at, at) in
         let plain_is : plain_of i call.stack call.slots.numbers.items ≡ Some (plain.Next, [], h.numbers) = subst (λ (j : Instr). plain_of j call.stack call.slots.numbers.items ≡ Some (plain.Next, [], h.numbers)) same h.plain in
-        let way_is : way ≡ plain.Next = same_way _ _ _ _ _ _ (sym is ∙ plain_is) in
+        let path_is : path ≡ plain.Next = same_path _ _ _ _ _ _ (sym is ∙ plain_is) in
         let after_is : [] ≡ stack = same_stack _ _ _ _ _ _ (sym plain_is ∙ is) in
         let numbers_are : h.numbers ≡ numbers = same_numbers _ _ _ _ _ _ (sym plain_is ∙ is) in
-        let quiet : e ≡ event.Quiet = subst (λ (w : Plain). WayIsSeen w e) way_is way_seen in
+        let quiet : e ≡ event.Quiet = subst (λ (w : Plain). PathIsSeen w e) path_is path_seen in
         let next : source.Thread = record s { tasks = Some rest; variables = vs } in
-        let end : LeadsInside code.instrs call.place plain.Next (length stack) = subst (λ (w : Plain). LeadsInside code.instrs call.place w (length stack)) way_is (leads p classes space store.elements owner call code seen s.frames task rest r i at way stack numbers is) in
+        let end : LeadsInside code.instrs call.place plain.Next (length stack) = subst (λ (w : Plain). LeadsInside code.instrs call.place w (length stack)) path_is (leads p classes space store.elements owner call code seen s.frames task rest r i at path stack numbers is) in
         record {
           next = next;
           steps = steps ∙ ap (λ (v : Event). source.Advances shared next (event_view v)) (sym quiet);
           work = subst (λ (o : Owners). CallStands p classes space store.elements owner after (visible_to o shared next) s.frames rest) (sym left)
               (stands_at p classes space store.elements owner call code seen s.frames task rest r after (call.place + 1) stack (record (values_in call) { numbers = numbers }) r.meant h.names (visible_to own shared next) rest end.words
-              (subst (λ (w : Plain). HasMoved call after (end_of_way call.place w) stack (record (values_in call) { numbers = numbers })) way_is m) (holds_with p classes space store.elements owner call code seen s.frames task rest r numbers)
+              (subst (λ (w : Plain). HasMoved call after (end_of_path call.place w) stack (record (values_in call) { numbers = numbers })) path_is m) (holds_with p classes space store.elements owner call code seen s.frames task rest r numbers)
               (subst (λ (st : List ℕ). StandsFor code h.names (call.place + 1) st rest) after_is h.stands)
               (subst (λ (ns : List ℕ). Shows code h.names (visible_to own shared next) (record { numbers = ns; references = r.meant.references; owners = r.meant.owners; fields = r.meant.fields; buffers = r.meant.buffers })) numbers_are (h.shows (visible_to own shared next) shown)));
           next_shared = shared;
@@ -327,14 +327,14 @@ module _ (p : Lowered) (w : World) (store : Store) (others : Acquired) (k owner 
     traps works reason line h =
         let same : h.here ≡ i = cc (h.at, at) in
         let plain_is : plain_of i call.stack call.slots.numbers.items ≡ Some (plain.Trap h.trap line, call.stack, call.slots.numbers.items) = plain_works seen held i call.stack (plain.Trap h.trap line) call.stack works (subst (λ (j : Instr). Works seen held j call.stack (plain.Trap h.trap line) call.stack) same h.works) in
-        let way_is : way ≡ plain.Trap h.trap line = same_way _ _ _ _ _ _ (sym is ∙ plain_is) in
+        let path_is : path ≡ plain.Trap h.trap line = same_path _ _ _ _ _ _ (sym is ∙ plain_is) in
         let after_is : call.stack ≡ stack = same_stack _ _ _ _ _ _ (sym plain_is ∙ is) in
         let numbers_are : call.slots.numbers.items ≡ numbers = same_numbers _ _ _ _ _ _ (sym plain_is ∙ is) in
-        let seen_trap : WayIsSeen (plain.Trap h.trap line) e = subst (λ (w : Plain). WayIsSeen w e) way_is way_seen in
+        let seen_trap : PathIsSeen (plain.Trap h.trap line) e = subst (λ (w : Plain). PathIsSeen w e) path_is path_seen in
         let trap_is : reason ≡ trap_view seen_trap.0 = sym h.is ∙ sym seen_trap.1 in
         let stands : CallStands p classes space store.elements owner after seen s.frames (task ∷ rest) =
         stands_at p classes space store.elements owner call code seen s.frames task rest r after call.place stack (record (values_in call) { numbers = numbers }) r.meant r.known seen (task ∷ rest) (r.depth ∙ ap (λ (st : List ℕ). Some (length st)) after_is)
-        (subst (λ (w : Plain). HasMoved call after (end_of_way call.place w) stack (record (values_in call) { numbers = numbers })) way_is m) (holds_with p classes space store.elements owner call code seen s.frames task rest r numbers)
+        (subst (λ (w : Plain). HasMoved call after (end_of_path call.place w) stack (record (values_in call) { numbers = numbers })) path_is m) (holds_with p classes space store.elements owner call code seen s.frames task rest r numbers)
         (subst (λ (st : List ℕ). StandsFor code r.known call.place st (task ∷ rest)) after_is r.stands)
         (subst (λ (ns : List ℕ). Shows code r.known seen (record { numbers = ns; references = r.meant.references; owners = r.meant.owners; fields = r.meant.fields; buffers = r.meant.buffers })) numbers_are r.shows) in
         record {
@@ -363,7 +363,7 @@ module _ (p : Lowered) (w : World) (store : Store) (others : Acquired) (k owner 
 
     pub plain_executes : Executes p w store store others k owner own shared s rest after pending (effect_of (sight_of shared s) task) (Did e)
     plain_executes =
-        let works : IsPlain i = plain_instr i call.stack call.slots.numbers.items (way, stack, numbers) is in
+        let works : IsPlain i = plain_instr i call.stack call.slots.numbers.items (path, stack, numbers) is in
         does_cases code r.known call.place call.stack held seen rest (λ effect. Allowed effect → Executes p w store store others k owner own shared s rest after pending effect (Did e))
         (λ tasks h allowed. becomes works tasks h)
         (λ x v h allowed. writes (Sets x v) (IsSet seen x v) h (assign x (Scalar v) s.variables) refl (is_set own own shared s (record s { tasks = Some rest; variables = assign x (Scalar v) s.variables }) x (λ y other. refl) v refl) (assigned_nothing x (Scalar v) s.variables refl refl (allowed.1 x refl)) refl)
@@ -394,13 +394,13 @@ module _ (p : Lowered) (w : World) (store : Store) (others : Acquired) (k owner 
       goes : (tasks : List Task) → GoesOn code r.known call.place call.stack held seen (tasks ++ rest) → agrees.GoesOn p w store store others k owner own shared s rest after pending (Becomes tasks) false event.Quiet
       goes tasks h =
           let same : h.here ≡ instr.TestNull variable equal = cc (h.at, at, is) in
-          let v = subst (λ (j : Instr). Works seen held j call.stack h.way h.after) same h.works in
+          let v = subst (λ (j : Instr). Works seen held j call.stack h.path h.after) same h.works in
           let null : is_null (references_of store call) call.slots.fields.items call.slots.buffers.items variable ≡ v.0 = variable_null_agrees (unit_tree p.unit) classes space store.elements owner (references_of store call) call.slots.fields.items call.slots.buffers.items seen held variable v.0 r.holds.keys shares.statics r.holds.fields r.holds.buffers v.1 in
           let words : h.after ≡ truth_word (beq (is_null (references_of store call) call.slots.fields.items call.slots.buffers.items variable) equal) ∷ call.stack = v.3 ∙ ap (λ (b : Bool). truth_word (beq b equal) ∷ call.stack) (sym null) in
           let next : source.Thread = with_tasks s (tasks ++ rest) in
           let stack : List ℕ = truth_word (beq (is_null (references_of store call) call.slots.fields.items call.slots.buffers.items variable) equal) ∷ call.stack in
           let end : StandsFor code h.names (call.place + 1) stack (tasks ++ rest) =
-          subst (λ (u : Plain). AtEnd (λ q. StandsFor code h.names q stack (tasks ++ rest)) call.place u) v.2 (subst (λ (st : List ℕ). AtEnd (λ q. StandsFor code h.names q st (tasks ++ rest)) call.place h.way) words h.stands) in
+          subst (λ (u : Plain). AtEnd (λ q. StandsFor code h.names q stack (tasks ++ rest)) call.place u) v.2 (subst (λ (st : List ℕ). AtEnd (λ q. StandsFor code h.names q st (tasks ++ rest)) call.place h.path) words h.stands) in
           record {
             next = next;
             steps = refl;

@@ -209,18 +209,18 @@ module _ (p : Lowered) (w : World) (store : Store) (others : Acquired) (k owner 
         (ap (λ (l : List ℕ). slice_get l index) (slot_words slot zs elements) ∙ slice_get-map (λ z. cast_unsigned w32 z) zs index ∙ ap (option_map (λ z. cast_unsigned w32 z)) found)
         (did index stack top)
 
-    reads : (tasks : List Task) (h : GoesOn code r.known call.place call.stack held seen (tasks ++ rest)) (stack : List ℕ) → call.stack ≡ stack → Works seen held (instr.LoadBuffer slot line) stack h.way h.after → agrees.GoesOn p w store store others k owner own shared s rest after pending (Becomes tasks) false e
+    reads : (tasks : List Task) (h : GoesOn code r.known call.place call.stack held seen (tasks ++ rest)) (stack : List ℕ) → call.stack ≡ stack → Works seen held (instr.LoadBuffer slot line) stack h.path h.after → agrees.GoesOn p w store store others k owner own shared s rest after pending (Becomes tasks) false e
     reads tasks h [] top works = absurd (cc (works))
     reads tasks h (index ∷ stack) top works = by_element (slice_get works.0 index) refl works.2
       where
-        by_element : (o : Option ℤ) → slice_get works.0 index ≡ o → Loads line index stack o h.way h.after → agrees.GoesOn p w store store others k owner own shared s rest after pending (Becomes tasks) false e
+        by_element : (o : Option ℤ) → slice_get works.0 index ≡ o → Loads line index stack o h.path h.after → agrees.GoesOn p w store store others k owner own shared s rest after pending (Becomes tasks) false e
         by_element None found loads = absurd (subst (λ (u : Plain). AtEnd (λ q. StandsFor code h.names q h.after (tasks ++ rest)) call.place u) loads.0 h.stands)
         by_element (Some z) found loads =
             let m = loaded index stack works.0 top works.1 (Some z) found in
             let next : source.Thread = with_tasks s (tasks ++ rest) in
             let words : List ℕ = cast_unsigned w32 z ∷ stack in
             let end : StandsFor code h.names (call.place + 1) words (tasks ++ rest) =
-            subst (λ (u : Plain). AtEnd (λ q. StandsFor code h.names q words (tasks ++ rest)) call.place u) loads.0 (subst (λ (st : List ℕ). AtEnd (λ q. StandsFor code h.names q st (tasks ++ rest)) call.place h.way) loads.1 h.stands) in
+            subst (λ (u : Plain). AtEnd (λ q. StandsFor code h.names q words (tasks ++ rest)) call.place u) loads.0 (subst (λ (st : List ℕ). AtEnd (λ q. StandsFor code h.names q st (tasks ++ rest)) call.place h.path) loads.1 h.stands) in
             record {
               next_shared = shared;
               next = next;
@@ -255,7 +255,7 @@ module _ (p : Lowered) (w : World) (store : Store) (others : Acquired) (k owner 
     pub load_executes : Executes p w store store others k owner own shared s rest after pending (effect_of (sight_of shared s) task) (Did e)
     load_executes =
         other_cases p classes space store.elements owner call code seen s.frames task rest r (possible_here p w store others k owner own shared s shares pending pends call code task rest r tasks_are views steady i at) i at (λ effect. Executes p w store store others k owner own shared s rest after pending effect (Did e)) (λ plain. subst IsPlain is plain)
-        (λ test tasks h. reads tasks h call.stack refl (let same : h.here ≡ instr.LoadBuffer slot line = cc (h.at, at, is) in subst (λ (j : Instr). Works seen held j call.stack h.way h.after) same h.works))
+        (λ test tasks h. reads tasks h call.stack refl (let same : h.here ≡ instr.LoadBuffer slot line = cc (h.at, at, is) in subst (λ (j : Instr). Works seen held j call.stack h.path h.after) same h.works))
         (λ target h same. absurd (let both : instr.StoreNull h.variable ≡ instr.LoadBuffer slot line = sym same ∙ is in cc))
         (λ x n z h same. absurd (let both : instr.StoreBuffer (element_of h.type) h.slot h.line ≡ instr.LoadBuffer slot line = sym same ∙ is in cc))
         (λ z h same. absurd (let both : instr.PutJint ≡ instr.LoadBuffer slot line = sym same ∙ is in cc))
@@ -441,7 +441,7 @@ module _ (p : Lowered) (w : World) (store : Store) (others : Acquired) (k owner 
       element_written = buffer_written it.0 (seen.buffer x) refl refl it.2
 
     -- nothing goes on
-    no_work : (tasks : List Task) (h : GoesOn code r.known call.place call.stack held seen (tasks ++ rest)) (stack : List ℕ) → Works seen held (instr.StoreBuffer element slot line) stack h.way h.after → ⊥
+    no_work : (tasks : List Task) (h : GoesOn code r.known call.place call.stack held seen (tasks ++ rest)) (stack : List ℕ) → Works seen held (instr.StoreBuffer element slot line) stack h.path h.after → ⊥
     no_work tasks h [] works = cc (works)
     no_work tasks h (word ∷ []) works = cc (works)
     no_work tasks h (word ∷ index ∷ stack) works = subst (λ (u : Plain). AtEnd (λ q. StandsFor code h.names q h.after (tasks ++ rest)) call.place u) works.1 h.stands
@@ -449,7 +449,7 @@ module _ (p : Lowered) (w : World) (store : Store) (others : Acquired) (k owner 
     pub store_executes : Executes p w store store' others k owner own shared s rest after pending (effect_of (sight_of shared s) task) (Did e)
     store_executes =
         other_cases p classes space store.elements owner call code seen s.frames task rest r (possible_here p w store others k owner own shared s shares pending pends call code task rest r tasks_are views steady i at) i at (λ effect. Executes p w store store' others k owner own shared s rest after pending effect (Did e)) (λ plain. subst IsPlain is plain)
-        (λ test tasks h. absurd (no_work tasks h call.stack (let same : h.here ≡ instr.StoreBuffer element slot line = cc (h.at, at, is) in subst (λ (j : Instr). Works seen held j call.stack h.way h.after) same h.works)))
+        (λ test tasks h. absurd (no_work tasks h call.stack (let same : h.here ≡ instr.StoreBuffer element slot line = cc (h.at, at, is) in subst (λ (j : Instr). Works seen held j call.stack h.path h.after) same h.works)))
         (λ target h same. absurd (let both : instr.StoreNull h.variable ≡ instr.StoreBuffer element slot line = sym same ∙ is in cc))
         (λ x j z h same. element_written x j z h same)
         (λ z h same. absurd (let both : instr.PutJint ≡ instr.StoreBuffer element slot line = sym same ∙ is in cc))

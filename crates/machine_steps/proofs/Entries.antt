@@ -15,7 +15,7 @@ use Rattle.syntax.specs.Views.{unit_tree}
 use Rattle.base.specs.Bytes.{Identifier, lookup}
 use Rattle.class_rules.specs.Class.{Classes}
 use Rattle.heap.specs.Heap.{Space}
-use Rattle.type_rules.specs.SortRules.{static_sort}
+use Rattle.type_rules.specs.TypeRules.{static_type}
 use Rattle.world_values.specs.CallArguments.{is_argument}
 use Rattle.world_values.specs.Views.{object_value_view}
 use Rattle.semantics.specs.Object.{ObjectValue, Number, Refers, Reference}
@@ -106,7 +106,7 @@ one_more_static statics front s new h = record {
   placed = λ x. by_test x (bytes_eq x s.name) refl ∙ ap (name_place x) (sym (map-append (λ (g : Static). g.name) front (s ∷ [])));
 }
   where
-    by_test : (x : Identifier) (b : Bool) → bytes_eq x s.name ≡ b → option_map (λ (t : Slot). t.index) (if b then Some (record { sort = static_sort s.type; index = length statics }) else lookup x statics) ≡ name_place x (names_of front ++ s.name ∷ [])
+    by_test : (x : Identifier) (b : Bool) → bytes_eq x s.name ≡ b → option_map (λ (t : Slot). t.index) (if b then Some (record { ty = static_type s.type; index = length statics }) else lookup x statics) ≡ name_place x (names_of front ++ s.name ∷ [])
     by_test x true e =
         let same : x ≡ s.name = (bytes_eq-Decides x s.name).0 e in
         let none : name_place x (names_of front) ≡ None = sym (h.placed x) ∙ ap (λ (y : Identifier). option_map (λ (t : Slot). t.index) (lookup y statics)) same ∙ ap (option_map (λ (t : Slot). t.index)) new in

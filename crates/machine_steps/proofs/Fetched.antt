@@ -66,8 +66,8 @@ at_call p w store pending call i f function is others k owner own shared s task 
   at = f.at ∙ ap (λ j. Some j) is;
 }
 
--- a way that leads inside code can be gone
-pub reachable : (instrs : List Instr) (place : ℕ) (way : Plain) (depth : ℕ) → length instrs < 2 ^ 64 → LeadsInside instrs place way depth → IsReachable place way
+-- a path that leads inside code can be gone
+pub reachable : (instrs : List Instr) (place : ℕ) (path : Plain) (depth : ℕ) → length instrs < 2 ^ 64 → LeadsInside instrs place path depth → IsReachable place path
 reachable instrs place plain.Next depth few h = let inside : place + 1 < length instrs = h.inside in omega (arith, inside)
 reachable instrs place (plain.Skip n) depth few h = let inside : place + 1 + n < length instrs = h.inside in omega (arith, inside)
 reachable instrs place (plain.Back n) depth few h = h.0

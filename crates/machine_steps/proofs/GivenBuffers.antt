@@ -31,7 +31,7 @@ use Rattle.code_meaning.specs.Does.{IsOperand, OperandFits}
 use Rattle.code_meaning.specs.Layout.{Known}
 use Rattle.code_meaning.specs.Slots.{Shows, Slots, kind_of_variable, visible_to}
 use Rattle.code_meaning.specs.Stands.{IsBufferResult}
-use Rattle.type_rules.specs.Sorts as sort
+use Rattle.type_rules.specs.ExprTypes as ty
 use Rattle.semantics_safety.specs.Owners.{Owners}
 use Rattle.tables.specs.Locals.{LocalTable}
 use Rattle.machine_answers.specs.declared.answer.Answer.{Answer}
@@ -99,7 +99,7 @@ module _ (code : Listing) (known : Known) (place : ℕ) (stack : List ℕ) (slot
 
   one_told : (o : Operand) (a : Actual) → OperandFits IsCopy o → IsOperand code known place stack slots (visible_to own shared s) o a → IsTellable (address_in_actual (Some a))
   one_told (operand.IsCopy i) a kind h z is =
-      let shown = shows.each h.0 (record { sort = sort.Flag; index = i }) h.2 in
+      let shown = shows.each h.0 (record { ty = ty.Flag; index = i }) h.2 in
       let same : h.0 ≡ z = let both : Some h.0 ≡ Some z = sym (ap (λ (b : Actual). address_in_actual (Some b)) h.1) ∙ is in cc in
       subst (λ (x : Identifier). kind_of_variable (lookup x s.variables) ≡ Some ScalarKind) same shown.kind
   one_told operand.Null a kind (inl h) z is = absurd (let clash : None ≡ Some z = sym (ap (λ (b : Actual). address_in_actual (Some b)) h.1) ∙ is in cc)

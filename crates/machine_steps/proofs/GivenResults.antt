@@ -8,16 +8,16 @@ use Rattle.classes.specs.declared.class.FieldHandle.{FieldHandle as FieldIn}
 use Rattle.machine_scenes.specs.declared.handle.MethodHandle.{MethodHandle as MethodIn}
 use Rattle.heap.specs.Heap.{Space}
 use Rattle.jni.specs.Prototype.{ResultKind, NewLocal, NewGlobal, NewWeak, GivesFlag, GivesInt, GivesField, GivesMethod, GivesNothing, GivesBuffer}
-use Rattle.type_rules.specs.Sorts.{Sort, Jint}
-use Rattle.type_rules.specs.Sorts as sort
+use Rattle.type_rules.specs.ExprTypes.{ExprType, Jint}
+use Rattle.type_rules.specs.ExprTypes as ty
 use Rattle.semantics.specs.CallEffects.{CallResult, NoResult, NullResult, ScalarResult, ReferenceResult, WeakResult, FieldResult, MethodResult, BufferResult}
 use Rattle.semantics.specs.CallStep.{filled, static_result}
 use Rattle.semantics.specs.Object.{Reference}
 use Rattle.semantics.specs.Thread as source
 use Rattle.semantics.specs.Value.{Value, Word, Int, Flag, Truth}
 use Rattle.semantics.specs.Variable.{Buffer, NoBuffer, LocalRef, FieldHandle, MethodHandle, Elements}
-use Rattle.code_meaning.specs.Slots.{ValueHasSort, word_of}
-use Rattle.code_meaning.specs.Stands.{IsBufferResult, IsStaticResult, number_sort}
+use Rattle.code_meaning.specs.Slots.{ValueHasType, word_of}
+use Rattle.code_meaning.specs.Stands.{IsBufferResult, IsStaticResult, number_type}
 use Rattle.base.specs.Element.{ElementType}
 use Rattle.jni.specs.Access.{Access}
 use Rattle.machine_answers.specs.declared.answer.Given.{Given}
@@ -39,11 +39,11 @@ use Rattle.machine_threads.specs.SlotsHold.{IsSmallCopy}
 use Rattle.machine_steps.proofs.Receives.{IsNoBuffer, frames_agree, frames_received, no_buffer, plain_static}
 
 -- a number
-pub record IsNumber (g : Given) (c : CallResult) (of : Sort) : Type 0 where
+pub record IsNumber (g : Given) (c : CallResult) (of : ExprType) : Type 0 where
   pub value : Value
   pub gave : c ≡ ScalarResult value
   pub same : g ≡ given.Number (word_of value)
-  pub sorted : ValueHasSort value of
+  pub well_typed : ValueHasType value of
 
 -- a reference
 pub record IsReference (space : Space) (g : Given) (c : CallResult) : Type 0 where
@@ -69,8 +69,8 @@ pub record IsMethodId (unit : SourceUnit) (classes : Classes) (g : Given) (c : C
   pub agrees : MethodAgrees unit classes handle method
   pub fills : (old : Option MethodId) → filled (MethodHandle old) c ≡ MethodHandle method
 
-pub number_given : (unit : SourceUnit) (classes : Classes) (space : Space) (kind : ResultKind) (g : Given) (c : CallResult) (of : Sort) → GivenAgrees unit classes space kind g c → number_sort kind ≡ Some of → IsNumber g c of
-number_given unit classes space GivesInt (given.Number word) (ScalarResult (Int z)) of h e = record { value = Int z; gave = refl; same = ap given.Number h.0; sorted = (h.1, let same : Jint ≡ of = cc in sym same) }
+pub number_given : (unit : SourceUnit) (classes : Classes) (space : Space) (kind : ResultKind) (g : Given) (c : CallResult) (of : ExprType) → GivenAgrees unit classes space kind g c → number_type kind ≡ Some of → IsNumber g c of
+number_given unit classes space GivesInt (given.Number word) (ScalarResult (Int z)) of h e = record { value = Int z; gave = refl; same = ap given.Number h.0; well_typed = (h.1, let same : Jint ≡ of = cc in sym same) }
 number_given unit classes space GivesInt (given.Number word) (ScalarResult (Word n)) of h e = absurd h
 number_given unit classes space GivesInt (given.Number word) (ScalarResult (Flag b)) of h e = absurd h
 number_given unit classes space GivesInt (given.Number word) (ScalarResult (Truth b)) of h e = absurd h
@@ -87,7 +87,7 @@ number_given unit classes space GivesInt (given.FieldId a) c of h e = absurd h
 number_given unit classes space GivesInt (given.MethodId a) c of h e = absurd h
 number_given unit classes space GivesInt (given.Global s) c of h e = absurd h
 number_given unit classes space GivesInt (given.Buffer b) c of h e = absurd h
-number_given unit classes space GivesFlag (given.Number word) (ScalarResult (Flag b)) of h e = record { value = Flag b; gave = refl; same = ap given.Number h; sorted = let same : sort.Flag ≡ of = cc in sym same }
+number_given unit classes space GivesFlag (given.Number word) (ScalarResult (Flag b)) of h e = record { value = Flag b; gave = refl; same = ap given.Number h; well_typed = let same : ty.Flag ≡ of = cc in sym same }
 number_given unit classes space GivesFlag (given.Number word) (ScalarResult (Word n)) of h e = absurd h
 number_given unit classes space GivesFlag (given.Number word) (ScalarResult (Int z)) of h e = absurd h
 number_given unit classes space GivesFlag (given.Number word) (ScalarResult (Truth b)) of h e = absurd h
@@ -191,7 +191,7 @@ for_static GivesNothing c h = h
 for_static (GivesBuffer a) c h = h
 
 -- which is no number
-pub no_number : (kind : ResultKind) (s : Sort) → number_sort kind ≡ Some s → IsStaticResult kind → ⊥
+pub no_number : (kind : ResultKind) (s : ExprType) → number_type kind ≡ Some s → IsStaticResult kind → ⊥
 no_number NewGlobal s is goes = cc
 no_number NewWeak s is goes = cc
 no_number kind s is goes = goes

@@ -16,7 +16,7 @@ use Rattle.machine_scenes.specs.declared.handle.Handle.TheVariants as handle
 use Rattle.heap.specs.Heap.{Space}
 use Rattle.jni.specs.JniFunction.{JniFunction, prototype}
 use Rattle.jni.specs.Prototype.{ResultKind, NewLocal, GivesInt, GivesField, GivesMethod, GivesBuffer}
-use Rattle.type_rules.specs.Sorts.{Sort, Jint}
+use Rattle.type_rules.specs.ExprTypes.{ExprType, Jint}
 use Rattle.semantics.specs.Arguments.{Actual, address_given}
 use Rattle.semantics.specs.CallEffects.{CallResult, ScalarResult, BufferResult}
 use Rattle.semantics.specs.CallStep.{blank, filled, is_zero, put, put_assigned, static_result, received, tell_copy}
@@ -37,9 +37,9 @@ use Rattle.code.specs.declared.instr.Target.TheVariants as destination
 use Rattle.code_meaning.specs.Layout.{Known}
 use Rattle.code_meaning.specs.Does.{GoesInto, TakesBuffer, TakesStatic, TakesTest, TakesField, TakesMethod, TakesNumber, TakesReference, TakesResult}
 use Rattle.code_meaning.specs.Lowered.{Lowered}
-use Rattle.code_meaning.specs.Slots.{Visible, Shows, Slots, ValueHasSort, kind_of_variable, static_index, type_of_array, visible_to, word_of, OfField, OfMethod}
-use Rattle.code_meaning.specs.Stands.{IsStaticResult, StandsFor, number_sort}
-use Rattle.type_rules.specs.SortRules.{is_droppable}
+use Rattle.code_meaning.specs.Slots.{Visible, Shows, Slots, ValueHasType, kind_of_variable, static_index, type_of_array, visible_to, word_of, OfField, OfMethod}
+use Rattle.code_meaning.specs.Stands.{IsStaticResult, StandsFor, number_type}
+use Rattle.type_rules.specs.TypeRules.{is_droppable}
 use Rattle.base.specs.Element.{ElementType}
 use Rattle.base.specs.declared.element.ElementType.{ElementType as ElementOfCode}
 use Rattle.semantics_safety.specs.StepSafe.{HoldsNoBuffer}
@@ -183,7 +183,7 @@ nothing_named (Some (Elements type b)) k t = absurd (cc)
 nothing_named (Some (LocalArray type zs)) k t = absurd (cc)
 
 -- a `jint` is 0 where its word is
-zero_word : (v : Value) → ValueHasSort v Jint → (word_of v == 0) ≡ is_zero (ScalarResult v)
+zero_word : (v : Value) → ValueHasType v Jint → (word_of v == 0) ≡ is_zero (ScalarResult v)
 zero_word (Word n) h = absurd (let same = h.1 in cc)
 zero_word (Flag b) h = absurd (cc)
 zero_word (Truth b) h = absurd (cc)
@@ -311,16 +311,16 @@ module _ (p : Lowered) (w : World) (old : Space) (old_copies : List (Option Owne
 
   -- ---- a number
 
-  module _ (no_word : HasNoWord) (i : ℕ) (receives : Receives (destination.Number i) kind None g carried after) (of : Sort) (x : Identifier) (takes : TakesNumber code r.known call.place call.stack held (visible_to own shared s) of i x rest) (n : IsNumber g c of) where
+  module _ (no_word : HasNoWord) (i : ℕ) (receives : Receives (destination.Number i) kind None g carried after) (of : ExprType) (x : Identifier) (takes : TakesNumber code r.known call.place call.stack held (visible_to own shared s) of i x rest) (n : IsNumber g c of) where
     number_stands : CallStands p w.classes space store.elements k after (visible_to own next (resuming (assign x (Scalar n.value) s.variables))) (frames_received kind c left) rest
     number_stands =
         let vs = assign x (Scalar n.value) s.variables in
         let numbers : after.slots.numbers.items ≡ slice_set call.slots.numbers.items i (word_of n.value) = receives.numbers ∙ ap (λ (h : Given). numbers_with (destination.Number i) h call.slots.numbers.items) n.same in
         stands_after no_word (destination.Number i) refl receives own takes.names vs r.meant (still_held (destination.Number i) receives receives.references receives.fields receives.buffers) takes.stands
         (shown takes.names (visible_to own shared (resuming vs)) r.meant numbers
-        (takes.shows n.value (visible_to own shared (resuming vs)) n.sorted (is_set own own shared s (resuming vs) x (λ y other. refl) n.value refl)))
+        (takes.shows n.value (visible_to own shared (resuming vs)) n.well_typed (is_set own own shared s (resuming vs) x (λ y other. refl) n.value refl)))
 
-  number_finishes : SameStatics → HasNoWord → (i : ℕ) (target : Target) → IsFree target → Receives (destination.Number i) kind None g carried after → (of : Sort) → IsNumber g c of → GoesInto code r.known call.place call.stack held (visible_to own shared s) ScalarKind target (λ x. TakesNumber code r.known call.place call.stack held (visible_to own shared s) of i x rest) → Ends target
+  number_finishes : SameStatics → HasNoWord → (i : ℕ) (target : Target) → IsFree target → Receives (destination.Number i) kind None g carried after → (of : ExprType) → IsNumber g c of → GoesInto code r.known call.place call.stack held (visible_to own shared s) ScalarKind target (λ x. TakesNumber code r.known call.place call.stack held (visible_to own shared s) of i x rest) → Ends target
   number_finishes same_statics no_word i (Declared declared x) free receives of n goes = record {
     now = next;
     tasks = rest;
@@ -537,7 +537,7 @@ module _ (p : Lowered) (w : World) (old : Space) (old_copies : List (Option Owne
   test_finishes : SameStatics → (target : Target) → with_result function.target 0 ≡ Some 1 → Receives destination.Test kind None g carried after → IsNumber g c Jint → TakesTest code r.known call.place call.stack held (visible_to own shared s) line target rest → Ends target
   test_finishes same_statics target count receives n takes =
       let word : stack_with destination.Test g ≡ truth_word (is_zero c) ∷ [] =
-      ap (stack_with destination.Test) n.same ∙ ap (λ (b : Bool). truth_word b ∷ []) (zero_word n.value n.sorted ∙ sym (ap is_zero n.gave)) in
+      ap (stack_with destination.Test) n.same ∙ ap (λ (b : Bool). truth_word b ∷ []) (zero_word n.value n.well_typed ∙ sym (ap is_zero n.gave)) in
       let tasks : List Task = Branch line (Done (Truth (is_zero c))) takes.then' takes.else' ∷ rest in
       subst Ends (sym takes.is) (record {
         now = next;
@@ -613,7 +613,7 @@ module _ (p : Lowered) (w : World) (old : Space) (old_copies : List (Option Owne
   pub finishes : (d : Destination) (target : Target) → (kind ≡ NewLocal → IsDeclaredThere target) → IsFree target → function.target ≡ d → TakesResult code r.known call.place call.stack held (visible_to own shared s) line d kind target rest → Receives d kind None g carried after → statics.items ≡ statics_with d g store.statics.items → Ends target
   finishes (destination.Number i) target there free same goes receives same_statics =
       number_finishes same_statics (ap (λ (d : Destination). with_result d 0) same) i target free receives goes.0
-      (number_given (unit_tree p.unit) w.classes space kind g c goes.0 (other_given (unit_tree p.unit) w.classes store k kind g c (no_number kind goes.0 goes.1) (λ b. let clash : None ≡ Some goes.0 = sym (ap number_sort b.1) ∙ goes.1 in cc) agrees) goes.1) goes.2
+      (number_given (unit_tree p.unit) w.classes space kind g c goes.0 (other_given (unit_tree p.unit) w.classes store k kind g c (no_number kind goes.0 goes.1) (λ b. let clash : None ≡ Some goes.0 = sym (ap number_type b.1) ∙ goes.1 in cc) agrees) goes.1) goes.2
   finishes (destination.Local i) target there free same goes receives same_statics =
       let given = subst (λ (k : ResultKind). GivenAgrees (unit_tree p.unit) w.classes space k g c) goes.0 (other_given (unit_tree p.unit) w.classes store k kind g c (λ e. subst IsStaticResult goes.0 e) (λ b. let clash : NewLocal ≡ GivesBuffer b.0 = sym goes.0 ∙ b.1 in cc) agrees) in
       reference_finishes (no_buffer (unit_tree p.unit) w.classes space NewLocal g c given) goes.0 same_statics (ap (λ (d : Destination). with_result d 0) same) i target free (there goes.0) receives (reference_given (unit_tree p.unit) w.classes space g c given) goes.1
@@ -630,7 +630,7 @@ module _ (p : Lowered) (w : World) (old : Space) (old_copies : List (Option Owne
       buffer_finishes same_statics (ap (λ (d : Destination). with_result d 0) same) element i target free receives goes.1.0 (buffer_given (unit_tree p.unit) w.classes store k goes.0.0 g c small (subst (λ (x : ResultKind). ResultAgrees (unit_tree p.unit) w.classes store k g x c) goes.0.1 agrees)) goes.1.2
   finishes destination.Test target there free same goes receives same_statics =
       test_finishes same_statics target (ap (λ (d : Destination). with_result d 0) same) receives
-      (number_given (unit_tree p.unit) w.classes space kind g c Jint (other_given (unit_tree p.unit) w.classes store k kind g c (λ e. subst IsStaticResult goes.0 e) (λ b. let clash : GivesInt ≡ GivesBuffer b.0 = sym goes.0 ∙ b.1 in cc) agrees) (ap number_sort goes.0)) goes.1
+      (number_given (unit_tree p.unit) w.classes space kind g c Jint (other_given (unit_tree p.unit) w.classes store k kind g c (λ e. subst IsStaticResult goes.0 e) (λ b. let clash : GivesInt ≡ GivesBuffer b.0 = sym goes.0 ∙ b.1 in cc) agrees) (ap number_type goes.0)) goes.1
   finishes destination.Dropped target there free same goes receives same_statics =
       subst Ends (sym goes.0) (record {
         now = next;

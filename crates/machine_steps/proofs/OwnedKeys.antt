@@ -11,7 +11,7 @@ use Rattle.tables.specs.Elements.{OwnedNumbers}
 use Rattle.heap.specs.Heap.{Space}
 use Rattle.jni.specs.JniFunction.{JniFunction, parameters_for}
 use Rattle.jni.specs.Prototype.{ParameterKind, FieldID, MethodID, IntNumber, Passed, TextBytes, LocalVariable, ArrayVariable, BufferVariable, Mode, IsCopy}
-use Rattle.type_rules.specs.Sorts.{Ref}
+use Rattle.type_rules.specs.ExprTypes.{Ref}
 use Rattle.semantics_safety.specs.Owners.{Owners, IsOwn}
 use Rattle.semantics_safety.specs.Used.{operand_names, task_names}
 use Rattle.semantics.specs.Arguments.{Actual, ReferenceActual, actuals, field_argument, method_argument, look_up, look_up_expression, reference_argument, reference_given, reference_in_actual, variable_given}
@@ -203,7 +203,7 @@ static_some (Some m) n e = cc
 module _ (p : Lowered) (classes : Classes) (space : Space) (copies : List (Option OwnedNumbers)) (owner : ℕ) (call : Activation) (code : Listing) (own : Owners) (shared : Shared) (s : Thread) (task : Task) (rest : List Task) (r : Ready p classes space copies owner call code (visible_to own shared s) s.frames task rest) where
   pub owner_of_one : (o : InMemory) (a : Actual) → IsOperand code r.known call.place call.stack (slots_of call r.meant) (visible_to own shared s) o a → IsArgumentOwn own s.variables a → HasOwner r.meant.references r.meant.owners o
   owner_of_one (operand.Local i) a (x, is, at) owned = λ n found.
-      let shown = r.shows.each x (record { sort = Ref; index = i }) at in
+      let shown = r.shows.each x (record { ty = Ref; index = i }) at in
       let local = local_by_kind (lookup x s.variables) shown.kind in
       let object : shown.reference ≡ Some n = let both : Some shown.reference ≡ Some (Some n) = sym shown.there ∙ found in cc in
       let seen : (visible_to own shared s).sight.reference x ≡ Live n = shown.is ∙ some_static shown.reference n object in
@@ -243,13 +243,13 @@ module _ (p : Lowered) (classes : Classes) (space : Space) (copies : List (Optio
     pub is : o ≡ operand.Local slot
     pub name : Identifier
     pub variable : variable_given (a ∷ []) 0 ≡ name
-    pub at : lookup name r.known ≡ Some (record { sort = Ref; index = slot })
+    pub at : lookup name r.known ≡ Some (record { ty = Ref; index = slot })
     pub owned : HasOwner r.meant.references r.meant.owners (operand.Local slot)
     pub key : OwnKey space call.locals (held_in (slice_get keys slot)) (reference_in_actual (Some a)) (level_of (lookup name s.variables))
 
   named_key : (o : InMemory) (a : Actual) → OperandFits LocalVariable o → IsOperand code r.known call.place call.stack (slots_of call r.meant) (visible_to own shared s) o a → IsArgumentOwn own s.variables a → IsNamedKey o a
   named_key (operand.Local i) a fits (x, is, at) owned =
-      let shown = r.shows.each x (record { sort = Ref; index = i }) at in
+      let shown = r.shows.each x (record { ty = Ref; index = i }) at in
       let local = local_by_kind (lookup x s.variables) shown.kind in
       let held : held_reference (lookup x s.variables) (lookup x shared.statics) ≡ as_static local.1 = ap (λ (o : Option Variable). held_reference o (lookup x shared.statics)) local.2 in
       let actual : a ≡ ReferenceActual x (as_static shown.reference) = is ∙ ap (ReferenceActual x) shown.is in
@@ -289,7 +289,7 @@ module _ (p : Lowered) (classes : Classes) (space : Space) (copies : List (Optio
     pub is : operand_of operands 0 ≡ operand.Local slot
     pub name : Identifier
     pub variable : variable_given args 0 ≡ name
-    pub at : lookup name r.known ≡ Some (record { sort = Ref; index = slot })
+    pub at : lookup name r.known ≡ Some (record { ty = Ref; index = slot })
     pub owned : HasOwner r.meant.references r.meant.owners (operand.Local slot)
     pub key : OwnKey space call.locals (held_in (slice_get keys slot)) (reference_given args 0) (level_of (lookup name s.variables))
 

@@ -14,7 +14,7 @@ use Rattle.code.specs.declared.instr.Call.{Call as InMemory}
 use Rattle.code.specs.declared.instr.Operand.{Operand}
 use Rattle.code_meaning.specs.Lowered.{Lowered}
 use Rattle.code_meaning.specs.Slots.{Shows, visible_to}
-use Rattle.type_rules.specs.Sorts.{Ref}
+use Rattle.type_rules.specs.ExprTypes.{Ref}
 use Rattle.machine_answers.specs.declared.answer.Answer.{Answer}
 use Rattle.machine_scenes.specs.declared.store.Store.{Store}
 use Rattle.machine_scenes.specs.declared.activation.Activation.{Activation}
@@ -62,7 +62,7 @@ module _ (p : Lowered) (w : World) (store : Store) (pending : Option ℕ) (call 
         record {
           owners = slice_set r.meant.owners d.slot None;
           shows = subst (λ (x : Identifier). Shows h.code r.known (visible_to (λ y. if bytes_eq y x then None else own y) shared s) (slots_of call (record r.meant { owners = slice_set r.meant.owners d.slot None }))) (sym d.variable)
-              (owner_lost_with_slot h.code r.known (visible_to own shared s) (slots_of call r.meant) r.shows d.name d.slot (called.own_slots d.name (record { sort = Ref; index = d.slot }) d.at));
+              (owner_lost_with_slot h.code r.known (visible_to own shared s) (slots_of call r.meant) r.shows d.name d.slot (called.own_slots d.name (record { ty = Ref; index = d.slot }) d.at));
           among = λ i level at. in_others d i level (set_cases r.meant.owners d.slot i None (Some level) at);
           left = λ i key level found at. by_key d (slice_get call.slots.references.items d.slot) refl i key level found (set_cases r.meant.owners d.slot i None (Some level) at);
         }

@@ -36,8 +36,8 @@ use Rattle.semantics.specs.Variable.{StaticReference, Empty, Live, Weakly, Clear
 use Rattle.semantics_safety.specs.Owners.{Owners, IsOwn}
 use Rattle.semantics_safety.specs.Used.{task_names}
 use Rattle.tables.specs.Elements.{OwnedNumbers}
-use Rattle.type_rules.specs.Sorts as sort
-use Rattle.type_rules.specs.Sorts.{Jint, Ref}
+use Rattle.type_rules.specs.ExprTypes as ty
+use Rattle.type_rules.specs.ExprTypes.{Jint, Ref}
 
 -- ---- which tasks return
 
@@ -116,25 +116,25 @@ module _ (p : Lowered) (classes : Classes) (space : Space) (copies : List (Optio
       let same : i ≡ instr.ReturnJint = cc (at, there.0) in
       let gives : ScalarResult (Int z) ≡ c = cc (is) in
       subst (λ (j : Instr). ReturnAgrees space (given_by j call) c) (sym same)
-      (subst (ReturnAgrees space (value.Number (top_of call.stack))) gives (ap top_of under_way.operands, under_way.sort.0))
-  by_number line (Done (Word n)) c (under_way, at_code) is = absurd (let e : Jint ≡ sort.Word = under_way.sort.1 in cc)
-  by_number line (Done (Flag b)) c (under_way, at_code) is = absurd (let e : Jint ≡ sort.Flag = under_way.sort in cc)
-  by_number line (Done (Truth b)) c (under_way, at_code) is = absurd (let e : Jint ≡ sort.Truth = under_way.sort in cc)
+      (subst (ReturnAgrees space (value.Number (top_of call.stack))) gives (ap top_of under_way.operands, under_way.ty.0))
+  by_number line (Done (Word n)) c (under_way, at_code) is = absurd (let e : Jint ≡ ty.Word = under_way.ty.1 in cc)
+  by_number line (Done (Flag b)) c (under_way, at_code) is = absurd (let e : Jint ≡ ty.Flag = under_way.ty in cc)
+  by_number line (Done (Truth b)) c (under_way, at_code) is = absurd (let e : Jint ≡ ty.Truth = under_way.ty in cc)
   by_number line t c h is = no_result (with_value (sight_of shared s) line (λ v. Returns (ScalarResult v)) (ReturnValue line) t) c (stays_line line {A = Term} (λ u. Becomes (ReturnValue line u ∷ [])) (reduce (sight_of shared s) t) (λ u. tt)) is
 
   -- a `jint` variable is worked out first
   by_term : (line : ℕ) (t : Term) (c : CallResult) → NumberStands code r.known call.place call.stack line Jint t (instr.ReturnJint ∷ []) → return_effect (sight_of shared s) line t ≡ Returns c → Agrees c
-  by_term line (term.Named tree.Null) c h is = absurd (h.0.sort)
+  by_term line (term.Named tree.Null) c h is = absurd (h.0.ty)
   by_term line (Read x) c h is =
-      let shown = r.shows.each x (record { sort = Jint; index = h.0.sort.0 }) h.0.sort.1 in
+      let shown = r.shows.each x (record { ty = Jint; index = h.0.ty.0 }) h.0.ty.1 in
       let named : Becomes (ReturnValue line (Done shown.value) ∷ []) ≡ Returns c = sym (ap (λ (o : Outcome Value). returned_name line o ((visible_to own shared s).sight.reference x)) shown.is) ∙ is in
       no_result (Becomes (ReturnValue line (Done shown.value) ∷ [])) c tt named
   by_term line t c h is = by_number line t c h is
 
   -- a local reference, where it is the variable's own
-  by_name : (line : ℕ) (x : Identifier) (n : ℕ) (c : CallResult) → lookup x r.known ≡ Some (record { sort = Ref; index = n }) → slice_get code.instrs call.place ≡ Some (instr.ReturnReference (Local n)) → AreOwn (x ∷ []) → return_effect (sight_of shared s) line (Read x) ≡ Returns c → Agrees c
+  by_name : (line : ℕ) (x : Identifier) (n : ℕ) (c : CallResult) → lookup x r.known ≡ Some (record { ty = Ref; index = n }) → slice_get code.instrs call.place ≡ Some (instr.ReturnReference (Local n)) → AreOwn (x ∷ []) → return_effect (sight_of shared s) line (Read x) ≡ Returns c → Agrees c
   by_name line x n c found there owned is =
-      let shown = r.shows.each x (record { sort = Ref; index = n }) found in
+      let shown = r.shows.each x (record { ty = Ref; index = n }) found in
       let sees = (visible_to own shared s).sight in
       let same : i ≡ instr.ReturnReference (Local n) = cc (at, there) in
       let named : Returns (ReferenceResult (as_reference (sees.reference x))) ≡ Returns c = sym (ap (λ (o : Outcome Value). returned_name line o (sees.reference x)) shown.no_number) ∙ is in

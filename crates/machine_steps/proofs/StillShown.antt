@@ -4,8 +4,8 @@ use Rattle.std.specs.Prelude.{slice_get}
 use Rattle.semantics.specs.Thread as source
 use Rattle.semantics.specs.Thread.{Shared}
 use Rattle.base.specs.Bytes.{Identifier, lookup}
-use Rattle.type_rules.specs.Sorts as sort
-use Rattle.type_rules.specs.Sorts.{Sort}
+use Rattle.type_rules.specs.ExprTypes as ty
+use Rattle.type_rules.specs.ExprTypes.{ExprType}
 use Rattle.code.specs.Depth.{Listing}
 use Rattle.code_meaning.specs.Layout.{Slot, Known}
 use Rattle.semantics.specs.Sight.{holds_null, held_reference, in_range, elements_of}
@@ -25,28 +25,28 @@ module _ (own : Owners) (shared shared' : Shared) (statics : shared'.statics ≡
   referred : (x : Identifier) → (visible_to own shared' s).sight.reference x ≡ (visible_to own shared s).sight.reference x
   referred x = ap (λ (ss : Statics). held_reference (lookup x s.variables) (lookup x ss)) statics
 
-  slot_stays : (x : Identifier) (slots : Slots) (slot : Slot) (of : Sort) → ShowsSlot (visible_to own shared s) x slots slot of → ShowsSlot (visible_to own shared' s) x slots slot of
-  slot_stays x slots slot sort.Word h = record { value = h.value; is = h.is; kind = h.kind; sort = h.sort; word = h.word }
-  slot_stays x slots slot sort.Jint h = record { value = h.value; is = h.is; kind = h.kind; sort = h.sort; word = h.word }
-  slot_stays x slots slot sort.Flag h = record { value = h.value; is = h.is; kind = h.kind; sort = h.sort; word = h.word }
-  slot_stays x slots slot sort.Truth h = h
-  slot_stays x slots slot sort.Ref h = record { reference = h.reference; is = referred x ∙ h.is; is_null = nulls x ∙ h.is_null; no_number = h.no_number; kind = h.kind; there = h.there; owner = h.owner }
-  slot_stays x slots slot sort.Global h = record {
+  slot_stays : (x : Identifier) (slots : Slots) (slot : Slot) (of : ExprType) → ShowsSlot (visible_to own shared s) x slots slot of → ShowsSlot (visible_to own shared' s) x slots slot of
+  slot_stays x slots slot ty.Word h = record { value = h.value; is = h.is; kind = h.kind; ty = h.ty; word = h.word }
+  slot_stays x slots slot ty.Jint h = record { value = h.value; is = h.is; kind = h.kind; ty = h.ty; word = h.word }
+  slot_stays x slots slot ty.Flag h = record { value = h.value; is = h.is; kind = h.kind; ty = h.ty; word = h.word }
+  slot_stays x slots slot ty.Truth h = h
+  slot_stays x slots slot ty.Ref h = record { reference = h.reference; is = referred x ∙ h.is; is_null = nulls x ∙ h.is_null; no_number = h.no_number; kind = h.kind; there = h.there; owner = h.owner }
+  slot_stays x slots slot ty.Global h = record {
     static = record { place = ap (static_index x) statics ∙ h.static.place; held = h.static.held; there = ap (lookup x) statics ∙ h.static.there };
     no_variable = record { number = h.no_variable.number; array_type = h.no_variable.array_type; kind = h.no_variable.kind };
     is_null = nulls x ∙ h.is_null;
     reference = referred x ∙ h.reference;
   }
-  slot_stays x slots slot sort.Weak h = record {
+  slot_stays x slots slot ty.Weak h = record {
     static = record { place = ap (static_index x) statics ∙ h.static.place; held = h.static.held; there = ap (lookup x) statics ∙ h.static.there };
     no_variable = record { number = h.no_variable.number; array_type = h.no_variable.array_type; kind = h.no_variable.kind };
     is_null = nulls x ∙ h.is_null;
     reference = referred x ∙ h.reference;
   }
-  slot_stays x slots slot sort.FieldId h = record { field = h.field; is = h.is; is_null = nulls x ∙ h.is_null; no_number = h.no_number; kind = h.kind; there = h.there }
-  slot_stays x slots slot sort.MethodId h = record { method = h.method; is = h.is; is_null = nulls x ∙ h.is_null; no_number = h.no_number; kind = h.kind; there = h.there }
-  slot_stays x slots slot (sort.Buffer t writable) h = record { buffer = h.buffer; is = h.is; is_null = nulls x ∙ h.is_null; kind = h.kind; there = h.there }
-  slot_stays x slots slot (sort.Array t size) h =
+  slot_stays x slots slot ty.FieldId h = record { field = h.field; is = h.is; is_null = nulls x ∙ h.is_null; no_number = h.no_number; kind = h.kind; there = h.there }
+  slot_stays x slots slot ty.MethodId h = record { method = h.method; is = h.is; is_null = nulls x ∙ h.is_null; no_number = h.no_number; kind = h.kind; there = h.there }
+  slot_stays x slots slot (ty.Buffer t writable) h = record { buffer = h.buffer; is = h.is; is_null = nulls x ∙ h.is_null; kind = h.kind; there = h.there }
+  slot_stays x slots slot (ty.Array t size) h =
       let array = array_of (lookup x s.variables) t h.array_type in
       let same : (i : ℕ) → (visible_to own shared' s).sight.element x i ≡ (visible_to own shared s).sight.element x i = λ i.
       ap (λ (o : Option Variable). outcome_then (λ (zs : List ℤ). in_range (slice_get zs i)) (elements_of shared'.heap o)) array.1
@@ -59,7 +59,7 @@ module _ (own : Owners) (shared shared' : Shared) (statics : shared'.statics ≡
       }
 
   shows_same : (code : Listing) (known : Known) (slots : Slots) → Shows code known (visible_to own shared s) slots → Shows code known (visible_to own shared' s) slots
-  shows_same code known slots h = record { numbers = h.numbers; references = h.references; owners = h.owners; fields = h.fields; buffers = h.buffers; each = λ x slot at. slot_stays x slots slot slot.sort (h.each x slot at) }
+  shows_same code known slots h = record { numbers = h.numbers; references = h.references; owners = h.owners; fields = h.fields; buffers = h.buffers; each = λ x slot at. slot_stays x slots slot slot.ty (h.each x slot at) }
 
 -- where one of them may hold something else
 pub shows_stay : (own : Owners) (shared shared' : Shared) → MayChange shared.statics shared'.statics → (s : source.Thread) (code : Listing) (known : Known) (slots : Slots) → Shows code known (visible_to own shared s) slots → Shows code known (visible_to own shared' s) slots

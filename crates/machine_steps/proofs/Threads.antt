@@ -27,8 +27,8 @@ use Rattle.semantics.specs.ThreadStep.{thread_step, step_within, after_effect}
 use Rattle.code_meaning.specs.Slots.{Visible, visible_to}
 use Rattle.code_meaning.specs.Lowered.{Lowered}
 use Rattle.monitors.specs.Monitors.{kept_from, monitor_of, without_owner}
-use Rattle.machine_scenes.proofs.FitLaws.{drops}
-use Rattle.machine_scenes.proofs.Places.{there_dropped}
+use Rattle.machine_scenes.proofs.MonitorLaws.{drops}
+use Rattle.machine_scenes.proofs.MonitorPlaces.{there_dropped}
 use Rattle.tables.specs.Elements.{OwnedNumbers}
 use Rattle.tables.specs.Keys.{value_at}
 use Rattle.machine_scenes.specs.Buffers.{Acquired, AreViewed, acquired_by, beside}

@@ -39,7 +39,7 @@ use Rattle.monitors.specs.declared.monitors.Enter.{Enter}
 use Rattle.monitors.specs.declared.monitors.Enter.TheVariants.{Entered, Limit, Busy}
 use Rattle.monitors.specs.declared.monitors.Monitor.{Monitor}
 use Rattle.monitors.specs.Monitors.{entering, monitor_of}
-use Rattle.machine_scenes.specs.Fit.{MonitorAgrees, MonitorsAgree}
+use Rattle.machine_scenes.specs.MonitorsAgree.{MonitorAgrees, MonitorsAgree}
 use Rattle.machine_scenes.specs.declared.activation.Activation.{Activation}
 use Rattle.machine_scenes.specs.declared.store.Store.{Store}
 use Rattle.machine_answers.specs.Asked.{references_of}

@@ -23,24 +23,24 @@ pub record HasMoved (activation after : Activation) (to : ℕ) (words : List ℕ
   pub buffers : after.slots.buffers.items ≡ slots.buffers
   pub locals : after.locals ≡ activation.locals
 
--- the place that a way leads to; a trap stays
-abbrev pub end_of_way : (place : ℕ) → Plain → ℕ
-end_of_way place plain.Next = place + 1
-end_of_way place (plain.Skip n) = place + 1 + n
-end_of_way place (plain.Back n) = place - n
-end_of_way place (plain.Trap trap line) = place
+-- the place that a path leads to; a trap stays
+abbrev pub end_of_path : (place : ℕ) → Plain → ℕ
+end_of_path place plain.Next = place + 1
+end_of_path place (plain.Skip n) = place + 1 + n
+end_of_path place (plain.Back n) = place - n
+end_of_path place (plain.Trap trap line) = place
 
--- what is seen of a way
-abbrev pub WayIsSeen : Plain → Event → Type 0
-WayIsSeen (plain.Trap trap line) e = (t : TrapInMemory) × (trap_view t ≡ trap_of trap) × (e ≡ event.Trapped t line)
-WayIsSeen way e = e ≡ event.Quiet
+-- what is seen of a path
+abbrev pub PathIsSeen : Plain → Event → Type 0
+PathIsSeen (plain.Trap trap line) e = (t : TrapInMemory) × (trap_view t ≡ trap_of trap) × (e ≡ event.Trapped t line)
+PathIsSeen path e = e ≡ event.Quiet
 
 -- it prints nothing
 abbrev pub IsSilent : Event → Type 0
 IsSilent (event.Printed z) = ⊥
 IsSilent e = Unit {0}
 
--- a way leads to a place that a word can hold
+-- a path leads to a place that a word can hold
 abbrev pub IsReachable : (place : ℕ) → Plain → Type 0
 IsReachable place plain.Next = place + 1 < 2 ^ 64
 IsReachable place (plain.Skip n) = place + 1 + n < 2 ^ 64
@@ -49,9 +49,9 @@ IsReachable place (plain.Trap trap line) = Unit {0}
 
 -- what an instruction on the stack and the number slots alone did to a call
 pub record MovesPlainly (i : Instr) (activation after : Activation) (seen : Event) : Type 0 where
-  pub way : Plain
+  pub path : Plain
   pub stack : List ℕ
   pub numbers : List ℕ
-  pub is : plain_of i activation.stack activation.slots.numbers.items ≡ Some (way, stack, numbers)
-  pub moved : HasMoved activation after (end_of_way activation.place way) stack (record (values_in activation) { numbers = numbers })
-  pub way_seen : WayIsSeen way seen
+  pub is : plain_of i activation.stack activation.slots.numbers.items ≡ Some (path, stack, numbers)
+  pub moved : HasMoved activation after (end_of_path activation.place path) stack (record (values_in activation) { numbers = numbers })
+  pub path_seen : PathIsSeen path seen

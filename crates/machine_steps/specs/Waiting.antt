@@ -11,7 +11,7 @@ use Rattle.code_meaning.specs.Lowered.{Lowered}
 use Rattle.machine_scenes.specs.declared.store.Store.{Store}
 use Rattle.machine_scenes.specs.declared.activation.Activation.{Activation}
 use Rattle.machine_scenes.specs.Buffers.{Acquired}
-use Rattle.machine_scenes.specs.Fit.{MonitorsAgree}
+use Rattle.machine_scenes.specs.MonitorsAgree.{MonitorsAgree}
 use Rattle.machine_steps.specs.Invoked.{AtCall}
 
 -- another thread owns the monitor

@@ -225,9 +225,9 @@ fn store_null(
 pub(crate) fn run_plain(instr: &Instr, activation: &mut Activation) -> Event
     requires operands { IsSome (plain_of instr.now activation.old.stack activation.old.slots.numbers.items) }
     requires room { IsSome (depth_after instr.now (length activation.old.stack)) }
-    requires leads { (way : Plain) (stack numbers : List ℕ)
-        → plain_of instr.now activation.old.stack activation.old.slots.numbers.items ≡ Some (way, stack, numbers)
-        → IsReachable activation.old.place way }
+    requires leads { (path : Plain) (stack numbers : List ℕ)
+        → plain_of instr.now activation.old.stack activation.old.slots.numbers.items ≡ Some (path, stack, numbers)
+        → IsReachable activation.old.place path }
     ensures { MovesPlainly instr.now activation.old activation.new result }
 {
     match plain(instr, &mut activation.stack, &mut activation.slots.numbers) {

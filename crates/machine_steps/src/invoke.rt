@@ -53,7 +53,7 @@ pub enum Invoked {
 /// The instruction that calls a function, in the thread of this number. What it copies has this owner.
 /// Only a new frame, a new global reference, a copy of elements and a monitor that is entered take host memory. Where
 /// what is made has no room, the call is refused if it may be, and else the fault says so. A call that only enters or
-/// leaves a monitor goes a shorter way, and so does one whose answer is seen at once.
+/// leaves a monitor takes a shorter path, and so does one whose answer is seen at once.
 #[inline(always)]
 pub fn invoke(
     program: &Program<'_>,

@@ -4,4 +4,4 @@ pub mod Sentences
 pub mod Declared
 pub mod Nested
 pub mod Blocks
-pub mod Ways
+pub mod Branches

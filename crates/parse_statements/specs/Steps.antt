@@ -64,8 +64,8 @@ BlockRead = Block × ℕ × List Lexed
 abbrev pub OtherRead : Type 0
 OtherRead = Option Block × ℕ × List Lexed
 
-abbrev pub WaysRead : Type 0
-WaysRead = Block × Option Block × ℕ × List Lexed
+abbrev pub BranchesRead : Type 0
+BranchesRead = Block × Option Block × ℕ × List Lexed
 
 abbrev pub second_of : Result BlockRead ParseError → Result OtherRead ParseError
 second_of read = read >>= λ b. Ok (Some b.0, b.1, b.2)
@@ -77,12 +77,12 @@ other_at deep free otherwise ls =
     then (expect (fixed.Mark marks.OpenBrace) (rest_of ls) >>= λ within. second_of (deep free within))
     else Ok (None, free, ls)
 
-abbrev pub both_of : Block → Result OtherRead ParseError → Result WaysRead ParseError
+abbrev pub both_of : Block → Result OtherRead ParseError → Result BranchesRead ParseError
 both_of body read = read >>= λ o. Ok (body, o.0, o.1, o.2)
 
 -- both blocks
-unfoldable pub ways_at : BlockReader → (free : ℕ) → Bool → List Lexed → Result WaysRead ParseError
-ways_at deep free otherwise ls = deep free ls >>= λ body. both_of body.0 (other_at deep body.1 otherwise body.2)
+unfoldable pub branches_at : BlockReader → (free : ℕ) → Bool → List Lexed → Result BranchesRead ParseError
+branches_at deep free otherwise ls = deep free ls >>= λ body. both_of body.0 (other_at deep body.1 otherwise body.2)
 
-abbrev pub nested_of : (line : ℕ) → Head → Result WaysRead ParseError → Result (Stmt × ℕ × List Lexed) ParseError
+abbrev pub nested_of : (line : ℕ) → Head → Result BranchesRead ParseError → Result (Stmt × ℕ × List Lexed) ParseError
 nested_of line head read = read >>= λ w. Ok (nested_made line head w.0 w.1, w.2, w.3)

@@ -6,7 +6,7 @@ ghost use Rattle.syntax.specs.Views.{expr_tree, test_tree, stmt_tree, block_tree
 ghost use Rattle.parse_lexemes.specs.declared.fault.ParseError.{ParseError};
 ghost use Rattle.parse_lexemes.specs.Results.{Gives};
 ghost use Rattle.parse_lexemes.specs.Lexemes.{views};
-ghost use Rattle.parse_statements.specs.Steps.{WaysRead, OtherRead, BlockRead, head_view, nested_head_at, starts_nested, takes_other, nested_made, nested_of, both_of, second_of, other_at, ways_at};
+ghost use Rattle.parse_statements.specs.Steps.{BranchesRead, OtherRead, BlockRead, head_view, nested_head_at, starts_nested, takes_other, nested_made, nested_of, both_of, second_of, other_at, branches_at};
 ghost use Rattle.parse_statements.specs.Reading.{simple_at, inner, if_test_at, while_test_at, is_return, statement_at, block_at};
 
 use crate::declarations::{declared, starts_declaration};
@@ -27,7 +27,7 @@ pub type ReadBlock<'t> = (Block, usize, Cursor<'t>);
 type ReadOther<'t> = (Option<Block>, usize, Cursor<'t>);
 
 /// Both blocks of an `if`, how many more names may be declared after them, and what comes after them.
-type ReadWays<'t> = (Block, Option<Block>, usize, Cursor<'t>);
+type ReadBranches<'t> = (Block, Option<Block>, usize, Cursor<'t>);
 
 /// What comes in a statement before its first block.
 #[derive(Drop)]
@@ -157,13 +157,13 @@ fn nested_form(head: Head, body: Block, other: Option<Block>) -> Form
 fn nested<'t>(
     line: usize,
     head: Head,
-    ways: Result<ReadWays<'t>, ParseError>,
+    branches: Result<ReadBranches<'t>, ParseError>,
 ) -> Result<ReadStmt<'t>, ParseError>
-    ensures { (read : Result WaysRead ParseError)
-        → Gives (λ x. (block_tree x.0, option_map block_tree x.1, x.2, views x.3)) ways.entry read
+    ensures { (read : Result BranchesRead ParseError)
+        → Gives (λ x. (block_tree x.0, option_map block_tree x.1, x.2, views x.3)) branches.entry read
         → Gives (λ x. (stmt_tree x.0, x.1, views x.2)) result (nested_of line (head_view head) read) }
 {
-    let (body, other, free, rest) = ways?;
+    let (body, other, free, rest) = branches?;
     let form = nested_form(head, body, other);
     Ok((Stmt { line, form }, free, rest))
 }
@@ -173,7 +173,7 @@ fn nested<'t>(
 fn both<'t>(
     body: Block,
     other: Result<ReadOther<'t>, ParseError>,
-) -> Result<ReadWays<'t>, ParseError>
+) -> Result<ReadBranches<'t>, ParseError>
     ensures { (read : Result OtherRead ParseError)
         → Gives (λ x. (option_map block_tree x.0, x.1, views x.2)) other.entry read
         → Gives (λ x. (block_tree x.0, option_map block_tree x.1, x.2, views x.3)) result
@@ -185,16 +185,16 @@ fn both<'t>(
 
 /// The blocks of a statement, of which `otherwise` says whether there may be a second one.
 #[cycle(blocks)]
-fn ways(
+fn branches(
     alloc: Global,
     room: u32,
     free: usize,
     otherwise: bool,
     lexemes: Cursor<'_>,
-) -> Result<ReadWays<'_>, ParseError>
+) -> Result<ReadBranches<'_>, ParseError>
     requires some { 1 ≤ room }
     requires bound { room ≤ 32 }
-    ensures { Gives (λ x. (block_tree x.0, option_map block_tree x.1, x.2, views x.3)) result (ways_at (inner room) free otherwise (views lexemes.entry)) }
+    ensures { Gives (λ x. (block_tree x.0, option_map block_tree x.1, x.2, views x.3)) result (branches_at (inner room) free otherwise (views lexemes.entry)) }
 {
     let (body, left, rest) = block(alloc, room - 1, free, lexemes)?;
     let other = other_block(alloc, room, left, otherwise, rest);
@@ -246,8 +246,8 @@ fn statement(
     let Some((head, rest)) = nested_head(alloc, room, lexemes)? else {
         return simple(alloc, room, free, lexemes);
     };
-    let ways = ways(alloc, room, free, takes_other(&head), rest);
-    nested(lexemes.line(), head, ways)
+    let branches = branches(alloc, room, free, takes_other(&head), rest);
+    nested(lexemes.line(), head, branches)
 }
 
 /// Statements up to the closing brace, where `names` more names may be declared.

@@ -4,7 +4,7 @@ use Rattle.syntax.specs.Tree.{SourceUnit}
 use Rattle.parse_lexemes.specs.declared.fault.ParseError.{ParseError}
 use Rattle.parse_lexemes.specs.declared.fault.ParseError.TheVariants as parsing
 use Rattle.parse_lexemes.specs.Results.{Fails}
-use Rattle.type_rules.specs.SortRules.{IsSorted}
+use Rattle.type_rules.specs.TypeRules.{IsWellTyped}
 use Rattle.region_rules.specs.Regions.{HasRegions}
 use Rattle.program_check.specs.declared.fault.RunError.TheVariants.{Memory}
 use Rattle.program_check.specs.Errors.{of_parse}
@@ -16,8 +16,8 @@ parse_accepts unit (parsing.Fault fault) h = absurd (cc h)
 
 -- what the unit that was found keeps, where it is that of the program
 module _ (text : List ℕ) (unit found : SourceUnit) (p : IsProgram text unit) (same : unit ≡ found) where
-  pub is_sorted : IsSorted found
-  is_sorted = subst IsSorted same p.sorted
+  pub is_well_typed : IsWellTyped found
+  is_well_typed = subst IsWellTyped same p.well_typed
 
   pub has_regions : HasRegions found
   has_regions = subst HasRegions same p.regions

@@ -14,9 +14,9 @@ use Rattle.parse_lexemes.specs.Lexemes.{lexemes}
 use Rattle.parse_lexemes.specs.Results.{Fails}
 use Rattle.parse.specs.Reading.{unit_at}
 use Rattle.parse.specs.Spelling.{SpellsUnit}
-use Rattle.type_rules.specs.SortRules.{SortRule, IsSorted, BreaksSortRule, first_broken}
-use Rattle.types.specs.AllFaults.{sort_faults}
-use Rattle.types.specs.Faults.{TypeFault, fault_of as sort_of}
+use Rattle.type_rules.specs.TypeRules.{TypeRule, IsWellTyped, BreaksTypeRule, first_broken}
+use Rattle.types.specs.AllFaults.{typing_faults}
+use Rattle.types.specs.Faults.{TypeFault, fault_of as type_of}
 use Rattle.types.proofs.UnitLemmas.{none-told, first-fault, earned-faults}
 use Rattle.region_rules.specs.RegionRules.{RegionRule}
 use Rattle.region_rules.specs.Regions.{HasRegions, BreaksRegionRule}
@@ -26,12 +26,12 @@ use Rattle.regions.proofs.UnitLemmas.{accepted_of_none, first_of_all, broken-fau
 use Rattle.syntax.specs.Parts.{functions_of}
 use Rattle.code_meaning.specs.Length.{IsTooLong}
 use Rattle.places.specs.declared.place.Place.{Place}
-use Rattle.program_check.specs.AllFaults.{Entry, ToldFault, entry_of, of_sort, of_region, AreFaults, in_none, in_tokens, in_grammar, in_sorts, in_regions, in_length, BreaksAt, at_token, at_lexeme, of_sorts, of_regions, of_length, IsAlone}
+use Rattle.program_check.specs.AllFaults.{Entry, ToldFault, entry_of, of_type_rule, of_region, AreFaults, in_none, in_tokens, in_grammar, in_types, in_regions, in_length, BreaksAt, at_token, at_lexeme, of_type_rules, of_regions, of_length, IsAlone}
 use Rattle.program_check.specs.Checks.{PassesCheck, FailsCheck, by_pass, by_length}
 use Rattle.program_check.specs.declared.fault.RunError.{RunError}
 use Rattle.program_check.specs.declared.fault.RunError.TheVariants.{Memory}
 use Rattle.program_check.specs.Errors.{of_scan, of_parse, too_long}
-use Rattle.program_check.specs.Programs.{IsProgram, by_scan, by_parse, by_sorts, by_regions}
+use Rattle.program_check.specs.Programs.{IsProgram, by_scan, by_parse, by_types, by_regions}
 
 -- ---- no fault
 
@@ -43,8 +43,8 @@ pub passes_of : (text : List ℕ) (faults : List Entry) → AreFaults text fault
 passes_of text faults (in_none passes) e = passes
 passes_of text faults (in_tokens fault h) e = absurd cc
 passes_of text faults (in_grammar tokens fault s h) e = absurd cc
-passes_of text faults (in_sorts unit s unsorted) e = absurd (unsorted (none-told unit (none_of of_sort (sort_faults unit) e)))
-passes_of text faults (in_regions unit found s sorted refused h) e = absurd (refused (accepted_of_none (functions_of unit) found h (none_of of_region found e)))
+passes_of text faults (in_types unit s ill_typed) e = absurd (ill_typed (none-told unit (none_of of_type_rule (typing_faults unit) e)))
+passes_of text faults (in_regions unit found s well_typed refused h) e = absurd (refused (accepted_of_none (functions_of unit) found h (none_of of_region found e)))
 passes_of text faults (in_length unit is long) e = absurd cc
 
 pub passes_in_memory : (text : List ℕ) (faults : List ToldFault) → AreFaults text (map entry_of faults) → faults ≡ [] → PassesCheck text
@@ -58,24 +58,24 @@ FailsAt text e = FailsCheck text e.0 e.1
 some_is : {A : Type 0} (x y : A) → ◌≡◌ {A = Option A} (Some x) (Some y) → x ≡ y
 some_is x y e = cc
 
-sort_first : (text : List ℕ) (unit : SourceUnit) (found : List (ℕ × SortRule)) (e : Entry) → SpellsUnit text unit → slice_get found 0 ≡ first_broken unit → slice_get (map of_sort found) 0 ≡ Some e → FailsAt text e
+type_first : (text : List ℕ) (unit : SourceUnit) (found : List (ℕ × TypeRule)) (e : Entry) → SpellsUnit text unit → slice_get found 0 ≡ first_broken unit → slice_get (map of_type_rule found) 0 ≡ Some e → FailsAt text e
 unfolding FailsAt
-sort_first text unit [] e s first h = absurd cc
-sort_first text unit (f ∷ found) e s first h = subst (λ (x : Entry). FailsCheck text x.0 x.1) (some_is (of_sort f) e h) (by_pass _ _ (by_sorts unit f.1 f.0 s (sym first)))
+type_first text unit [] e s first h = absurd cc
+type_first text unit (f ∷ found) e s first h = subst (λ (x : Entry). FailsCheck text x.0 x.1) (some_is (of_type_rule f) e h) (by_pass _ _ (by_types unit f.1 f.0 s (sym first)))
 
-region_first : (text : List ℕ) (unit : SourceUnit) (found : List (ℕ × RegionRule)) (e : Entry) → SpellsUnit text unit → IsSorted unit → AreRegionFaults unit found → slice_get (map of_region found) 0 ≡ Some e → FailsAt text e
+region_first : (text : List ℕ) (unit : SourceUnit) (found : List (ℕ × RegionRule)) (e : Entry) → SpellsUnit text unit → IsWellTyped unit → AreRegionFaults unit found → slice_get (map of_region found) 0 ≡ Some e → FailsAt text e
 unfolding FailsAt
-region_first text unit [] e s sorted all h = absurd cc
-region_first text unit (f ∷ found) e s sorted all h =
-    subst (λ (x : Entry). FailsCheck text x.0 x.1) (some_is (of_region f) e h) (by_pass _ _ (by_regions unit f.1 f.0 s sorted (first_of_all (functions_of unit) (f ∷ found) f all refl)))
+region_first text unit [] e s well_typed all h = absurd cc
+region_first text unit (f ∷ found) e s well_typed all h =
+    subst (λ (x : Entry). FailsCheck text x.0 x.1) (some_is (of_region f) e h) (by_pass _ _ (by_regions unit f.1 f.0 s well_typed (first_of_all (functions_of unit) (f ∷ found) f all refl)))
 
 first_of : (text : List ℕ) (faults : List Entry) (e : Entry) → AreFaults text faults → slice_get faults 0 ≡ Some e → FailsAt text e
 unfolding FailsAt
 first_of text faults e (in_none passes) h = absurd cc
 first_of text faults e (in_tokens fault is) h = subst (λ (x : Entry). FailsCheck text x.0 x.1) (some_is _ e h) (by_pass _ _ (by_scan fault is))
 first_of text faults e (in_grammar tokens fault s is) h = subst (λ (x : Entry). FailsCheck text x.0 x.1) (some_is _ e h) (by_pass _ _ (by_parse tokens fault s is))
-first_of text faults e (in_sorts unit s unsorted) h = sort_first text unit (sort_faults unit) e s (first-fault unit) h
-first_of text faults e (in_regions unit found s sorted refused all) h = region_first text unit found e s sorted all h
+first_of text faults e (in_types unit s ill_typed) h = type_first text unit (typing_faults unit) e s (first-fault unit) h
+first_of text faults e (in_regions unit found s well_typed refused all) h = region_first text unit found e s well_typed all h
 first_of text faults e (in_length unit is long) h = subst (λ (x : Entry). FailsCheck text x.0 x.1) (some_is _ e h) (by_length unit is long)
 
 get_in_memory : (faults : List ToldFault) (f : ToldFault) → slice_get faults 0 ≡ Some f → slice_get (map entry_of faults) 0 ≡ Some (entry_of f)
@@ -91,20 +91,20 @@ first_in_memory text faults h f e = first_of text (map entry_of faults) (entry_o
 abbrev pub Breaks : List ℕ → Entry → Type 0
 Breaks text e = BreaksAt text e.0 e.1
 
-sorts_broken : (text : List ℕ) (unit : SourceUnit) (found : List (ℕ × SortRule)) → SpellsUnit text unit → AllByRecursion (λ (f : ℕ × SortRule). BreaksSortRule f.1 f.0 unit) found → AllByRecursion (Breaks text) (map of_sort found)
-sorts_broken text unit [] s h = tt
-sorts_broken text unit (f ∷ found) s h = (of_sorts unit f.1 f.0 s h.0, sorts_broken text unit found s h.1)
+types_broken : (text : List ℕ) (unit : SourceUnit) (found : List (ℕ × TypeRule)) → SpellsUnit text unit → AllByRecursion (λ (f : ℕ × TypeRule). BreaksTypeRule f.1 f.0 unit) found → AllByRecursion (Breaks text) (map of_type_rule found)
+types_broken text unit [] s h = tt
+types_broken text unit (f ∷ found) s h = (of_type_rules unit f.1 f.0 s h.0, types_broken text unit found s h.1)
 
-regions_broken : (text : List ℕ) (unit : SourceUnit) (found : List (ℕ × RegionRule)) → SpellsUnit text unit → IsSorted unit → AllByRecursion (λ (f : ℕ × RegionRule). BreaksRegionRule f.1 f.0 unit) found → AllByRecursion (Breaks text) (map of_region found)
-regions_broken text unit [] s sorted h = tt
-regions_broken text unit (f ∷ found) s sorted h = (of_regions unit f.1 f.0 s sorted h.0, regions_broken text unit found s sorted h.1)
+regions_broken : (text : List ℕ) (unit : SourceUnit) (found : List (ℕ × RegionRule)) → SpellsUnit text unit → IsWellTyped unit → AllByRecursion (λ (f : ℕ × RegionRule). BreaksRegionRule f.1 f.0 unit) found → AllByRecursion (Breaks text) (map of_region found)
+regions_broken text unit [] s well_typed h = tt
+regions_broken text unit (f ∷ found) s well_typed h = (of_regions unit f.1 f.0 s well_typed h.0, regions_broken text unit found s well_typed h.1)
 
 each_of : (text : List ℕ) (faults : List Entry) → AreFaults text faults → AllByRecursion (Breaks text) faults
 each_of text faults (in_none passes) = tt
 each_of text faults (in_tokens fault is) = (at_token fault is, tt)
 each_of text faults (in_grammar tokens fault s is) = (at_lexeme tokens fault s is, tt)
-each_of text faults (in_sorts unit s unsorted) = sorts_broken text unit (sort_faults unit) s (earned-faults unit)
-each_of text faults (in_regions unit found s sorted refused all) = regions_broken text unit found s sorted (broken-faults unit.items found all)
+each_of text faults (in_types unit s ill_typed) = types_broken text unit (typing_faults unit) s (earned-faults unit)
+each_of text faults (in_regions unit found s well_typed refused all) = regions_broken text unit found s well_typed (broken-faults unit.items found all)
 each_of text faults (in_length unit is long) = (of_length unit is long, tt)
 
 in_memory : (text : List ℕ) (faults : List ToldFault) → AllByRecursion (Breaks text) (map entry_of faults) → AllByRecursion (λ f. BreaksAt text f.number f.place) faults
@@ -149,13 +149,13 @@ no_items (x ∷ xs) e = absurd (omega (arith, e))
 some_items : {A : Type 0} (xs : List A) → 0 < length xs → xs ≡ [] → ⊥
 some_items xs some e = let none : length xs ≡ 0 = ap length e in absurd (omega (arith, none, some))
 
-pub sorts_told : (text : List ℕ) (unit : SourceUnit) (found : List TypeFault) (entries : List Entry) → SpellsUnit text unit → map sort_of found ≡ sort_faults unit → (IsSorted unit → found ≡ []) → 0 < length found → entries ≡ map of_sort (map sort_of found)
+pub types_told : (text : List ℕ) (unit : SourceUnit) (found : List TypeFault) (entries : List Entry) → SpellsUnit text unit → map type_of found ≡ typing_faults unit → (IsWellTyped unit → found ≡ []) → 0 < length found → entries ≡ map of_type_rule (map type_of found)
     → AreFaults text entries
-sorts_told text unit found entries s all none some e = subst (AreFaults text) (sym (e ∙ ap (map of_sort) all)) (in_sorts unit s (λ sorted. some_items found some (none sorted)))
+types_told text unit found entries s all none some e = subst (AreFaults text) (sym (e ∙ ap (map of_type_rule) all)) (in_types unit s (λ well_typed. some_items found some (none well_typed)))
 
-pub regions_told : (text : List ℕ) (unit : SourceUnit) (found : List RegionFault) (entries : List Entry) → SpellsUnit text unit → IsSorted unit → AreRegionFaults unit (map region_of found) → (HasRegions unit → found ≡ []) → 0 < length found
+pub regions_told : (text : List ℕ) (unit : SourceUnit) (found : List RegionFault) (entries : List Entry) → SpellsUnit text unit → IsWellTyped unit → AreRegionFaults unit (map region_of found) → (HasRegions unit → found ≡ []) → 0 < length found
     → entries ≡ map of_region (map region_of found) → AreFaults text entries
-regions_told text unit found entries s sorted all none some e = subst (AreFaults text) (sym e) (in_regions unit (map region_of found) s sorted (λ regions. some_items found some (none regions)) all)
+regions_told text unit found entries s well_typed all none some e = subst (AreFaults text) (sym e) (in_regions unit (map region_of found) s well_typed (λ regions. some_items found some (none regions)) all)
 
 pub none_told : (text : List ℕ) (unit : SourceUnit) (entries : List Entry) → IsProgram text unit → (IsTooLong unit → ⊥) → entries ≡ [] → AreFaults text entries
 none_told text unit entries is short e = subst (AreFaults text) (sym e) (in_none (record { unit = unit; of_program = is; short = short }))

@@ -13,16 +13,16 @@ use Rattle.parse.specs.Reading.{unit_at}
 use Rattle.parse_lexemes.specs.Results.{Fails}
 use Rattle.parse.specs.Spelling.{SpellsUnit}
 use Rattle.types.specs.declared.fault.TypeError.{TypeError}
-use Rattle.types.specs.declared.fault.TypeError.TheVariants as sorting
+use Rattle.types.specs.declared.fault.TypeError.TheVariants as typing
 use Rattle.types.specs.Faults.{IfBroken, fault_of, rule_of}
-use Rattle.type_rules.specs.SortRules.{IsSorted, first_broken}
+use Rattle.type_rules.specs.TypeRules.{IsWellTyped, first_broken}
 use Rattle.regions.specs.declared.fault.CheckError.{CheckError}
 use Rattle.regions.specs.declared.fault.CheckError.TheVariants as region_checking
 use Rattle.region_rules.specs.FirstFaults.{IsFirstRegionFault}
 use Rattle.regions.specs.Findings as findings
 use Rattle.program_check.specs.Errors.{of_scan, of_parse, of_types, of_regions}
 use Rattle.program_check.specs.Passes.{IsRefusal}
-use Rattle.program_check.specs.Programs.{by_scan, by_parse, by_sorts, by_regions}
+use Rattle.program_check.specs.Programs.{by_scan, by_parse, by_types, by_regions}
 
 pub scan_refusal : (text : List ℕ) (f : ScanError) → IsFirstFault text f → IsRefusal text (of_scan f)
 scan_refusal text scanning.Memory h = tt
@@ -33,9 +33,9 @@ parse_refusal text tokens parsing.Memory s h = tt
 parse_refusal text tokens (parsing.Fault fault) s h = by_parse tokens fault s h
 
 pub types_refusal : (text : List ℕ) (unit : SourceUnit) (f : TypeError) → SpellsUnit text unit → IfBroken f (λ g. first_broken unit ≡ Some (fault_of g)) → IsRefusal text (of_types f)
-types_refusal text unit sorting.Memory s h = tt
-types_refusal text unit (sorting.Fault fault) s h = by_sorts unit (rule_of fault.rule) fault.line s h
+types_refusal text unit typing.Memory s h = tt
+types_refusal text unit (typing.Fault fault) s h = by_types unit (rule_of fault.rule) fault.line s h
 
-pub regions_refusal : (text : List ℕ) (unit : SourceUnit) (f : CheckError) → SpellsUnit text unit → IsSorted unit → findings.IfBroken f (λ g. IsFirstRegionFault (findings.rule_of g.rule) g.line unit) → IsRefusal text (of_regions f)
+pub regions_refusal : (text : List ℕ) (unit : SourceUnit) (f : CheckError) → SpellsUnit text unit → IsWellTyped unit → findings.IfBroken f (λ g. IsFirstRegionFault (findings.rule_of g.rule) g.line unit) → IsRefusal text (of_regions f)
 regions_refusal text unit region_checking.Memory s t h = tt
 regions_refusal text unit (region_checking.Fault fault) s t h = by_regions unit (findings.rule_of fault.rule) fault.line s t h

@@ -10,8 +10,8 @@ use Rattle.parse_lexemes.specs.Faults.{ParseFault, parse_rule_number}
 use Rattle.parse_lexemes.specs.Lexemes.{lexemes}
 use Rattle.parse.specs.Reading.{unit_at}
 use Rattle.parse.specs.Spelling.{SpellsUnit}
-use Rattle.type_rules.specs.SortRules.{SortRule, sort_rule_number, IsSorted, BreaksSortRule}
-use Rattle.types.specs.AllFaults.{sort_faults}
+use Rattle.type_rules.specs.TypeRules.{TypeRule, type_rule_number, IsWellTyped, BreaksTypeRule}
+use Rattle.types.specs.AllFaults.{typing_faults}
 use Rattle.region_rules.specs.RegionRules.{RegionRule, region_rule_number}
 use Rattle.region_rules.specs.Regions.{HasRegions, BreaksRegionRule}
 use Rattle.regions.specs.AllFaults.{AreRegionFaults}
@@ -33,8 +33,8 @@ Entry = ℕ × Place
 abbrev pub on_line : (number line : ℕ) → Entry
 on_line number line = (number, Line which.Program line)
 
-abbrev pub of_sort : ℕ × SortRule → Entry
-of_sort f = on_line (sort_rule_number f.1) f.0
+abbrev pub of_type_rule : ℕ × TypeRule → Entry
+of_type_rule f = on_line (type_rule_number f.1) f.0
 
 abbrev pub of_region : ℕ × RegionRule → Entry
 of_region f = on_line (region_rule_number f.1) f.0
@@ -49,9 +49,9 @@ pub data AreFaults (text : List ℕ) : List Entry → Type 0 where
   in_grammar : (tokens : List Token) (fault : ParseFault) → Spells text tokens → unit_at (lexemes text 1 tokens) ≡ Err (parsing.Fault fault)
       → AreFaults text (on_line (parse_rule_number fault.rule) fault.line ∷ [])
   -- of each place the one of the least number
-  in_sorts : (unit : SourceUnit) → SpellsUnit text unit → (IsSorted unit → ⊥) → AreFaults text (map of_sort (sort_faults unit))
+  in_types : (unit : SourceUnit) → SpellsUnit text unit → (IsWellTyped unit → ⊥) → AreFaults text (map of_type_rule (typing_faults unit))
   -- of each function the first
-  in_regions : (unit : SourceUnit) (faults : List (ℕ × RegionRule)) → SpellsUnit text unit → IsSorted unit → (HasRegions unit → ⊥) → AreRegionFaults unit faults
+  in_regions : (unit : SourceUnit) (faults : List (ℕ × RegionRule)) → SpellsUnit text unit → IsWellTyped unit → (HasRegions unit → ⊥) → AreRegionFaults unit faults
       → AreFaults text (map of_region faults)
   -- that a function is too long, which has no line
   in_length : (unit : SourceUnit) → IsProgram text unit → IsTooLong unit → AreFaults text (on_line 51 0 ∷ [])
@@ -61,9 +61,9 @@ pub data BreaksAt (text : List ℕ) : (number : ℕ) → Place → Type 0 where
   at_token : (fault : ScanFault) → IsFirstFault text (scanning.Fault fault) → BreaksAt text (scan_rule_number fault.rule) (Line which.Program fault.line)
   at_lexeme : (tokens : List Token) (fault : ParseFault) → Spells text tokens → unit_at (lexemes text 1 tokens) ≡ Err (parsing.Fault fault)
       → BreaksAt text (parse_rule_number fault.rule) (Line which.Program fault.line)
-  of_sorts : (unit : SourceUnit) (rule : SortRule) (line : ℕ) → SpellsUnit text unit → BreaksSortRule rule line unit
-      → BreaksAt text (sort_rule_number rule) (Line which.Program line)
-  of_regions : (unit : SourceUnit) (rule : RegionRule) (line : ℕ) → SpellsUnit text unit → IsSorted unit → BreaksRegionRule rule line unit
+  of_type_rules : (unit : SourceUnit) (rule : TypeRule) (line : ℕ) → SpellsUnit text unit → BreaksTypeRule rule line unit
+      → BreaksAt text (type_rule_number rule) (Line which.Program line)
+  of_regions : (unit : SourceUnit) (rule : RegionRule) (line : ℕ) → SpellsUnit text unit → IsWellTyped unit → BreaksRegionRule rule line unit
       → BreaksAt text (region_rule_number rule) (Line which.Program line)
   of_length : (unit : SourceUnit) → IsProgram text unit → IsTooLong unit → BreaksAt text 51 (Line which.Program 0)
 

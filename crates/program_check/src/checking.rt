@@ -10,7 +10,7 @@ use step_counts::has_long_function;
 
 /// Whether a text is that of an accepted program, which runs in each world that it fits.
 ///
-/// The text is scanned, parsed, and checked for sorts, regions and the length of functions, in this order; a fault is the
+/// The text is scanned, parsed, and checked for types, regions and the length of functions, in this order; a fault is the
 /// first that is found, with its line, or 51 at line 0. The time is linear in the text but for the names of a function.
 pub fn check_text(alloc: Global, program_text: &[u8]) -> Result<(), RunError>
     ensures check { ChecksText program_text.now result }

@@ -22,9 +22,9 @@ pub(crate) fn detail_of_length(checked: &Checked) -> Detail {
     }
 }
 
-/// What was found where the names and sorts of a unit, whose tokens these are, break a rule. Where a name isn't known, the
+/// What was found where the names and types of a unit, whose tokens these are, break a rule. Where a name isn't known, the
 /// tokens are parsed once more, to ask whether a name near it is meant.
-fn detail_of_sorts(alloc: Global, text: &[u8], tokens: &[Token], fault: TypeFault) -> Detail
+fn detail_of_types(alloc: Global, text: &[u8], tokens: &[Token], fault: TypeFault) -> Detail
     requires { Spells text.now tokens.now }
 {
     let rule = fault.rule;
@@ -39,14 +39,14 @@ fn detail_of_sorts(alloc: Global, text: &[u8], tokens: &[Token], fault: TypeFaul
     }
 }
 
-/// What was found where the names and sorts of a unit, whose tokens these are, or its ways, break a rule.
+/// What was found where the names and types of a unit, whose tokens these are, or its paths, break a rule.
 fn detail_of_unit(alloc: Global, text: &[u8], tokens: &[Token], unit: Unit) -> Detail
     requires { Spells text.now tokens.now }
 {
     let typed = match type_unit(alloc, unit) {
         Ok(typed) => typed,
         Err(TypeError::Memory) => return Detail::none(),
-        Err(TypeError::Fault(fault)) => return detail_of_sorts(alloc, text, tokens, fault),
+        Err(TypeError::Fault(fault)) => return detail_of_types(alloc, text, tokens, fault),
     };
     match check(alloc, typed) {
         Ok(checked) => detail_of_length(&checked),

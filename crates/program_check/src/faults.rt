@@ -2,14 +2,14 @@
 
 ghost use Rattle.std.specs.Prelude.{◌≡◌, ℕ, List, [], ◌∷◌, ◌++◌, IfOk, OnOk, Some, map, slice_get};
 ghost use Rattle.std.specs.List.{All};
-ghost use Rattle.program_check.specs.AllFaults.{AreFaults, BreaksAt, IsAlone, of_sort, of_region, entry_of, ToldFault as Told};
+ghost use Rattle.program_check.specs.AllFaults.{AreFaults, BreaksAt, IsAlone, of_type_rule, of_region, entry_of, ToldFault as Told};
 ghost use Rattle.program_check.specs.Checks.{PassesCheck, FailsCheck};
 ghost use Rattle.code_meaning.specs.Length.{IsTooLong};
 ghost use Rattle.parse.specs.Spelling.{SpellsUnit};
 ghost use Rattle.region_rules.specs.Regions.{HasRegions};
 ghost use Rattle.syntax.specs.Views.{unit_tree};
-ghost use Rattle.type_rules.specs.SortRules.{IsSorted};
-ghost use Rattle.types.specs.Faults.{fault_of as sort_of};
+ghost use Rattle.type_rules.specs.TypeRules.{IsWellTyped};
+ghost use Rattle.types.specs.Faults.{fault_of as type_of};
 ghost use Rattle.regions.specs.Findings.{fault_of as region_of};
 
 use crate::detail::detail_of_length;
@@ -54,9 +54,9 @@ fn alone(alloc: Global, error: RunError, detail: Detail) -> Result<Vec<ToldFault
     }
 }
 
-/// A fault of a unit's names and sorts, before which there are so many. Of the first ones it is asked which name may be meant.
-fn told_sort(alloc: Global, unit: &Unit, fault: TypeFault, before: usize) -> ToldFault
-    ensures { entry_of result ≡ of_sort (sort_of fault) }
+/// A fault of a unit's names and types, before which there are so many. Of the first ones it is asked which name may be meant.
+fn told_type(alloc: Global, unit: &Unit, fault: TypeFault, before: usize) -> ToldFault
+    ensures { entry_of result ≡ of_type_rule (type_of fault) }
 {
     let rule = fault.rule;
     let line = fault.line.number();
@@ -73,24 +73,24 @@ fn told_sort(alloc: Global, unit: &Unit, fault: TypeFault, before: usize) -> Tol
     }
 }
 
-/// The faults of a unit's names and sorts, as those of its text.
-fn told_sorts(
+/// The faults of a unit's names and types, as those of its text.
+fn told_types(
     alloc: Global,
     unit: &Unit,
     found: Vec<TypeFault>,
 ) -> Result<Vec<ToldFault>, AllocError>
-    ensures { IfOk result (λ faults. map entry_of faults.items ≡ map of_sort (map sort_of found.items)) }
+    ensures { IfOk result (λ faults. map entry_of faults.items ≡ map of_type_rule (map type_of found.items)) }
 {
     let mut faults: Vec<ToldFault> = Vec::new(alloc);
     let mut left = found.into_iter();
     while let Some(fault) = left.next() {
-        let told = told_sort(alloc, unit, fault, faults.len());
+        let told = told_type(alloc, unit, fault, faults.len());
         faults.push(told)?;
     }
     Ok(faults)
 }
 
-/// A fault of a unit's ways.
+/// A fault of a unit's paths.
 fn told_region(fault: RegionFault) -> ToldFault
     ensures { entry_of result ≡ of_region (region_of fault) }
 {
@@ -101,7 +101,7 @@ fn told_region(fault: RegionFault) -> ToldFault
     }
 }
 
-/// The faults of a unit's ways, as those of its text.
+/// The faults of a unit's paths, as those of its text.
 fn told_regions(alloc: Global, found: Vec<RegionFault>) -> Result<Vec<ToldFault>, AllocError>
     ensures { IfOk result (λ faults. map entry_of faults.items ≡ map of_region (map region_of found.items)) }
 {
@@ -116,17 +116,17 @@ fn told_regions(alloc: Global, found: Vec<RegionFault>) -> Result<Vec<ToldFault>
 /// The faults of a unit that a text spells.
 fn faults_of_unit(alloc: Global, unit: Unit) -> Result<Vec<ToldFault>, AllocError>
     ensures all { (text : List ℕ) → SpellsUnit text (unit_tree unit) → IfOk result (λ faults. AreFaults text (map entry_of faults.items)) }
-    ensures none { IsSorted (unit_tree unit) → HasRegions (unit_tree unit) → (IsTooLong (unit_tree unit) → ⊥)
+    ensures none { IsWellTyped (unit_tree unit) → HasRegions (unit_tree unit) → (IsTooLong (unit_tree unit) → ⊥)
         → IfOk result (λ faults. faults.items ≡ []) }
 {
-    let sorts = type_faults(alloc, &unit)?;
-    if !sorts.is_empty() {
-        return told_sorts(alloc, &unit, sorts);
+    let types = type_faults(alloc, &unit)?;
+    if !types.is_empty() {
+        return told_types(alloc, &unit, types);
     }
     let typed = Typed::of(unit);
-    let ways = region_faults(alloc, &typed)?;
-    if !ways.is_empty() {
-        return told_regions(alloc, ways);
+    let paths = region_faults(alloc, &typed)?;
+    if !paths.is_empty() {
+        return told_regions(alloc, paths);
     }
     let checked = Checked::of(typed);
     if has_long_function(&checked) {
@@ -160,7 +160,7 @@ fn gathered(alloc: Global, text: &[u8]) -> Result<Vec<ToldFault>, AllocError>
 /// The faults of a text in text order, and none where it is that of an accepted program.
 ///
 /// Of tokens and of the grammar the first fault is told. Where there is none, of each static, each function's head and each
-/// statement that breaks a rule of names and sorts the one of the least number; where these are kept, of each function the
+/// statement that breaks a rule of names and types the one of the least number; where these are kept, of each function the
 /// first on buffers, references, frames and returns; and where these are kept too, that a function is too long, once.
 pub fn all_faults(alloc: Global, text: &[u8]) -> Result<Vec<ToldFault>, AllocError>
     ensures all { IfOk result (λ faults. AreFaults text.now (map entry_of faults.items)) }

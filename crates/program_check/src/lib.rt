@@ -1,4 +1,4 @@
-//! Programs from their texts: a text is scanned, parsed, and checked for sorts, regions and the length of functions.
+//! Programs from their texts: a text is scanned, parsed, and checked for types, regions and the length of functions.
 #![tactic(auto)]
 
 mod checking;

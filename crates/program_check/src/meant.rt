@@ -5,7 +5,7 @@ use nearest::Nearest;
 use places::Detail;
 use std::alloc::Global;
 use syntax::{Block, Form, Function, Item, Name, Unit};
-use types::SortRule;
+use types::TypeRule;
 
 /// The most blocks around a statement: those that may be nested, and the body of the function.
 const MOST_BLOCKS: usize = 33;
@@ -135,23 +135,23 @@ fn offer_names<'a>(alloc: Global, nearest: &mut Nearest<'_, 'a>, unit: &'a Unit,
 }
 
 /// Whether this rule is broken by a name that isn't known.
-pub(crate) fn asks_for_names(rule: SortRule) -> bool {
-    matches!(rule, SortRule::UnknownName | SortRule::UnknownFunction)
+pub(crate) fn asks_for_names(rule: TypeRule) -> bool {
+    matches!(rule, TypeRule::UnknownName | TypeRule::UnknownFunction)
 }
 
 /// What is told of a name that isn't known, on this line of a unit, and which name may be meant.
 pub(crate) fn asked(
     alloc: Global,
     unit: &Unit,
-    rule: SortRule,
+    rule: TypeRule,
     line: usize,
     detail: &Detail,
 ) -> Detail {
     let told = detail.as_bytes();
     let mut nearest = Nearest::to(told);
     match rule {
-        SortRule::UnknownName => offer_names(alloc, &mut nearest, unit, line),
-        SortRule::UnknownFunction => offer_functions(alloc, &mut nearest),
+        TypeRule::UnknownName => offer_names(alloc, &mut nearest, unit, line),
+        TypeRule::UnknownFunction => offer_functions(alloc, &mut nearest),
         _ => {}
     }
     nearest.asked_after(Detail::of(told), b"")

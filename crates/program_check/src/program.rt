@@ -13,7 +13,7 @@ use scan::scan;
 use std::alloc::Global;
 use types::type_unit;
 
-/// The checked unit of a program text: scanned, parsed, and checked for sorts and regions, in this order.
+/// The checked unit of a program text: scanned, parsed, and checked for types and regions, in this order.
 pub fn read_program(alloc: Global, text: &[u8]) -> Result<Checked, RunError>
     ensures program { IfOk result (λ c. IsProgram text.now (unit_tree c)) }
     // The unit of the text is the one found, unless memory runs out.

@@ -2,7 +2,7 @@
 use Rattle.std.proofs.Common.{◌≡◌, ℕ, zero, suc, slice_get, Bool, true, false, not, ◌&&◌, List, [], ◌∷◌, Some, refl, sym, ap, ◌∙◌, true≢false}
 use Rattle.std.specs.List.{list_all}
 use Rattle.syntax.specs.Tree.{Stmt}
-use Rattle.region_rules.specs.RegionRules.{RegionRule, CallWhileCritical, ReturnWithBuffer, HeldBuffer, UntestedBuffer, WrongBuffer, ReturnInFrame, PopLastFrame, DeadReference, ArrayInUse, WaysDiffer, WrongLevel, NoReturn, breaks_region_rule, own_rules, Obeys}
+use Rattle.region_rules.specs.RegionRules.{RegionRule, CallWhileCritical, ReturnWithBuffer, HeldBuffer, UntestedBuffer, WrongBuffer, ReturnInFrame, PopLastFrame, DeadReference, ArrayInUse, PathsDiffer, WrongLevel, NoReturn, breaks_region_rule, own_rules, Obeys}
 use Rattle.region_rules.specs.RegionStates.{RegionState}
 
 -- each rule of the list is unbroken
@@ -40,5 +40,5 @@ kept before s PopLastFrame h b = unbroken_at before s PopLastFrame 6 refl h b
 kept before s DeadReference h b = unbroken_at before s DeadReference 7 refl h b
 kept before s ArrayInUse h b = unbroken_at before s ArrayInUse 8 refl h b
 kept before s WrongLevel h b = unbroken_at before s WrongLevel 9 refl h b
-kept before s WaysDiffer h b = absurd (true≢false (sym b))
+kept before s PathsDiffer h b = absurd (true≢false (sym b))
 kept before s NoReturn h b = absurd (true≢false (sym b))

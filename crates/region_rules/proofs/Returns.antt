@@ -4,7 +4,7 @@ use Rattle.std.specs.List.{AllByRecursion}
 use Rattle.syntax.specs.Tree.{Stmt, Declare, DeclareBuffer, DeclareChars, DeclareArray, Assign, AssignElement, Perform, PutJint, If, IfElse, While, Return, ReturnValue, Block, End, Next, Function}
 use Rattle.region_rules.specs.Endings.{EndsByReturn}
 use Rattle.region_rules.specs.RegionStates.{RegionState, state_at_entry}
-use Rattle.region_rules.specs.Regions.{Way, On, Returned, Join, IsEnd, Keeps, KeepsBlock, AcceptedFunction, where_true, where_false}
+use Rattle.region_rules.specs.Regions.{Path, On, Returned, Join, IsEnd, Keeps, KeepsBlock, AcceptedFunction, where_true, where_false}
 
 goes_on : (a : RegionState) → On a ≡ Returned → ⊥
 goes_on a e = cc
@@ -12,14 +12,14 @@ goes_on a e = cc
 returns_not : (a : RegionState) → Returned ≡ On a → ⊥
 returns_not a e = cc
 
--- ways of which the join returns return both
-both_return : (a b : Way) → Join a b Returned → (a ≡ Returned) × (b ≡ Returned)
+-- paths of which the join returns return both
+both_return : (a b : Path) → Join a b Returned → (a ≡ Returned) × (b ≡ Returned)
 both_return Returned Returned h = (refl, refl)
 both_return Returned (On b) h = absurd (returns_not b h)
 both_return (On a) Returned h = absurd (returns_not a h)
 both_return (On a) (On b) h = absurd (returns_not a h.1)
 
--- a statement after which a way goes on
+-- a statement after which a path goes on
 later : (before middle : RegionState) (s : Stmt) (rest : Block) → Keeps before s (On middle) → EndsByReturn rest → EndsByReturn (Next s rest)
 later before middle (Return line) rest h e = absurd (goes_on middle h.1)
 later before middle (ReturnValue line x) rest h e = absurd (goes_on middle h.1)
@@ -27,7 +27,7 @@ later before middle (IfElse line test then' else') rest h e = inr e
 later before middle s rest h e = e
 
 mutual
-  -- a statement after which no way goes on
+  -- a statement after which no path goes on
   last : (before : RegionState) (s : Stmt) (rest : Block) → Keeps before s Returned → IsEnd rest → EndsByReturn (Next s rest)
   last before (Return line) rest h end = end
   last before (ReturnValue line x) rest h end = end

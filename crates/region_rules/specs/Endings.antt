@@ -5,7 +5,7 @@ use Rattle.syntax.specs.Parts.{functions_of}
 use Rattle.syntax.specs.Tree.{IfElse, Return, ReturnValue, Block, End, Next, SourceUnit}
 use Rattle.region_rules.specs.Regions.{IsEnd}
 
--- the block ends with a return, or with an if of which both ways do, and nothing comes after that
+-- the block ends with a return, or with an if of which both branches do, and nothing comes after that
 abbrev pub EndsByReturn : Block → Type 0
 EndsByReturn (End line) = ⊥
 EndsByReturn (Next (Return line) rest) = IsEnd rest

@@ -2,9 +2,9 @@
 use Rattle.std.specs.Prelude.{◌≡◌, ℕ, ◌⊎◌, List, [], ◌∷◌, Option, Some, find, IsTrue}
 use Rattle.syntax.specs.Parts.{line_of, functions_of}
 use Rattle.syntax.specs.Tree.{Stmt, If, IfElse, While, Block, End, Next, Function, SourceUnit}
-use Rattle.region_rules.specs.RegionRules.{RegionRule, HeldBuffer, WaysDiffer, NoReturn, breaks_region_rule, own_rules, Obeys}
+use Rattle.region_rules.specs.RegionRules.{RegionRule, HeldBuffer, PathsDiffer, NoReturn, breaks_region_rule, own_rules, Obeys}
 use Rattle.region_rules.specs.RegionStates.{RegionState, state_at_entry}
-use Rattle.region_rules.specs.Regions.{Way, On, Returned, Keeps, KeepsBlock, AcceptedFunction, where_true, where_false, holds_own, Differ, EndLine, BreaksAfter, BreaksFunction, BreaksRegionRule, HasRegions}
+use Rattle.region_rules.specs.Regions.{Path, On, Returned, Keeps, KeepsBlock, AcceptedFunction, where_true, where_false, holds_own, Differ, EndLine, BreaksAfter, BreaksFunction, BreaksRegionRule, HasRegions}
 
 -- the rule of least number that a statement breaks by itself
 abbrev pub first_broken : RegionState → Stmt → Option RegionRule
@@ -14,26 +14,26 @@ first_broken state s = find (λ rule. breaks_region_rule rule state s) own_rules
 abbrev pub FirstHere : RegionRule → ℕ → RegionState → Stmt → Type 0
 FirstHere rule l before s = (first_broken before s ≡ Some rule) × (l ≡ line_of s)
 
--- a join's fault is first only where both ways keep the rules; a second way's only where the first one does
+-- a join's fault is first only where both paths keep the rules; a second path's only where the first one does
 abbrev mutual
   pub FirstIn : RegionRule → ℕ → RegionState → Stmt → Type 0
   FirstIn rule l before (If line test then') =
       FirstHere rule l before (If line test then')
       ⊎ Obeys before (If line test then') × FirstBlock rule l before (where_true before test) then'
-      ⊎ Obeys before (If line test then') × (rule ≡ WaysDiffer) × (l ≡ line)
-      × ((yes : Way) × KeepsBlock before (where_true before test) then' yes × Differ yes (On (where_false before test)))
+      ⊎ Obeys before (If line test then') × (rule ≡ PathsDiffer) × (l ≡ line)
+      × ((yes : Path) × KeepsBlock before (where_true before test) then' yes × Differ yes (On (where_false before test)))
   FirstIn rule l before (IfElse line test then' else') =
       FirstHere rule l before (IfElse line test then' else')
       ⊎ Obeys before (IfElse line test then' else')
       × (FirstBlock rule l before (where_true before test) then'
-      ⊎ ((yes : Way) × KeepsBlock before (where_true before test) then' yes
+      ⊎ ((yes : Path) × KeepsBlock before (where_true before test) then' yes
       × FirstBlock rule l before (where_false before test) else'))
-      ⊎ Obeys before (IfElse line test then' else') × (rule ≡ WaysDiffer) × (l ≡ line)
-      × ((yes no : Way) × KeepsBlock before (where_true before test) then' yes × KeepsBlock before (where_false before test) else' no × Differ yes no)
+      ⊎ Obeys before (IfElse line test then' else') × (rule ≡ PathsDiffer) × (l ≡ line)
+      × ((yes no : Path) × KeepsBlock before (where_true before test) then' yes × KeepsBlock before (where_false before test) else' no × Differ yes no)
   FirstIn rule l before (While line test body) =
       FirstHere rule l before (While line test body)
       ⊎ Obeys before (While line test body) × FirstBlock rule l before before body
-      ⊎ Obeys before (While line test body) × (rule ≡ WaysDiffer) × (l ≡ line) × ((turn : Way) × KeepsBlock before before body turn × Differ turn (On before))
+      ⊎ Obeys before (While line test body) × (rule ≡ PathsDiffer) × (l ≡ line) × ((turn : Path) × KeepsBlock before before body turn × Differ turn (On before))
   FirstIn rule l before s = FirstHere rule l before s
 
   -- the same of the rest of a block
@@ -44,7 +44,7 @@ abbrev mutual
       ⊎ ((middle : RegionState) × Keeps before s (On middle) × FirstBlock rule l outer middle rest)
       ⊎ Keeps before s Returned × BreaksAfter rule l rest
 
--- a function's first fault; that no way returns is the last of all, at its closing brace
+-- a function's first fault; that no path returns is the last of all, at its closing brace
 abbrev pub FirstInFunction : RegionRule → ℕ → Function → Type 0
 FirstInFunction rule l f =
     FirstBlock rule l (state_at_entry f) (state_at_entry f) f.body

@@ -1,6 +1,6 @@
--- Trusted: the rules on ways. A reader holds these against the JNI Specification.
+-- Trusted: the rules on paths. A reader holds these against the JNI Specification.
 
--- the region rules: what is known on a way through a function, which units are accepted, and which fault is the first
+-- the region rules: what is known on a path through a function, which units are accepted, and which fault is the first
 pub mod RegionStates
 pub mod RegionRules
 pub mod Regions

@@ -73,9 +73,9 @@ abbrev pub is_level : ℕ → Option VariableState → Bool
 is_level frames (Some (ReferenceAt level live)) = level == frames
 is_level frames s = false
 
--- the rules on buffers, references, frames and ways
+-- the rules on buffers, references, frames and paths
 pub data RegionRule : Type 0 where
-  CallWhileCritical ReturnWithBuffer HeldBuffer UntestedBuffer WrongBuffer ReturnInFrame PopLastFrame DeadReference ArrayInUse WaysDiffer WrongLevel NoReturn : RegionRule
+  CallWhileCritical ReturnWithBuffer HeldBuffer UntestedBuffer WrongBuffer ReturnInFrame PopLastFrame DeadReference ArrayInUse PathsDiffer WrongLevel NoReturn : RegionRule
 
 -- the number of the fault
 abbrev pub region_rule_number : RegionRule → ℕ
@@ -88,7 +88,7 @@ region_rule_number ReturnInFrame = 36
 region_rule_number PopLastFrame = 37
 region_rule_number DeadReference = 38
 region_rule_number ArrayInUse = 39
-region_rule_number WaysDiffer = 40
+region_rule_number PathsDiffer = 40
 region_rule_number WrongLevel = 41
 region_rule_number NoReturn = 42
 

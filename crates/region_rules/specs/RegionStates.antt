@@ -120,7 +120,7 @@ frame_count_after state s = if pops (function_called s) then state.frames - 1 el
 
 -- ---- the state after a statement that has no block
 
--- a buffer becomes free: it is released, or on the way where it is NULL
+-- a buffer becomes free: it is released, or on the path where it is NULL
 abbrev pub made_free : VariableState → VariableState
 made_free (ReferenceAt level live) = ReferenceAt level live
 made_free (BufferIn b) = BufferIn Free

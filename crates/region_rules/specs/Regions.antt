@@ -1,21 +1,21 @@
--- Which units are accepted: each way through a function keeps the rules on buffers, references and frames.
+-- Which units are accepted: each path through a function keeps the rules on buffers, references and frames.
 use Rattle.std.specs.Prelude.{◌≡◌, ℕ, ◌+◌, Bool, not, ◌⊎◌, bytes_eq, filter, IsTrue, Contains}
 use Rattle.std.specs.List.{list_any, AllByRecursion}
 use Rattle.base.specs.Bytes.{Identifier}
 use Rattle.syntax.specs.Tree.{Null}
 use Rattle.syntax.specs.Parts.{line_of, functions_of}
 use Rattle.syntax.specs.Tree.{Equal, NotEqual, Named, Variable, Binary, Test, TestExpr, TestCall, Stmt, If, IfElse, While, Return, ReturnValue, Block, End, Next, Function, SourceUnit}
-use Rattle.region_rules.specs.RegionRules.{holds_buffer, RegionRule, HeldBuffer, WaysDiffer, NoReturn, breaks_region_rule, Obeys}
+use Rattle.region_rules.specs.RegionRules.{holds_buffer, RegionRule, HeldBuffer, PathsDiffer, NoReturn, breaks_region_rule, Obeys}
 use Rattle.region_rules.specs.RegionStates.{made_free, Untested, Usable, VariableState, BufferIn, RegionState, with_changed, state_after, state_at_entry}
 
 -- ---- tests and blocks
 
--- on the way where it is not
+-- on the path where it is not
 abbrev pub made_usable : VariableState → VariableState
 made_usable (BufferIn (Untested access array)) = BufferIn (Usable access array)
 made_usable s = s
 
--- the state on the two ways of an if: a null test teaches, and PushLocalFrame makes a frame where it answers 0
+-- the state on the two branches of an if: a null test teaches, and PushLocalFrame makes a frame where it answers 0
 abbrev pub where_true : RegionState → Test → RegionState
 where_true state (TestExpr (Binary Equal (Variable x) (Named Null))) = with_changed state x made_free
 where_true state (TestExpr (Binary NotEqual (Variable x) (Named Null))) = with_changed state x made_usable
@@ -40,21 +40,21 @@ left outer state = record state { variables = filter (λ v. has_variable outer v
 abbrev pub holds_own : RegionState → RegionState → Bool
 holds_own outer state = holds_buffer (record state { variables = filter (λ v. not (has_variable outer v.0)) state.variables })
 
--- ---- the ways through a function
+-- ---- the paths through a function
 
--- how a way goes on after a statement: with a state, or not at all
-pub data Way : Type 0 where
-  On : RegionState → Way
-  Returned : Way
+-- how a path goes on after a statement: with a state, or not at all
+pub data Path : Type 0 where
+  On : RegionState → Path
+  Returned : Path
 
--- two ways become one: a way that returns joins nothing, and two that go on have equal states
-abbrev pub Join : Way → Way → Way → Type 0
-Join Returned second way = way ≡ second
-Join (On a) Returned way = way ≡ On a
-Join (On a) (On b) way = (a ≡ b) × (way ≡ On a)
+-- two paths become one: a path that returns joins nothing, and two that go on have equal states
+abbrev pub Join : Path → Path → Path → Type 0
+Join Returned second path = path ≡ second
+Join (On a) Returned path = path ≡ On a
+Join (On a) (On b) path = (a ≡ b) × (path ≡ On a)
 
 -- a body comes back to the state in which it began, or not at all
-abbrev pub ComesBack : RegionState → Way → Type 0
+abbrev pub ComesBack : RegionState → Path → Type 0
 ComesBack state Returned = Unit {0}
 ComesBack state (On after) = after ≡ state
 
@@ -64,28 +64,28 @@ IsEnd (End line) = Unit {0}
 IsEnd (Next s rest) = ⊥
 
 abbrev mutual
-  -- with this state before it, the statement keeps the rules, and this is its way after it
-  pub Keeps : RegionState → Stmt → Way → Type 0
-  Keeps before (If line test then') way =
+  -- with this state before it, the statement keeps the rules, and this is its path after it
+  pub Keeps : RegionState → Stmt → Path → Type 0
+  Keeps before (If line test then') path =
       Obeys before (If line test then')
-      × (yes : Way) × KeepsBlock before (where_true before test) then' yes × Join yes (On (where_false before test)) way
-  Keeps before (IfElse line test then' else') way =
+      × (yes : Path) × KeepsBlock before (where_true before test) then' yes × Join yes (On (where_false before test)) path
+  Keeps before (IfElse line test then' else') path =
       Obeys before (IfElse line test then' else')
-      × (yes no : Way) × KeepsBlock before (where_true before test) then' yes × KeepsBlock before (where_false before test) else' no × Join yes no way
-  Keeps before (While line test body) way =
-      Obeys before (While line test body) × (turn : Way) × KeepsBlock before before body turn × ComesBack before turn × (way ≡ On before)
-  Keeps before (Return line) way = Obeys before (Return line) × (way ≡ Returned)
-  Keeps before (ReturnValue line e) way = Obeys before (ReturnValue line e) × (way ≡ Returned)
-  Keeps before s way = Obeys before s × (way ≡ On (state_after before s))
+      × (yes no : Path) × KeepsBlock before (where_true before test) then' yes × KeepsBlock before (where_false before test) else' no × Join yes no path
+  Keeps before (While line test body) path =
+      Obeys before (While line test body) × (turn : Path) × KeepsBlock before before body turn × ComesBack before turn × (path ≡ On before)
+  Keeps before (Return line) path = Obeys before (Return line) × (path ≡ Returned)
+  Keeps before (ReturnValue line e) path = Obeys before (ReturnValue line e) × (path ≡ Returned)
+  Keeps before s path = Obeys before s × (path ≡ On (state_after before s))
 
   -- the same of the rest of a block; the variables of the outer state are not the block's own
-  pub KeepsBlock : RegionState → RegionState → Block → Way → Type 0
-  KeepsBlock outer before (End line) way = IsTrue (not (holds_own outer before)) × (way ≡ On (left outer before))
-  KeepsBlock outer before (Next s rest) way =
-      ((middle : RegionState) × Keeps before s (On middle) × KeepsBlock outer middle rest way)
-      ⊎ (Keeps before s Returned × IsEnd rest × (way ≡ Returned))
+  pub KeepsBlock : RegionState → RegionState → Block → Path → Type 0
+  KeepsBlock outer before (End line) path = IsTrue (not (holds_own outer before)) × (path ≡ On (left outer before))
+  KeepsBlock outer before (Next s rest) path =
+      ((middle : RegionState) × Keeps before s (On middle) × KeepsBlock outer middle rest path)
+      ⊎ (Keeps before s Returned × IsEnd rest × (path ≡ Returned))
 
--- each way through the function ends with a return
+-- each path through the function ends with a return
 abbrev pub AcceptedFunction : Function → Type 0
 AcceptedFunction f = KeepsBlock (state_at_entry f) (state_at_entry f) f.body Returned
 
@@ -93,10 +93,10 @@ AcceptedFunction f = KeepsBlock (state_at_entry f) (state_at_entry f) f.body Ret
 abbrev pub HasRegions : SourceUnit → Type 0
 HasRegions unit = AllByRecursion AcceptedFunction (functions_of unit)
 
--- ---- which rule is broken where: a place is judged where the statements before it on its way keep the rules
+-- ---- which rule is broken where: a place is judged where the statements before it on its path keep the rules
 
--- the states of two ways differ
-abbrev pub Differ : Way → Way → Type 0
+-- the states of two paths differ
+abbrev pub Differ : Path → Path → Type 0
 Differ (On a) (On b) = a ≡ b → ⊥
 Differ first second = ⊥
 
@@ -105,7 +105,7 @@ abbrev pub EndLine : Block → ℕ → Type 0
 EndLine (End line) l = l ≡ line
 EndLine (Next s rest) l = EndLine rest l
 
--- a statement where no way goes
+-- a statement where no path goes
 abbrev pub BreaksAfter : RegionRule → ℕ → Block → Type 0
 BreaksAfter rule l (End line) = ⊥
 BreaksAfter rule l (Next s rest) = (rule ≡ NoReturn) × (l ≡ line_of s)
@@ -120,19 +120,19 @@ abbrev mutual
   BreaksIn rule l before (If line test then') =
       BreaksHere rule l before (If line test then')
       ⊎ Obeys before (If line test then') × BreaksBlock rule l before (where_true before test) then'
-      ⊎ Obeys before (If line test then') × (rule ≡ WaysDiffer) × (l ≡ line)
-      × ((yes : Way) × KeepsBlock before (where_true before test) then' yes × Differ yes (On (where_false before test)))
+      ⊎ Obeys before (If line test then') × (rule ≡ PathsDiffer) × (l ≡ line)
+      × ((yes : Path) × KeepsBlock before (where_true before test) then' yes × Differ yes (On (where_false before test)))
   BreaksIn rule l before (IfElse line test then' else') =
       BreaksHere rule l before (IfElse line test then' else')
       ⊎ Obeys before (IfElse line test then' else')
       × (BreaksBlock rule l before (where_true before test) then'
       ⊎ BreaksBlock rule l before (where_false before test) else')
-      ⊎ Obeys before (IfElse line test then' else') × (rule ≡ WaysDiffer) × (l ≡ line)
-      × ((yes no : Way) × KeepsBlock before (where_true before test) then' yes × KeepsBlock before (where_false before test) else' no × Differ yes no)
+      ⊎ Obeys before (IfElse line test then' else') × (rule ≡ PathsDiffer) × (l ≡ line)
+      × ((yes no : Path) × KeepsBlock before (where_true before test) then' yes × KeepsBlock before (where_false before test) else' no × Differ yes no)
   BreaksIn rule l before (While line test body) =
       BreaksHere rule l before (While line test body)
       ⊎ Obeys before (While line test body) × BreaksBlock rule l before before body
-      ⊎ Obeys before (While line test body) × (rule ≡ WaysDiffer) × (l ≡ line) × ((turn : Way) × KeepsBlock before before body turn × Differ turn (On before))
+      ⊎ Obeys before (While line test body) × (rule ≡ PathsDiffer) × (l ≡ line) × ((turn : Path) × KeepsBlock before before body turn × Differ turn (On before))
   BreaksIn rule l before s = BreaksHere rule l before s
 
   -- the same of the rest of a block

@@ -3,7 +3,7 @@
 ghost use Rattle.std.specs.Prelude.{◌≡◌};
 ghost use Rattle.syntax.specs.Limits.{IsTree};
 ghost use Rattle.syntax.specs.Views.{unit_tree};
-ghost use Rattle.type_rules.specs.SortRules.{IsSorted};
+ghost use Rattle.type_rules.specs.TypeRules.{IsWellTyped};
 ghost use Rattle.region_rules.specs.Regions.{HasRegions};
 ghost use Rattle.region_rules.specs.Endings.{AreEnded};
 
@@ -11,7 +11,7 @@ use std::marker::Model;
 use syntax::Item;
 use type_rules::Typed;
 
-/// A unit that keeps the rules of sorts and regions.
+/// A unit that keeps the rules of types and regions.
 #[derive(Drop)]
 pub struct Checked {
     typed: Typed,
@@ -47,7 +47,7 @@ impl Checked {
     pub fn items(&self) -> &[Item]
         ensures same { result.now ≡ self.now }
         ensures tree { IsTree (unit_tree result.now) }
-        ensures sorted { IsSorted (unit_tree result.now) }
+        ensures well_typed { IsWellTyped (unit_tree result.now) }
         ensures regions { HasRegions (unit_tree result.now) }
         ensures ends { AreEnded (unit_tree result.now) }
     {

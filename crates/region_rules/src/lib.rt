@@ -1,4 +1,4 @@
-//! Which units are accepted: the rules on buffers, references, frames and returns on each way through a function, and
+//! Which units are accepted: the rules on buffers, references, frames and returns on each path through a function, and
 //! units that keep them.
 #![tactic(auto)]
 

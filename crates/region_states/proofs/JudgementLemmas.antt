@@ -11,7 +11,7 @@ use Rattle.region_states.specs.StateEffects.{EffectCall, call_state_effect, got,
 use Rattle.region_rules.specs.FirstFaults.{first_broken}
 use Rattle.region_states.specs.Judgements.{judged, first_judged, is_wrong_release, effected, settled}
 use Rattle.region_states.specs.VariableChanges.{set_from}
-use Rattle.region_rules.specs.RegionRules.{RegionRule, CallWhileCritical, ReturnWithBuffer, HeldBuffer, UntestedBuffer, WrongBuffer, ReturnInFrame, PopLastFrame, DeadReference, ArrayInUse, WaysDiffer, WrongLevel, NoReturn, breaks_region_rule, own_rules, is_put_jint, is_array_in_use, is_level, is_reference_now}
+use Rattle.region_rules.specs.RegionRules.{RegionRule, CallWhileCritical, ReturnWithBuffer, HeldBuffer, UntestedBuffer, WrongBuffer, ReturnInFrame, PopLastFrame, DeadReference, ArrayInUse, PathsDiffer, WrongLevel, NoReturn, breaks_region_rule, own_rules, is_put_jint, is_array_in_use, is_level, is_reference_now}
 use Rattle.region_rules.specs.RegionStates.{RegionState, VariableState, ReferenceAt, BufferIn, FunctionCall, state_of, function_called, call_of, deleted_name, with_new, with_changed, with_some_changed, after_pop, after_release, after_call, killed, buffer_from, set_to, with_set, state_after}
 use Rattle.region_states.specs.StatesInMemory.{asks, holds_of}
 use Rattle.region_states.proofs.EffectLemmas.{get_is, release_is, deleted_is, pops_is, forbidden_is}
@@ -46,7 +46,7 @@ judged_is ArrayInUse state s =
     (ap (some_passes (λ get. not (some_passes (asks condition.Reference state) get.1))) (get_is call))
 judged_is WrongLevel state s =
     ap (λ b. some_passes (λ x. is_reference_now (state_of state x) && not (is_level (if b then state.frames - 1 else state.frames) (state_of state x))) (assigned_name s)) (pops_is (function_called s))
-judged_is WaysDiffer state s = refl
+judged_is PathsDiffer state s = refl
 judged_is NoReturn state s = refl
 
 find_same : (p q : RegionRule → Bool) → ((rule : RegionRule) → p rule ≡ q rule) → (rules : List RegionRule) → find p rules ≡ find q rules

@@ -1,4 +1,4 @@
--- The changes on the ways of a comparison with NULL.
+-- The changes on the paths of a comparison with NULL.
 use Rattle.std.specs.Prelude.{Bool, true, false, not, Option, Some, None}
 use Rattle.syntax.specs.NullTests.{NullTest}
 use Rattle.region_rules.specs.RegionStates.{RegionState, VariableState, with_changed, made_free}

@@ -1,4 +1,4 @@
-//! The state after a statement, and on the ways of a test.
+//! The state after a statement, and on the paths of a test.
 
 ghost use Rattle.std.specs.Prelude.{◌≡◌, ℕ, true, false, bytes_eq, OnOk};
 ghost use Rattle.std.specs.List.{list_any};
@@ -165,7 +165,7 @@ impl<'a> FlowState<'a> {
         }
     }
 
-    /// The state on the way where the test holds. More frames than can be counted are a want of memory.
+    /// The state on the path where the test holds. More frames than can be counted are a want of memory.
     pub fn take_true(&mut self, test: &'a Test) -> Result<(), AllocError>
         ensures { OnOk result (self.new ≡ where_true self.old (test_tree test.now)) }
     {
@@ -178,7 +178,7 @@ impl<'a> FlowState<'a> {
         }
     }
 
-    /// The state on the way where the test doesn't hold.
+    /// The state on the path where the test doesn't hold.
     pub fn take_false(&mut self, test: &'a Test)
         ensures { self.new ≡ where_false self.old (test_tree test.now) }
     {

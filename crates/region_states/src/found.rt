@@ -33,7 +33,7 @@ fn is_sought(state: &FlowState, known: VariableState, sought: Sought) -> bool {
     }
 }
 
-/// A variable of which something else is known on two ways, and what.
+/// A variable of which something else is known on two paths, and what.
 #[derive(Clone, Copy)]
 pub struct Difference<'a> {
     pub name: &'a [u8],

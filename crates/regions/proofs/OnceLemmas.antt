@@ -1,4 +1,4 @@
--- What the rules on sorts say of a unit's names: none that is in scope is declared again.
+-- What the rules on types say of a unit's names: none that is in scope is declared again.
 use Rattle.std.proofs.Common.{◌≡◌, true, false, ◌||◌, List, [], ◌∷◌, ◌++◌, map, Option, Some, None, refl, sym, ap₂, ◌∙◌, bytes_eq}
 use Rattle.std.specs.Prelude.{filter_map, flat_map}
 use Rattle.std.specs.List.{AllByRecursion, IsDistinct, cons_option}
@@ -8,8 +8,8 @@ use Rattle.base.specs.Bytes.{Identifier}
 use Rattle.base.specs.Options.{some_passes}
 use Rattle.syntax.specs.Parts.{line_of, statements_of, statements_within, declared_name, names_declared, parameter_names}
 use Rattle.syntax.specs.Tree.{ResultType, Void, ParameterType, IntParameter, ReferenceParameter, Parameter, ReferenceVariable, Stmt, Declare, DeclareBuffer, DeclareChars, If, IfElse, While, Block, End, Next, Function, Item, StaticItem, FunctionItem, SourceUnit}
-use Rattle.type_rules.specs.Sorts.{Scope, Ref}
-use Rattle.type_rules.specs.SortRules.{Place, StaticForm, HeadForm, StatementForm, has_name, has_repeated, broken_at, places_within, places_of, function_places, item_places, with_declared, parameter_sort, IsSorted, static_sort}
+use Rattle.type_rules.specs.ExprTypes.{Scope, Ref}
+use Rattle.type_rules.specs.TypeRules.{Place, StaticForm, HeadForm, StatementForm, has_name, has_repeated, broken_at, places_within, places_of, function_places, item_places, with_declared, parameter_type, IsWellTyped, static_type}
 use Rattle.region_states.specs.NewNames.{own_names, AreNew, DeclaresNew, DeclareNew, DeclaresOnce, ItemOnce}
 use Rattle.region_rules.specs.RegionStates.{ReferenceAt, parameter_state, state_at_entry}
 use Rattle.region_states.specs.SameStates.{NamedState}
@@ -127,7 +127,7 @@ function_once : (taken : List Identifier) (statics : Scope) (f : Function) → A
 function_once taken statics f h =
     let others = map (λ s. s.0) statics in
     let head : Place = record { line = f.line; known = statics; taken = taken; returns = f.result; form = HeadForm f } in
-    let known : Scope = (f.class_name, Ref) ∷ map (λ p. (p.name, parameter_sort p.type)) f.parameters ++ statics in
+    let known : Scope = (f.class_name, Ref) ∷ map (λ p. (p.name, parameter_type p.type)) f.parameters ++ statics in
     let body = places_of f.result known (parameter_names f ++ others) f.body in
     let once = second_false (has_name taken f.name) (has_repeated (parameter_names f ++ others)) (not_twice head (first_empty (broken_at head) (flat_map broken_at body) h)) in
     let names = map (λ (q : Parameter). q.name) f.parameters ++ others in (
@@ -142,12 +142,12 @@ items_once : (items : List Item) (taken : List Identifier) (statics : Scope) →
 items_once [] taken statics h = tt
 items_once (StaticItem g ∷ items) taken statics h =
     let place : Place = record { line = g.line; known = statics; taken = taken; returns = Void; form = StaticForm g } in
-    (tt, items_once items (g.name ∷ taken) ((g.name, static_sort g.type) ∷ statics) (second_empty (broken_at place) (flat_map broken_at (item_places (g.name ∷ taken) ((g.name, static_sort g.type) ∷ statics) items)) h))
+    (tt, items_once items (g.name ∷ taken) ((g.name, static_type g.type) ∷ statics) (second_empty (broken_at place) (flat_map broken_at (item_places (g.name ∷ taken) ((g.name, static_type g.type) ∷ statics) items)) h))
 items_once (FunctionItem f ∷ items) taken statics h =
     let own = function_places taken statics f in
     let later = item_places (f.name ∷ taken) statics items in
     (function_once taken statics f (front_unbroken own later h), items_once items (f.name ∷ taken) statics (back_unbroken own later h))
 
--- in a sorted unit no name that is in scope is declared again
-pub sorted_once : (unit : SourceUnit) → IsSorted unit → AllByRecursion ItemOnce unit.items
-sorted_once unit sorted = items_once unit.items [] [] sorted
+-- in a well-typed unit no name that is in scope is declared again
+pub typed_once : (unit : SourceUnit) → IsWellTyped unit → AllByRecursion ItemOnce unit.items
+typed_once unit well_typed = items_once unit.items [] [] well_typed

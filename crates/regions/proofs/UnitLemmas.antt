@@ -13,12 +13,12 @@ use Rattle.regions.specs.Findings.{Finds, Refuses, IfBroken, RegionFault, rule_o
 use Rattle.region_rules.specs.FirstFaults.{FirstInFunction, FirstInFunctions, IsFirstRegionFault}
 use Rattle.region_rules.specs.RegionRules.{RegionRule, NoReturn}
 use Rattle.region_rules.specs.RegionStates.{state_at_entry}
-use Rattle.region_rules.specs.Regions.{Way, On, Returned, AcceptedFunction, BreaksFunction, BreaksRegionRule, HasRegions}
-use Rattle.regions.specs.Ways.{Found, way_of_block}
-use Rattle.regions.proofs.Ways.{keeps_block, answers_block}
-use Rattle.regions.proofs.BrokenWays.{function_broken}
+use Rattle.region_rules.specs.Regions.{Path, On, Returned, AcceptedFunction, BreaksFunction, BreaksRegionRule, HasRegions}
+use Rattle.regions.specs.Paths.{Found, path_of_block}
+use Rattle.regions.proofs.Paths.{keeps_block, answers_block}
+use Rattle.regions.proofs.BrokenPaths.{function_broken}
 use Rattle.regions.proofs.FaultLemmas.{end_is, end-line}
-use Rattle.regions.proofs.FirstWays.{firsts_block, first_block_is, no_first_in}
+use Rattle.regions.proofs.FirstPaths.{firsts_block, first_block_is, no_first_in}
 
 -- ---- faults one after another
 
@@ -43,7 +43,7 @@ and_true false b h k = h
 
 -- ---- functions
 
-accepted : (f : Function) (r : Result Way Found) → way_of_block (state_at_entry f) (state_at_entry f) f.body ≡ r → fault_at_end r (end_line_of f.body) ≡ None → AcceptedFunction f
+accepted : (f : Function) (r : Result Path Found) → path_of_block (state_at_entry f) (state_at_entry f) f.body ≡ r → fault_at_end r (end_line_of f.body) ≡ None → AcceptedFunction f
 accepted f (Err e) h none = absurd cc
 accepted f (Ok (On end)) h none = absurd cc
 accepted f (Ok Returned) h none = keeps_block (state_at_entry f) (state_at_entry f) f.body Returned h
@@ -51,7 +51,7 @@ accepted f (Ok Returned) h none = keeps_block (state_at_entry f) (state_at_entry
 some_is : (f g : Found) → ◌≡◌ {A = Option Found} (Some f) (Some g) → f ≡ g
 some_is f g e = cc
 
-faulty : (f : Function) (e : Found) (r : Result Way Found) → way_of_block (state_at_entry f) (state_at_entry f) f.body ≡ r → fault_at_end r (end_line_of f.body) ≡ Some e → FirstInFunction e.1 e.0 f
+faulty : (f : Function) (e : Found) (r : Result Path Found) → path_of_block (state_at_entry f) (state_at_entry f) f.body ≡ r → fault_at_end r (end_line_of f.body) ≡ Some e → FirstInFunction e.1 e.0 f
 faulty f e (Err g) h some = subst (λ (x : Found). FirstInFunction x.1 x.0 f) (some_is g e some) (inl (firsts_block (state_at_entry f) (state_at_entry f) f.body g h))
 faulty f e (Ok (On end)) h some =
     subst (λ (x : Found). FirstInFunction x.1 x.0 f) (some_is (end_line_of f.body, NoReturn) e some)
@@ -68,12 +68,12 @@ pub accepted-all : (functions : List Function) → first_fault functions ≡ Non
 accepted-all [] h = tt
 accepted-all (f ∷ functions) h =
     let both = or_none (function_fault f) (first_fault functions) h in
-    (accepted f (way_of_block (state_at_entry f) (state_at_entry f) f.body) refl both.0, accepted-all functions both.1)
+    (accepted f (path_of_block (state_at_entry f) (state_at_entry f) f.body) refl both.0, accepted-all functions both.1)
 
 faulty-next : (f : Function) (functions : List Function) (e : Found) (o : Option Found) → function_fault f ≡ o → (first_fault functions ≡ Some e → FirstInFunctions e.1 e.0 functions)
     → option_or o (first_fault functions) ≡ Some e → FirstInFunctions e.1 e.0 (f ∷ functions)
-faulty-next f functions e None is further k = inr (accepted f (way_of_block (state_at_entry f) (state_at_entry f) f.body) refl is, further k)
-faulty-next f functions e (Some g) is further k = inl (faulty f e (way_of_block (state_at_entry f) (state_at_entry f) f.body) refl (is ∙ k))
+faulty-next f functions e None is further k = inr (accepted f (path_of_block (state_at_entry f) (state_at_entry f) f.body) refl is, further k)
+faulty-next f functions e (Some g) is further k = inl (faulty f e (path_of_block (state_at_entry f) (state_at_entry f) f.body) refl (is ∙ k))
 
 pub faulty-all : (functions : List Function) (e : Found) → first_fault functions ≡ Some e → FirstInFunctions e.1 e.0 functions
 faulty-all [] e h = absurd cc
@@ -86,13 +86,13 @@ accepted-none functions e h accepted = no_first_in functions e.1 e.0 (faulty-all
 -- ---- a unit has one first fault at most
 
 accepted_is : (f : Function) → AcceptedFunction f → function_fault f ≡ None
-accepted_is f a = ap (λ (r : Result Way Found). fault_at_end r (end_line_of f.body)) (answers_block (state_at_entry f) (state_at_entry f) f.body Returned a)
+accepted_is f a = ap (λ (r : Result Path Found). fault_at_end r (end_line_of f.body)) (answers_block (state_at_entry f) (state_at_entry f) f.body Returned a)
 
 function_fault_is : (f : Function) (rule : RegionRule) (l : ℕ) → FirstInFunction rule l f → function_fault f ≡ Some (l, rule)
 function_fault_is f rule l b =
     elim b [
-      | inl inner ↦ ap (λ (r : Result Way Found). fault_at_end r (end_line_of f.body)) (first_block_is (state_at_entry f) (state_at_entry f) f.body rule l inner)
-      | inr open' ↦ ap (λ (r : Result Way Found). fault_at_end r (end_line_of f.body)) (answers_block (state_at_entry f) (state_at_entry f) f.body (On (open'.2).0) (open'.2).1)
+      | inl inner ↦ ap (λ (r : Result Path Found). fault_at_end r (end_line_of f.body)) (first_block_is (state_at_entry f) (state_at_entry f) f.body rule l inner)
+      | inr open' ↦ ap (λ (r : Result Path Found). fault_at_end r (end_line_of f.body)) (answers_block (state_at_entry f) (state_at_entry f) f.body (On (open'.2).0) (open'.2).1)
           ∙ ap₂ (λ (n : ℕ) (r : RegionRule). Some (n, r)) (end_is f.body (end_line_of f.body) l (end-line f.body) open'.1) (sym open'.0)
     ]
 
@@ -149,8 +149,8 @@ faults_are [] = for_none
 faults_are (f ∷ functions) = by (function_fault f) refl (faults_are functions)
   where
     by : (o : Option Found) → function_fault f ≡ o → AreFunctionFaults functions (filter_map function_fault functions) → AreFunctionFaults (f ∷ functions) (cons_option o (filter_map function_fault functions))
-    by None is further = for_accepted f functions _ (accepted f (way_of_block (state_at_entry f) (state_at_entry f) f.body) refl is) further
-    by (Some e) is further = for_refused f functions e.1 e.0 _ (faulty f e (way_of_block (state_at_entry f) (state_at_entry f) f.body) refl is) further
+    by None is further = for_accepted f functions _ (accepted f (path_of_block (state_at_entry f) (state_at_entry f) f.body) refl is) further
+    by (Some e) is further = for_refused f functions e.1 e.0 _ (faulty f e (path_of_block (state_at_entry f) (state_at_entry f) f.body) refl is) further
 
 faults_of_items : (items : List Item) → items_faults items ≡ filter_map function_fault (functions_of (record { items = items }))
 faults_of_items [] = refl

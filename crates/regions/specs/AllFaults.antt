@@ -1,4 +1,4 @@
--- All faults of a unit's ways that are told, and not only the first.
+-- All faults of a unit's paths that are told, and not only the first.
 use Rattle.std.specs.Prelude.{ℕ, List, [], ◌∷◌}
 use Rattle.syntax.specs.Parts.{functions_of}
 use Rattle.syntax.specs.Tree.{Function, SourceUnit}

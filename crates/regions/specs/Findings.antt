@@ -7,10 +7,10 @@ use Rattle.regions.specs.declared.fault.RegionRule.TheVariants as rules
 use Rattle.places.specs.declared.fault.Fault.{Fault as FaultAt}
 use Rattle.regions.specs.declared.fault.CheckError.{CheckError}
 use Rattle.regions.specs.declared.fault.CheckError.TheVariants.{Memory, Fault}
-use Rattle.region_rules.specs.RegionRules.{RegionRule, CallWhileCritical, ReturnWithBuffer, HeldBuffer, UntestedBuffer, WrongBuffer, ReturnInFrame, PopLastFrame, DeadReference, ArrayInUse, WaysDiffer, WrongLevel, NoReturn}
+use Rattle.region_rules.specs.RegionRules.{RegionRule, CallWhileCritical, ReturnWithBuffer, HeldBuffer, UntestedBuffer, WrongBuffer, ReturnInFrame, PopLastFrame, DeadReference, ArrayInUse, PathsDiffer, WrongLevel, NoReturn}
 use Rattle.region_rules.specs.RegionStates.{state_at_entry}
-use Rattle.region_rules.specs.Regions.{Way, On, Returned}
-use Rattle.regions.specs.Ways.{Found, way_of_block}
+use Rattle.region_rules.specs.Regions.{Path, On, Returned}
+use Rattle.regions.specs.Paths.{Found, path_of_block}
 
 -- the rule of the definitions
 abbrev pub rule_of : RuleInMemory → RegionRule
@@ -23,7 +23,7 @@ rule_of rules.ReturnInFrame = ReturnInFrame
 rule_of rules.PopLastFrame = PopLastFrame
 rule_of rules.DeadReference = DeadReference
 rule_of rules.ArrayInUse = ArrayInUse
-rule_of rules.WaysDiffer = WaysDiffer
+rule_of rules.PathsDiffer = PathsDiffer
 rule_of rules.WrongLevel = WrongLevel
 rule_of rules.NoReturn = NoReturn
 
@@ -57,15 +57,15 @@ abbrev pub end_line_of : Block → ℕ
 end_line_of (End line) = line
 end_line_of (Next s rest) = end_line_of rest
 
--- the fault where a function's body ends with this way
-abbrev pub fault_at_end : Result Way Found → ℕ → Option Found
+-- the fault where a function's body ends with this path
+abbrev pub fault_at_end : Result Path Found → ℕ → Option Found
 fault_at_end (Err e) line = Some e
 fault_at_end (Ok (On state)) line = Some (line, NoReturn)
 fault_at_end (Ok Returned) line = None
 
 -- a function's first fault
 abbrev pub function_fault : Function → Option Found
-function_fault f = fault_at_end (way_of_block (state_at_entry f) (state_at_entry f) f.body) (end_line_of f.body)
+function_fault f = fault_at_end (path_of_block (state_at_entry f) (state_at_entry f) f.body) (end_line_of f.body)
 
 -- the fault of an item
 abbrev pub item_fault : Item → Option Found

@@ -14,7 +14,7 @@ use region_rules::Checked;
 use std::alloc::{AllocError, Global};
 use type_rules::Typed;
 
-/// The unit, where each way through its functions keeps the rules. Each statement is read once, with the references and
+/// The unit, where each path through its functions keeps the rules. Each statement is read once, with the references and
 /// buffers in scope, among which a name is found in constant time; what is known of these is copied once for each `if`
 /// and each loop.
 pub fn check(alloc: Global, typed: Typed) -> Result<Checked, CheckError>

@@ -9,7 +9,7 @@ use places::{Fault, Line};
 use std::alloc::{AllocError, AllocFailed};
 use thiserror::Error;
 
-/// A rule on the buffers, references, frames and ways of a function (JNI Specification, chapter 4, and ISO/IEC 9899:1999,
+/// A rule on the buffers, references, frames and paths of a function (JNI Specification, chapter 4, and ISO/IEC 9899:1999,
 /// 6.9.1).
 #[derive(Clone, Copy, Debug)]
 pub enum RegionRule {
@@ -31,8 +31,8 @@ pub enum RegionRule {
     DeadReference,
     /// The array variable of a held buffer is set, deleted or popped, or a Get is of no local variable.
     ArrayInUse,
-    /// What is known differs where ways join.
-    WaysDiffer,
+    /// What is known differs where paths join.
+    PathsDiffer,
     /// A reference is set in another frame than that of its declaration.
     WrongLevel,
     /// A function's end is reached without a return, or there is a statement after one.
@@ -54,7 +54,7 @@ impl RegionRule {
             RegionRule::PopLastFrame => 37,
             RegionRule::DeadReference => 38,
             RegionRule::ArrayInUse => 39,
-            RegionRule::WaysDiffer => 40,
+            RegionRule::PathsDiffer => 40,
             RegionRule::WrongLevel => 41,
             RegionRule::NoReturn => 42,
         }

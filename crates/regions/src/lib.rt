@@ -1,4 +1,4 @@
-//! The rules on ways through a function: which uses of buffers, references and frames are accepted.
+//! The rules on paths through a function: which uses of buffers, references and frames are accepted.
 #![tactic(auto)]
 
 mod checked;

@@ -207,7 +207,7 @@ pub(crate) fn statement_detail(state: &FlowState<'_>, form: &Form, rule: RegionR
         RegionRule::DeadReference => dead_detail(state, form),
         RegionRule::ArrayInUse => array_detail(state, form, call),
         RegionRule::WrongLevel => level_detail(state, form, call),
-        RegionRule::WaysDiffer | RegionRule::NoReturn => Detail::none(),
+        RegionRule::PathsDiffer | RegionRule::NoReturn => Detail::none(),
     }
 }
 
@@ -241,19 +241,19 @@ fn kind_of(known: VariableState<'_>) -> &'static [u8] {
     }
 }
 
-/// What is known otherwise after the first of two ways, which these facts are of, than after the second.
-pub(crate) fn ways_detail(first: &Facts<'_>, state: &FlowState<'_>) -> Detail {
+/// What is known otherwise after the first of two paths, which these facts are of, than after the second.
+pub(crate) fn paths_detail(first: &Facts<'_>, state: &FlowState<'_>) -> Detail {
     match state.first_difference(first) {
         Some(difference) => {
             let detail = Detail::of(kind_of(difference.first))
                 .words(difference.name)
                 .words(b" is ");
-            let detail = with_known(detail, difference.first).words(b" on one way, ");
+            let detail = with_known(detail, difference.first).words(b" on one path, ");
             with_known(detail, difference.second).words(b" on the other")
         }
         None => Detail::of(b"frames: ")
             .number(first.frames)
-            .words(b" on one way, ")
+            .words(b" on one path, ")
             .number(state.frames())
             .words(b" on the other"),
     }

@@ -1,4 +1,4 @@
-//! The ways through a function.
+//! The paths through a function.
 
 ghost use Rattle.std.specs.Prelude.{◌≡◌, ◌≤◌, ◌++◌, ℕ, List, Option, map, length, OnOk, IfOk};
 ghost use Rattle.std.specs.Option.{option_to_list};
@@ -8,14 +8,14 @@ ghost use Rattle.syntax.specs.Tree.{End};
 ghost use Rattle.syntax.specs.Views.{block_tree, stmt_tree, test_tree, form_tree, function_tree, item_tree};
 ghost use Rattle.region_rules.specs.RegionStates.{RegionState, state_at_entry};
 ghost use Rattle.region_rules.specs.Regions.{where_true, where_false};
-ghost use Rattle.regions.specs.Ways.{Found, join_ways, way_of, way_of_block};
+ghost use Rattle.regions.specs.Paths.{Found, join_paths, path_of, path_of_block};
 ghost use Rattle.region_states.specs.StatesInMemory.{names_of, Grows};
 ghost use Rattle.region_states.specs.NewNames.{own_names, AreNew, DeclaresNew, DeclareNew, DeclaresOnce, ItemOnce};
 ghost use Rattle.regions.specs.Findings.{Finds, fault_of, function_fault, item_fault, items_fault, items_faults};
-ghost use Rattle.regions.specs.Walks.{WayOrFault, way_value, Goes, Branches, Awaits, go_on, plain_way, inner_way};
+ghost use Rattle.regions.specs.Walks.{PathOrFault, path_value, Goes, Branches, Awaits, go_on, plain_path, inner_path};
 
 use crate::fault::{CheckError, RegionFault, RegionRule};
-use crate::joins::{Branch, Way, join, no_turn, one_way, refuse, take_else, take_then};
+use crate::joins::{Branch, Path, join, no_turn, one_path, refuse, take_else, take_then};
 use crate::rules::{first_broken, is_return};
 use crate::telling::{end_detail, held_detail, statement_detail, unreached_detail};
 use places::{Fault, Line};
@@ -24,153 +24,157 @@ use semantics::CALL_LEVEL;
 use std::alloc::{AllocError, Global};
 use syntax::{Block, Form, Function, Item, ParameterType, Stmt, Test};
 
-/// A block's end on this line, where the block began with this many variables and its way so far is this one.
-fn end(state: &mut FlowState, count: usize, way: Way, line: usize) -> Result<Way, CheckError>
+/// A block's end on this line, where the block began with this many variables and its path so far is this one.
+fn end(state: &mut FlowState, count: usize, path: Path, line: usize) -> Result<Path, CheckError>
     requires { count ≤ length (names_of state.old) }
     ensures goes { (outer : RegionState) → count ≡ length (names_of outer) → Grows outer state.old
-        → Goes result state.new (go_on outer (way_value way state.old) (End line)) }
+        → Goes result state.new (go_on outer (path_value path state.old) (End line)) }
     ensures names { (outer : RegionState) → count ≡ length (names_of outer) → Grows outer state.old
         → IfOk result (λ _. names_of state.new ≡ names_of outer) }
 {
-    match way {
-        Way::On => {
+    match path {
+        Path::On => {
             if state.holds_own(count) {
                 return refuse(RegionRule::HeldBuffer, line, held_detail(state, count));
             }
             state.truncate(count);
-            Ok(Way::On)
+            Ok(Path::On)
         }
-        Way::Returned => {
+        Path::Returned => {
             state.truncate(count);
-            Ok(Way::Returned)
+            Ok(Path::Returned)
         }
     }
 }
 
-/// The way after a statement without blocks.
-fn plain_way<'a>(state: &mut FlowState<'a>, form: &'a Form) -> Result<Way, CheckError>
+/// The path after a statement without blocks.
+fn plain_path<'a>(state: &mut FlowState<'a>, form: &'a Form) -> Result<Path, CheckError>
     requires { (line : ℕ) → AreNew (names_of state.old) (own_names (form_tree line form.now)) }
-    ensures goes { (line : ℕ) → Goes result state.new (plain_way state.old (form_tree line form.now)) }
+    ensures goes { (line : ℕ) → Goes result state.new (plain_path state.old (form_tree line form.now)) }
     ensures names { (line : ℕ) → IfOk result (λ _. names_of state.new
         ≡ names_of state.old ++ own_names (form_tree line form.now)) }
 {
     if is_return(form) {
-        return Ok(Way::Returned);
+        return Ok(Path::Returned);
     }
     state.pass(form)?;
-    Ok(Way::On)
+    Ok(Path::On)
 }
 
-/// The way through the block after a test that holds. The state is then that where it does not.
+/// The path through the block after a test that holds. The state is then that where it does not.
 #[cycle(walk)]
-fn then_way<'a>(
+fn then_path<'a>(
     alloc: Global,
     state: &mut FlowState<'a>,
     test: &'a Test,
     then: &'a Block,
 ) -> Result<Branch<'a>, CheckError>
     requires { DeclareNew (names_of state.old) (block_tree then.now) }
-    ensures { Branches result state.new (way_of_block state.old (where_true state.old (test_tree test.now))
+    ensures { Branches result state.new (path_of_block state.old (where_true state.old (test_tree test.now))
         (block_tree then.now)) (where_false state.old (test_tree test.now)) }
 {
     match take_then(alloc, state, test) {
         Ok(before) => {
-            let first = block_way(alloc, state, then);
+            let first = block_path(alloc, state, then);
             take_else(state, test, first, before)
         }
         Err(e) => Err(e),
     }
 }
 
-/// The way after this first branch and a block, which is the second.
+/// The path after this first branch and a block, which is the second.
 #[cycle(walk)]
-fn other_way<'a>(
+fn other_path<'a>(
     alloc: Global,
     state: &mut FlowState<'a>,
     line: usize,
     first: Result<Branch<'a>, CheckError>,
     block: &'a Block,
-) -> Result<Way, CheckError>
+) -> Result<Path, CheckError>
     requires saved { Awaits first state.old }
     requires new { IfOk first (λ _. DeclareNew (names_of state.old) (block_tree block.now)) }
-    ensures goes { (outer : RegionState) (expected : WayOrFault) (other : RegionState) → names_of outer ≡ names_of other
+    ensures goes { (outer : RegionState) (expected : PathOrFault) (other : RegionState) → names_of outer ≡ names_of other
         → Branches first.entry state.old expected other
-        → Goes result state.new (join_ways line expected (way_of_block outer other (block_tree block.now))) }
+        → Goes result state.new (join_paths line expected (path_of_block outer other (block_tree block.now))) }
     ensures names { (names : List Identifier) → IfOk first.entry (λ _. names_of state.old ≡ names)
         → IfOk result (λ _. names_of state.new ≡ names) }
 {
     match first {
         Ok(first) => {
-            let second = block_way(alloc, state, block);
+            let second = block_path(alloc, state, block);
             join(state, line, first, second)
         }
         Err(e) => Err(e),
     }
 }
 
-/// The way after a statement on this line that keeps the rules itself.
+/// The path after a statement on this line that keeps the rules itself.
 #[cycle(walk)]
-fn inner_way<'a>(
+fn inner_path<'a>(
     alloc: Global,
     state: &mut FlowState<'a>,
     line: usize,
     form: &'a Form,
-) -> Result<Way, CheckError>
+) -> Result<Path, CheckError>
     requires { DeclaresNew (names_of state.old) (form_tree line form.now) }
-    ensures goes { Goes result state.new (inner_way state.old (form_tree line form.now)) }
+    ensures goes { Goes result state.new (inner_path state.old (form_tree line form.now)) }
     ensures names { IfOk result (λ _. names_of state.new ≡ names_of state.old ++ own_names (form_tree line form.now)) }
 {
     match form {
         Form::If(test, b) => {
-            let first = then_way(alloc, state, test, b);
-            one_way(state, line, first)
+            let first = then_path(alloc, state, test, b);
+            one_path(state, line, first)
         }
         Form::IfElse(test, b, d) => {
-            let first = then_way(alloc, state, test, b);
-            other_way(alloc, state, line, first, d)
+            let first = then_path(alloc, state, test, b);
+            other_path(alloc, state, line, first, d)
         }
         Form::While(_, b) => {
             let before = no_turn(alloc, state);
-            other_way(alloc, state, line, before, b)
+            other_path(alloc, state, line, before, b)
         }
-        _ => plain_way(state, form),
+        _ => plain_path(state, form),
     }
 }
 
-/// The way after a statement.
+/// The path after a statement.
 #[cycle(walk)]
-fn stmt_way<'a>(alloc: Global, state: &mut FlowState<'a>, stmt: &'a Stmt) -> Result<Way, CheckError>
+fn stmt_path<'a>(
+    alloc: Global,
+    state: &mut FlowState<'a>,
+    stmt: &'a Stmt,
+) -> Result<Path, CheckError>
     requires { DeclaresNew (names_of state.old) (stmt_tree stmt.now) }
-    ensures goes { Goes result state.new (way_of state.old (stmt_tree stmt.now)) }
+    ensures goes { Goes result state.new (path_of state.old (stmt_tree stmt.now)) }
     ensures names { IfOk result (λ _. names_of state.new ≡ names_of state.old ++ own_names (stmt_tree stmt.now)) }
 {
     match first_broken(state, &stmt.form) {
         Some(rule) => refuse(rule, stmt.line, statement_detail(state, &stmt.form, rule)),
-        None => inner_way(alloc, state, stmt.line, &stmt.form),
+        None => inner_path(alloc, state, stmt.line, &stmt.form),
     }
 }
 
-/// The way through a block, where the variables that were there before it are not its own. After a return there is nothing.
+/// The path through a block, where the variables that were there before it are not its own. After a return there is nothing.
 #[cycle(walk)]
-fn block_way<'a>(
+fn block_path<'a>(
     alloc: Global,
     state: &mut FlowState<'a>,
     block: &'a Block,
-) -> Result<Way, CheckError>
+) -> Result<Path, CheckError>
     requires { DeclareNew (names_of state.old) (block_tree block.now) }
     ensures goes { (outer : RegionState) → names_of outer ≡ names_of state.old
-        → Goes result state.new (way_of_block outer state.old (block_tree block.now)) }
+        → Goes result state.new (path_of_block outer state.old (block_tree block.now)) }
     ensures names { IfOk result (λ _. names_of state.new ≡ names_of state.old) }
 {
     let count = state.len();
-    let mut way = Way::On;
+    let mut path = Path::On;
     for stmt in &block.statements {
-        match way {
-            Way::On => way = stmt_way(alloc, state, stmt)?,
-            Way::Returned => return refuse(RegionRule::NoReturn, stmt.line, unreached_detail()),
+        match path {
+            Path::On => path = stmt_path(alloc, state, stmt)?,
+            Path::Returned => return refuse(RegionRule::NoReturn, stmt.line, unreached_detail()),
         }
     }
-    end(state, count, way, block.end_line)
+    end(state, count, path, block.end_line)
 }
 
 /// What is known at a function's beginning: the class and its references are live, in one frame.
@@ -194,7 +198,7 @@ fn enter<'a>(state: &mut FlowState<'a>, f: &'a Function) -> Result<(), AllocErro
     state.add(f.class_name.as_bytes(), known)
 }
 
-/// The ways through a function. What the state was before is forgotten.
+/// The paths through a function. What the state was before is forgotten.
 fn check_function<'a>(
     alloc: Global,
     state: &mut FlowState<'a>,
@@ -204,16 +208,16 @@ fn check_function<'a>(
     ensures { Finds result (function_fault (function_tree f.now)) }
 {
     enter(state, f)?;
-    match block_way(alloc, state, &f.body)? {
-        Way::On => Err(CheckError::Fault(Fault {
+    match block_path(alloc, state, &f.body)? {
+        Path::On => Err(CheckError::Fault(Fault {
             rule: RegionRule::NoReturn,
             line: Line::told(f.body.end_line, end_detail(&f.name)),
         })),
-        Way::Returned => Ok(()),
+        Path::Returned => Ok(()),
     }
 }
 
-/// The ways through an item.
+/// The paths through an item.
 fn check_item<'a>(
     alloc: Global,
     state: &mut FlowState<'a>,
@@ -228,7 +232,7 @@ fn check_item<'a>(
     }
 }
 
-/// The ways through the functions of a unit, one after another in the same state.
+/// The paths through the functions of a unit, one after another in the same state.
 #[tactic(auto, using(crate::proofs::UnitLemmas::finds_rules))]
 fn check_each<'a>(
     alloc: Global,
@@ -244,7 +248,7 @@ fn check_each<'a>(
     Ok(())
 }
 
-/// The ways through the functions of a unit. All share one state, so the memory is taken once.
+/// The paths through the functions of a unit. All share one state, so the memory is taken once.
 pub(crate) fn check_items<'a>(alloc: Global, items: &'a [Item]) -> Result<(), CheckError>
     requires { AllByRecursion ItemOnce (map item_tree items.now) }
     ensures { Finds result (items_fault (map item_tree items.now)) }
@@ -268,7 +272,7 @@ fn keep(faults: &mut Vec<RegionFault>, found: Result<(), CheckError>) -> Result<
     }
 }
 
-/// The first fault of each function of a unit, behind those before it. The ways of all go through the same state.
+/// The first fault of each function of a unit, behind those before it. The paths of all go through the same state.
 fn gather_each<'a>(
     alloc: Global,
     state: &mut FlowState<'a>,

@@ -3,7 +3,7 @@
 ghost use Rattle.std.specs.Prelude.{◌≡◌, [], IfOk, IfErr, OnOk};
 ghost use Rattle.syntax.specs.Limits.{IsTree};
 ghost use Rattle.syntax.specs.Views.{unit_tree};
-ghost use Rattle.type_rules.specs.SortRules.{IsSorted};
+ghost use Rattle.type_rules.specs.TypeRules.{IsWellTyped};
 ghost use Rattle.sinks.specs.Sink.{CanFail};
 ghost use Rattle.semantics.specs.World.{World};
 ghost use Rattle.replay_threads.specs.States.{AreInRange};
@@ -32,7 +32,7 @@ fn follow<'a>(
     journal: &[Entry],
 ) -> Result<(), ReplayError>
     requires tree { IsTree (unit_tree functions.now) }
-    requires sorted { IsSorted (unit_tree functions.now) }
+    requires well_typed { IsWellTyped (unit_tree functions.now) }
     requires range { AreInRange state.old.threads.items }
     ensures end { OnOk result (LeadsTo (unit_tree functions.now) state.old journal.now state.new) }
     ensures refused { IfErr result (IsRefusedFrom (unit_tree functions.now) state.old journal.now) }
@@ -114,7 +114,7 @@ fn replay_from<'a, W: Sink>(
 ) -> Result<Option<TrapAt>, ReplayError>
     requires sink { CanFail (W.written out.old) }
     requires tree { IsTree (unit_tree functions.now) }
-    requires sorted { IsSorted (unit_tree functions.now) }
+    requires well_typed { IsWellTyped (unit_tree functions.now) }
     requires range { AreInRange state.old.threads.items }
     ensures { (w : World) → Replayed (unit_tree functions.now) w [] state.old
         → Answers (unit_tree functions.now) w journal.now (W.written out.old) (W.written out.new) result }
@@ -134,7 +134,7 @@ fn replay_with<W: Sink>(
 ) -> Result<Option<TrapAt>, ReplayError>
     requires sink { CanFail (W.written out.old) }
     requires tree { IsTree (unit_tree functions.now) }
-    requires sorted { IsSorted (unit_tree functions.now) }
+    requires well_typed { IsWellTyped (unit_tree functions.now) }
     ensures { Answers (unit_tree functions.now) world.now journal.now (W.written out.old) (W.written out.new) result }
 {
     let mut state = start(alloc, functions, world)?;

@@ -2,7 +2,7 @@
 
 ghost use Rattle.std.specs.Prelude.{◌≡◌, ◌≤◌, IfOk, IfErr, flat_map, length, map, [], None};
 ghost use Rattle.syntax.specs.Views.{unit_tree, function_tree};
-ghost use Rattle.type_rules.specs.SortRules.{IsSorted};
+ghost use Rattle.type_rules.specs.TypeRules.{IsWellTyped};
 ghost use Rattle.world_values.specs.Views.{object_value_view};
 ghost use Rattle.semantics.specs.Load.{call_loads, is_callable, first_load_fault, refused_calls};
 ghost use Rattle.semantics.specs.Start.{start};
@@ -159,7 +159,7 @@ fn waiting_threads<'a>(alloc: Global, world: &'a World) -> Result<Vec<Thread<'a>
 /// What all threads share before the first entry: the objects that are made at load, statics that are all NULL, no
 /// global reference, and no monitor.
 fn loaded<'a>(alloc: Global, items: &'a [Item], world: &World) -> Result<Shared<'a>, AllocError>
-    requires { IsSorted (unit_tree items.now) }
+    requires { IsWellTyped (unit_tree items.now) }
     ensures { IfOk result (λ shared. shared_view shared ≡ (start (unit_tree items.entry.now) world.now).shared) }
 {
     Ok(Shared {
@@ -176,7 +176,7 @@ fn begun<'a>(
     functions: &Functions<'a>,
     world: &'a World,
 ) -> Result<State<'a>, AllocError>
-    requires sorted { IsSorted (unit_tree functions.now) }
+    requires well_typed { IsWellTyped (unit_tree functions.now) }
     requires fits { first_load_fault (unit_tree functions.now) world.now ≡ None }
     ensures stands { IfOk result (λ m. Stands (unit_tree functions.now) world.now m
         (start (unit_tree functions.now) world.now)) }
@@ -199,7 +199,7 @@ pub fn start<'a>(
     functions: &Functions<'a>,
     world: &'a World,
 ) -> Result<State<'a>, ReplayError>
-    requires { IsSorted (unit_tree functions.now) }
+    requires { IsWellTyped (unit_tree functions.now) }
     ensures stands { IfOk result (λ m. Stands (unit_tree functions.now) world.now m
         (start (unit_tree functions.now) world.now)) }
     ensures range { IfOk result (λ m. AreInRange m.threads.items) }

@@ -151,7 +151,7 @@ fn begin_turn<'a>(
     Ok(())
 }
 
-/// Begins the way that a call's answer decides in the place of the task that is begun.
+/// Begins the branch that a call's answer decides in the place of the task that is begun.
 #[inline]
 fn begin_branch<'a>(
     place: &mut Option<Task<'a>>,

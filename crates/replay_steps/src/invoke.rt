@@ -43,7 +43,7 @@ pub(crate) fn invoke<'a>(
     i: &mut Invocation<'a>,
 ) -> Result<Outcome<'a>, AllocError>
     requires numbers { OperandsInRange i.old.operands.items }
-    requires ways { PurposeInRange i.old.purpose }
+    requires branches { PurposeInRange i.old.purpose }
     requires grown { IsGrown turn.classes.now }
     ensures step { IfOk result (λ o. Does turn.entry.refused
         (scene_at turn.entry shared.old locals.old pending.old) (task.Invoke i.old) o
@@ -69,7 +69,7 @@ fn make_call<'a>(
     locals: &mut Locals<'a>,
     i: &Invocation<'a>,
 ) -> Result<Outcome<'a>, AllocError>
-    requires ways { PurposeInRange i.now.purpose }
+    requires branches { PurposeInRange i.now.purpose }
     requires grown { IsGrown turn.classes.now }
     ensures step { IfOk result (λ o. MakesInvocation turn.entry.refused
         (scene_at turn.entry shared.old locals.old pending.old) i.entry.now o
@@ -189,7 +189,7 @@ fn call<'a>(
     i: &Invocation<'a>,
     actuals: &[Actual<'a>],
 ) -> Result<Outcome<'a>, AllocError>
-    requires ways { PurposeInRange i.now.purpose }
+    requires branches { PurposeInRange i.now.purpose }
     requires grown { IsGrown turn.classes.now }
     ensures step { IfOk result (λ o. MakesCallOf turn.entry.refused
         (scene_at turn.entry shared.old locals.old pending.old) i.entry.now (map actual_view actuals.entry.now) o

@@ -1,4 +1,4 @@
--- In a sorted unit each call is of a function that is there.
+-- In a well-typed unit each call is of a function that is there.
 use Rattle.std.proofs.Common.{◌≡◌, Bool, true, not, ◌&&◌, List, [], ◌∷◌, ◌++◌, map, refl, ap, ◌∙◌}
 use Rattle.std.specs.Prelude.{flat_map}
 use Rattle.std.specs.List.{list_any, list_all}
@@ -6,20 +6,20 @@ use Rattle.std.proofs.lemmas.List.Folds.{list_all-append}
 use Rattle.base.specs.Bytes.{Identifier}
 use Rattle.syntax.specs.Parts.{functions_of, line_of, names_declared, parameter_names, statements_of, statements_within}
 use Rattle.syntax.specs.Tree.{ResultType, Void, Stmt, If, IfElse, While, Block, End, Next, Function, Item, StaticItem, FunctionItem, SourceUnit}
-use Rattle.type_rules.specs.Sorts.{Ref, Scope}
-use Rattle.type_rules.specs.SortRules.{SortRule, UnknownName, DeclaredTwice, SortMisfit, UnknownFunction, ArgumentCount, ReferenceCopied, BadMode, ReadOnlyWrite, sort_rules, Place, StaticForm, HeadForm, StatementForm, breaks, broken_at, parameter_sort, with_declared, places_within, places_of, function_places, item_places, IsSorted, static_sort}
+use Rattle.type_rules.specs.ExprTypes.{Ref, Scope}
+use Rattle.type_rules.specs.TypeRules.{TypeRule, UnknownName, DeclaredTwice, TypeMisfit, UnknownFunction, ArgumentCount, ReferenceCopied, BadMode, ReadOnlyWrite, typing_rules, Place, StaticForm, HeadForm, StatementForm, breaks, broken_at, parameter_type, with_declared, places_within, places_of, function_places, item_places, IsWellTyped, static_type}
 use Rattle.type_rules.proofs.PlaceLists.{AreUnbroken, first_empty, second_empty, front_unbroken, back_unbroken, none_broken, first_false, second_false}
 use Rattle.replay_tasks.specs.Tasks.{calls_known}
 
 -- the rules after that on functions, and so on
-abbrev after_functions : List SortRule
+abbrev after_functions : List TypeRule
 after_functions = ArgumentCount ∷ ReferenceCopied ∷ BadMode ∷ ReadOnlyWrite ∷ []
 
-abbrev after_sorts : List SortRule
-after_sorts = UnknownFunction ∷ after_functions
+abbrev after_types : List TypeRule
+after_types = UnknownFunction ∷ after_functions
 
-abbrev after_twice : List SortRule
-after_twice = SortMisfit ∷ after_sorts
+abbrev after_twice : List TypeRule
+after_twice = TypeMisfit ∷ after_types
 
 abbrev place_of : ResultType → Scope → List Identifier → Stmt → Place
 place_of returns known taken s = record { line = line_of s; known = known; taken = taken; returns = returns; form = StatementForm s }
@@ -28,11 +28,11 @@ place_of returns known taken s = record { line = line_of s; known = known; taken
 here : (returns : ResultType) (known : Scope) (taken : List Identifier) (s : Stmt) → broken_at (place_of returns known taken s) ≡ [] → calls_known s ≡ true
 here returns known taken s none =
     let place = place_of returns known taken s in
-    let p : SortRule → Bool = λ rule. breaks rule place place.form in
-    let names = second_false (p UnknownName) (list_any p (DeclaredTwice ∷ after_twice)) (none_broken p (line_of s) sort_rules none) in
+    let p : TypeRule → Bool = λ rule. breaks rule place place.form in
+    let names = second_false (p UnknownName) (list_any p (DeclaredTwice ∷ after_twice)) (none_broken p (line_of s) typing_rules none) in
     let twice = second_false (p DeclaredTwice) (list_any p after_twice) names in
-    let sorts = second_false (p SortMisfit) (list_any p after_sorts) twice in
-    ap not (first_false (p UnknownFunction) (list_any p after_functions) sorts)
+    let types = second_false (p TypeMisfit) (list_any p after_types) twice in
+    ap not (first_false (p UnknownFunction) (list_any p after_functions) types)
 
 -- it, and those inside it
 both : (a b : Bool) → a ≡ true → b ≡ true → (a && b) ≡ true
@@ -81,7 +81,7 @@ mutual
 body : (taken : List Identifier) (statics : Scope) (f : Function) → AreUnbroken (function_places taken statics f) → list_all calls_known (statements_of f.body) ≡ true
 body taken statics f h =
     let head : Place = record { line = f.line; known = statics; taken = taken; returns = f.result; form = HeadForm f } in
-    let known : Scope = (f.class_name, Ref) ∷ map (λ p. (p.name, parameter_sort p.type)) f.parameters ++ statics in
+    let known : Scope = (f.class_name, Ref) ∷ map (λ p. (p.name, parameter_type p.type)) f.parameters ++ statics in
     let names = parameter_names f ++ map (λ s. s.0) statics in
     block f.result known names f.body (second_empty (broken_at head) (flat_map broken_at (places_of f.result known names f.body)) h)
 
@@ -92,8 +92,8 @@ items_known : (items : List Item) (taken : List Identifier) (statics : Scope) �
 items_known [] taken statics h = refl
 items_known (StaticItem g ∷ items) taken statics h =
     let place : Place = record { line = g.line; known = statics; taken = taken; returns = Void; form = StaticForm g } in
-    let further = item_places (g.name ∷ taken) ((g.name, static_sort g.type) ∷ statics) items in
-    items_known items (g.name ∷ taken) ((g.name, static_sort g.type) ∷ statics) (second_empty (broken_at place) (flat_map broken_at further) h)
+    let further = item_places (g.name ∷ taken) ((g.name, static_type g.type) ∷ statics) items in
+    items_known items (g.name ∷ taken) ((g.name, static_type g.type) ∷ statics) (second_empty (broken_at place) (flat_map broken_at further) h)
 items_known (FunctionItem f ∷ items) taken statics h =
     let own = function_places taken statics f in
     let further = item_places (f.name ∷ taken) statics items in
@@ -101,5 +101,5 @@ items_known (FunctionItem f ∷ items) taken statics h =
     (body taken statics f (front_unbroken own further h))
     (items_known items (f.name ∷ taken) statics (back_unbroken own further h))
 
-pub known_calls : (unit : SourceUnit) → IsSorted unit → all_known (functions_of unit) ≡ true
-known_calls unit sorted = items_known unit.items [] [] sorted
+pub known_calls : (unit : SourceUnit) → IsWellTyped unit → all_known (functions_of unit) ≡ true
+known_calls unit well_typed = items_known unit.items [] [] well_typed

@@ -22,7 +22,7 @@ use Rattle.syntax.specs.Limits.{IsTree, numbers_in_range}
 use Rattle.syntax.specs.Parts.{argument_expressions, functions_of, statements_of, statements_within}
 use Rattle.syntax.specs.Views.{argument_tree, stmt_tree, block_tree, function_tree, unit_tree}
 use Rattle.syntax.proofs.Blocks.{block_is, statements_tree}
-use Rattle.type_rules.specs.SortRules.{IsSorted}
+use Rattle.type_rules.specs.TypeRules.{IsWellTyped}
 use Rattle.semantics.specs.Activation.{function_at}
 use Rattle.semantics.specs.Task.{Task, operand, task_of, tasks_of}
 use Rattle.replay_terms.specs.declared.operand.Operand.{Operand}
@@ -115,11 +115,11 @@ entered_in_range None h = tt
 entered_in_range (Some b) h = block_in_range b.now h
 
 -- the statements of a function that is found
-pub body_in_range : (items : List Item) (name : List ℕ) (f : FunctionInMemory) → IsTree (unit_tree items) → IsSorted (unit_tree items) → function_at (unit_tree items) name ≡ Some (function_tree f) → StatementsInRange (out-Block f.body).statements.items
-body_in_range items name f tree sorted found =
+pub body_in_range : (items : List Item) (name : List ℕ) (f : FunctionInMemory) → IsTree (unit_tree items) → IsWellTyped (unit_tree items) → function_at (unit_tree items) name ≡ Some (function_tree f) → StatementsInRange (out-Block f.body).statements.items
+body_in_range items name f tree well_typed found =
     block_in_range f.body (record {
       numbers = found_passes (λ g. bytes_eq g.name name) (λ g. list_all has_numbers_in_range (statements_of g.body)) (functions_of (unit_tree items)) (function_tree f) found tree.numbers;
-      known = found_passes (λ g. bytes_eq g.name name) (λ g. list_all calls_known (statements_of g.body)) (functions_of (unit_tree items)) (function_tree f) found (known_calls (unit_tree items) sorted);
+      known = found_passes (λ g. bytes_eq g.name name) (λ g. list_all calls_known (statements_of g.body)) (functions_of (unit_tree items)) (function_tree f) found (known_calls (unit_tree items) well_typed);
     })
 
 -- ---- the arguments of a call

@@ -45,10 +45,10 @@ IsAssignment (task.SetElement a) = Unit {0}
 IsAssignment t = ⊥
 
 -- it is an `if` or a loop
-abbrev pub HasWays : TaskInMemory → Type 0
-HasWays (task.Branch c) = Unit {0}
-HasWays (task.Loop i) = Unit {0}
-HasWays t = ⊥
+abbrev pub HasBranches : TaskInMemory → Type 0
+HasBranches (task.Branch c) = Unit {0}
+HasBranches (task.Loop i) = Unit {0}
+HasBranches t = ⊥
 
 -- it prints a value or returns it
 abbrev pub IsEvaluation : TaskInMemory → Type 0

@@ -163,7 +163,7 @@ abbrev pub OperandsInRange : List OperandInMemory → Type 0
 OperandsInRange [] = Unit {0}
 OperandsInRange (o ∷ rest) = OperandInRange o × OperandsInRange rest
 
--- the same of the two ways of an `if` whose test is a call
+-- the same of the two branches of an `if` whose test is a call
 abbrev pub PurposeInRange : Purpose → Type 0
 PurposeInRange (purpose.Put to) = Unit {0}
 PurposeInRange (purpose.Test b other) = BlockInRange (block_tree b.now) × ElseInRange other

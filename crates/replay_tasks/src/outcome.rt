@@ -34,7 +34,7 @@ pub enum Target<'a> {
 pub enum Purpose<'a> {
     /// It goes there.
     Put(Target<'a>),
-    /// It is the test of an `if`, with its two ways.
+    /// It is the test of an `if`, with its two branches.
     Test(&'a Block, Option<&'a Block>),
 }
 
@@ -75,7 +75,7 @@ pub enum Outcome<'a> {
     Gives(Target<'a>, Given<'a>),
     /// It is over, and the buffer that a call gave goes there.
     Lends(Target<'a>, Lent),
-    /// It is over, and the `if` of this line has its test, whether a call gave 0, and its two ways.
+    /// It is over, and the `if` of this line has its test, whether a call gave 0, and its two branches.
     Tests {
         line: usize,
         zero: bool,
@@ -96,7 +96,7 @@ pub enum Outcome<'a> {
     },
     /// It is over, and the statements of this block are to do, up to this end; none where an `else` is missing.
     Enters(Option<&'a Block>, End<'a>),
-    /// It is over: a way of an `if` has ended, or a loop.
+    /// It is over: a branch of an `if` has ended, or a loop.
     Ends,
     /// The call is over, and gives this.
     Returned(CallResult),

@@ -6,7 +6,7 @@ ghost use Rattle.semantics.specs.Sight.{seen};
 ghost use Rattle.semantics.specs.Variable.{Statics as StaticsOfUnit};
 ghost use Rattle.replay_tasks.specs.declared.task.Task.TheVariants as task;
 ghost use Rattle.replay_terms.specs.declared.term.Term.TheVariants as term;
-ghost use Rattle.replay_tasks.specs.Effects.{HasEffect, HasWays, IsAssignment, IsEvaluation, reduced};
+ghost use Rattle.replay_tasks.specs.Effects.{HasEffect, HasBranches, IsAssignment, IsEvaluation, reduced};
 ghost use Rattle.replay_tasks.specs.Tasks.{element_task, ExprInRange, BlockInRange, ElseInRange, TaskInRange, OutcomeInRange, IsPlain};
 ghost use Rattle.replay_terms.specs.Views.{NumbersInRange, variables_view};
 
@@ -149,7 +149,7 @@ fn set_element<'a, O: Objects>(
     }
 }
 
-/// Evaluates the test of an `if` by one step, or takes a way.
+/// Evaluates the test of an `if` by one step, or takes a branch.
 fn branch<'a, O: Objects>(
     objects: &O,
     statics: &Statics<'_>,
@@ -286,14 +286,14 @@ fn assign<'a, O: Objects>(
 
 /// Lets an `if` or a loop take its next step.
 #[inline]
-fn take_way<'a, O: Objects>(
+fn take_branch<'a, O: Objects>(
     objects: &O,
     statics: &Statics<'_>,
     variables: &Variables<'a>,
     task: &mut Task<'a>,
 ) -> Outcome<'a>
     requires range { TaskInRange task.old }
-    requires kind { HasWays task.old }
+    requires kind { HasBranches task.old }
     ensures step { HasEffect (seen (variables_view variables.now) statics.now (O.heap objects.now)) task.old result task.new }
     ensures task { TaskInRange task.new }
     ensures range { OutcomeInRange result }
@@ -327,7 +327,7 @@ pub fn plain_step<'a, O: Objects>(
             name,
             len: *size,
         },
-        Task::Branch(_) | Task::Loop(_) => take_way(objects, statics, variables, task),
+        Task::Branch(_) | Task::Loop(_) => take_branch(objects, statics, variables, task),
         Task::Return => Outcome::Returned(CallResult::Nothing),
         Task::Invoke(_) => unreachable!(),
     }

@@ -33,7 +33,7 @@ pub struct Invocation<'a> {
     pub operands: Vec<Operand<'a>>,
 }
 
-/// An `if`, with its test's term and its two ways.
+/// An `if`, with its test's term and its two branches.
 #[derive(Drop)]
 pub struct Choice<'a> {
     pub line: usize,
@@ -131,7 +131,7 @@ fn call_task<'a>(
     call: &'a Call,
 ) -> Result<Task<'a>, AllocError>
     requires numbers { ArgumentsInRange (call_tree call.now).arguments }
-    requires ways { PurposeInRange purpose }
+    requires branches { PurposeInRange purpose }
     requires known { IsTrue (not (is_unknown_call (call_tree call.now))) }
     ensures view { IfOk result (λ t. task_view t ≡ call_task line (purpose_view line purpose.entry) (call_tree call.entry.now)) }
     ensures range { IfOk result TaskInRange }

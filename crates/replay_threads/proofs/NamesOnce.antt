@@ -8,8 +8,8 @@ use Rattle.std.proofs.lemmas.List.{map-append}
 use Rattle.base.specs.Bytes.{Identifier, ByName, lookup}
 use Rattle.syntax.specs.Parts.{functions_of, parameter_names}
 use Rattle.syntax.specs.Tree.{Void, Parameter, Function, Item, StaticItem, FunctionItem, SourceUnit}
-use Rattle.type_rules.specs.Sorts.{Ref, Scope}
-use Rattle.type_rules.specs.SortRules.{Place, StaticForm, HeadForm, has_name, has_repeated, broken_at, parameter_sort, places_of, function_places, item_places, IsSorted, static_sort}
+use Rattle.type_rules.specs.ExprTypes.{Ref, Scope}
+use Rattle.type_rules.specs.TypeRules.{Place, StaticForm, HeadForm, has_name, has_repeated, broken_at, parameter_type, places_of, function_places, item_places, IsWellTyped, static_type}
 use Rattle.semantics.specs.Activation.{function_at, parameter_variables}
 use Rattle.semantics.specs.Object.{ObjectValue, Number, Refers}
 use Rattle.semantics.specs.Start.{null_statics}
@@ -77,23 +77,23 @@ abbrev HasNamesOnce : Function → Type 0
 HasNamesOnce f = (more : List Identifier) × (has_repeated (parameter_names f ++ more) ≡ false)
 
 abbrev body_places : List Identifier → Scope → Function → List Place
-body_places taken scope f = places_of f.result ((f.class_name, Ref) ∷ map (λ p. (p.name, parameter_sort p.type)) f.parameters ++ scope) (parameter_names f ++ map (λ s. s.0) scope) f.body
+body_places taken scope f = places_of f.result ((f.class_name, Ref) ∷ map (λ p. (p.name, parameter_type p.type)) f.parameters ++ scope) (parameter_names f ++ map (λ s. s.0) scope) f.body
 
 abbrev head_place : List Identifier → Scope → Function → Place
 head_place taken scope f = record { line = f.line; known = scope; taken = taken; returns = f.result; form = HeadForm f }
 
 functions_once : (items : List Item) (taken : List Identifier) (scope : Scope) → AreUnbroken (item_places taken scope items) → AllByRecursion HasNamesOnce (functions_of (record { items = items }))
-functions_once [] taken scope sorted = tt
-functions_once (StaticItem g ∷ items) taken scope sorted =
-    functions_once items (g.name ∷ taken) ((g.name, static_sort g.type) ∷ scope)
-    (second_empty (broken_at (record { line = g.line; known = scope; taken = taken; returns = Void; form = StaticForm g })) (flat_map broken_at (item_places (g.name ∷ taken) ((g.name, static_sort g.type) ∷ scope) items)) sorted)
-functions_once (FunctionItem f ∷ items) taken scope sorted =
+functions_once [] taken scope well_typed = tt
+functions_once (StaticItem g ∷ items) taken scope well_typed =
+    functions_once items (g.name ∷ taken) ((g.name, static_type g.type) ∷ scope)
+    (second_empty (broken_at (record { line = g.line; known = scope; taken = taken; returns = Void; form = StaticForm g })) (flat_map broken_at (item_places (g.name ∷ taken) ((g.name, static_type g.type) ∷ scope) items)) well_typed)
+functions_once (FunctionItem f ∷ items) taken scope well_typed =
     let further = item_places (f.name ∷ taken) scope items in
     let head = head_place taken scope f in
-    let own = front_unbroken (function_places taken scope f) further sorted in
+    let own = front_unbroken (function_places taken scope f) further well_typed in
     let once = not_twice head (first_empty (broken_at head) (flat_map broken_at (body_places taken scope f)) own) in (
       (map (λ s. s.0) scope, second_false (has_name taken f.name) (has_repeated (parameter_names f ++ map (λ s. s.0) scope)) once),
-      functions_once items (f.name ∷ taken) scope (back_unbroken (function_places taken scope f) further sorted),
+      functions_once items (f.name ∷ taken) scope (back_unbroken (function_places taken scope f) further well_typed),
     )
 
 found_holds : {A : Type 0} (p : A → Bool) (P : A → Type 0) (xs : List A) (x : A) → find p xs ≡ Some x → AllByRecursion P xs → P x
@@ -105,10 +105,10 @@ found_holds {A} p P (y ∷ ys) x e h = by_test (p y) e (λ later. found_holds p 
     by_test false is further = further is
 
 -- the variables with which a call of a function begins
-pub entry_once : (unit : SourceUnit) → IsSorted unit → (x : Identifier) (f : Function) → function_at unit x ≡ Some f → (class : ℕ) (vs : List ObjectValue)
+pub entry_once : (unit : SourceUnit) → IsWellTyped unit → (x : Identifier) (f : Function) → function_at unit x ≡ Some f → (class : ℕ) (vs : List ObjectValue)
     → assign_all ((f.class_name, LocalRef 1 (Some class)) ∷ parameter_variables (zip f.parameters vs)) [] ≡ (f.class_name, LocalRef 1 (Some class)) ∷ parameter_variables (zip f.parameters vs)
-entry_once unit sorted x f found class vs =
-    let once = found_holds (λ (g : Function). bytes_eq g.name x) HasNamesOnce (functions_of unit) f found (functions_once unit.items [] [] sorted) in
+entry_once unit well_typed x f found class vs =
+    let once = found_holds (λ (g : Function). bytes_eq g.name x) HasNamesOnce (functions_of unit) f found (functions_once unit.items [] [] well_typed) in
     all_assigned ((f.class_name, LocalRef 1 (Some class)) ∷ []) f.parameters vs once.0 once.1
 
 -- ---- statics
@@ -132,16 +132,16 @@ one_taken ss taken y are x h = past ss (are x (second_false (bytes_eq x y) (has_
     past ((z, r) ∷ rs) none = by_test (bytes_eq x z) (lookup x rs) (lookup x (rs ++ (y, Empty) ∷ [])) r none (past rs)
 
 all_statics : (before : Statics) (items : List Item) (taken : List Identifier) (scope : Scope) → AreTaken before taken → AreUnbroken (item_places taken scope items) → assign_all (statics_in items) before ≡ before ++ statics_in items
-all_statics before [] taken scope are sorted = sym (append-nil before)
-all_statics before (StaticItem g ∷ items) taken scope are sorted =
+all_statics before [] taken scope are well_typed = sym (append-nil before)
+all_statics before (StaticItem g ∷ items) taken scope are well_typed =
     let place : Place = record { line = g.line; known = scope; taken = taken; returns = Void; form = StaticForm g } in
-    let further = flat_map broken_at (item_places (g.name ∷ taken) ((g.name, static_sort g.type) ∷ scope) items) in
-    one_more before g.name Empty (statics_in items) (are g.name (not_twice place (first_empty (broken_at place) further sorted)))
-    (all_statics (before ++ (g.name, Empty) ∷ []) items (g.name ∷ taken) ((g.name, static_sort g.type) ∷ scope) (one_taken before taken g.name are) (second_empty (broken_at place) further sorted))
-all_statics before (FunctionItem f ∷ items) taken scope are sorted =
+    let further = flat_map broken_at (item_places (g.name ∷ taken) ((g.name, static_type g.type) ∷ scope) items) in
+    one_more before g.name Empty (statics_in items) (are g.name (not_twice place (first_empty (broken_at place) further well_typed)))
+    (all_statics (before ++ (g.name, Empty) ∷ []) items (g.name ∷ taken) ((g.name, static_type g.type) ∷ scope) (one_taken before taken g.name are) (second_empty (broken_at place) further well_typed))
+all_statics before (FunctionItem f ∷ items) taken scope are well_typed =
     all_statics before items (f.name ∷ taken) scope (λ x h. are x (second_false (bytes_eq x f.name) (has_name taken x) h))
-    (back_unbroken (function_places taken scope f) (item_places (f.name ∷ taken) scope items) sorted)
+    (back_unbroken (function_places taken scope f) (item_places (f.name ∷ taken) scope items) well_typed)
 
 -- the statics with which a run begins
-pub statics_once : (unit : SourceUnit) → IsSorted unit → assign_all (null_statics unit) [] ≡ null_statics unit
-statics_once unit sorted = all_statics [] unit.items [] [] (λ x h. refl) sorted
+pub statics_once : (unit : SourceUnit) → IsWellTyped unit → assign_all (null_statics unit) [] ≡ null_statics unit
+statics_once unit well_typed = all_statics [] unit.items [] [] (λ x h. refl) well_typed

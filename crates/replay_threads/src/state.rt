@@ -4,7 +4,7 @@ ghost use Rattle.std.specs.Prelude.{◌≡◌, ◌<◌, ◌*◌, [], IfOk, IfSom
 ghost use Rattle.base.specs.Limits.{most_activations, most_copied, most_views};
 ghost use Rattle.syntax.specs.Limits.{IsTree};
 ghost use Rattle.syntax.specs.Views.{unit_tree};
-ghost use Rattle.type_rules.specs.SortRules.{IsSorted};
+ghost use Rattle.type_rules.specs.TypeRules.{IsWellTyped};
 ghost use Rattle.semantics.specs.Journal.{Step, Clearing};
 ghost use Rattle.semantics.specs.Views.{names_of};
 ghost use Rattle.syntax.specs.Tree.{SourceUnit};
@@ -204,7 +204,7 @@ fn take_turn<'a>(
     refused: bool,
 ) -> Result<bool, AllocError>
     requires tree { IsTree (unit_tree functions.now) }
-    requires sorted { IsSorted (unit_tree functions.now) }
+    requires well_typed { IsWellTyped (unit_tree functions.now) }
     requires range { AreInRange state.old.threads.items }
     requires live { IsLiveAt state.old k place }
     ensures step { IfOk result (λ possible.
@@ -250,7 +250,7 @@ pub fn take_entry<'a>(
     entry: &Entry,
 ) -> Result<bool, AllocError>
     requires tree { IsTree (unit_tree functions.now) }
-    requires sorted { IsSorted (unit_tree functions.now) }
+    requires well_typed { IsWellTyped (unit_tree functions.now) }
     requires range { AreInRange state.old.threads.items }
     ensures step { IfOk result (λ possible. TakesEntry (unit_tree functions.now) state.old entry.now possible state.new) }
     ensures range { IfOk result (λ _. AreInRange state.new.threads.items) }

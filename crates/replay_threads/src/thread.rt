@@ -3,7 +3,7 @@
 ghost use Rattle.std.specs.Prelude.{◌≡◌, ◌++◌, ◌∷◌, [], IfOk, IsSome, Some, None, false, filter_map, map, zip};
 ghost use Rattle.syntax.specs.Limits.{IsTree};
 ghost use Rattle.syntax.specs.Views.{function_tree, parameter_tree, unit_tree};
-ghost use Rattle.type_rules.specs.SortRules.{IsSorted};
+ghost use Rattle.type_rules.specs.TypeRules.{IsWellTyped};
 ghost use Rattle.world_values.specs.Views.{object_value_view};
 ghost use Rattle.semantics.specs.Activation.{parameter_variables, class_of_function, named_object, entry_frame};
 ghost use Rattle.semantics.specs.Return.{ending_after};
@@ -211,7 +211,7 @@ fn begin_next<'a>(
     place: &mut Option<Activation<'a>>,
 ) -> Result<bool, AllocError>
     requires tree { IsTree (unit_tree functions.now) }
-    requires sorted { IsSorted (unit_tree functions.now) }
+    requires well_typed { IsWellTyped (unit_tree functions.now) }
     ensures { IfOk result (λ begun. (call : Invocation) → call.function ≡ name.now → call.arguments ≡ map object_value_view arguments.now
         → BeginsNext (unit_tree functions.now) world.now.classes call begun place.old place.new) }
 {
@@ -233,7 +233,7 @@ fn enter_called<'a>(
     thread: &mut Thread<'a>,
 ) -> Result<Option<Event>, AllocError>
     requires tree { IsTree (unit_tree functions.now) }
-    requires sorted { IsSorted (unit_tree functions.now) }
+    requires well_typed { IsWellTyped (unit_tree functions.now) }
     requires classes { turn.classes.now ≡ world.now.classes }
     requires goes { turn.refused ≡ false }
     requires idle { thread.old.activation ≡ None }
@@ -269,7 +269,7 @@ fn enter_next<'a>(
     thread: &mut Thread<'a>,
 ) -> Result<Option<Event>, AllocError>
     requires tree { IsTree (unit_tree functions.now) }
-    requires sorted { IsSorted (unit_tree functions.now) }
+    requires well_typed { IsWellTyped (unit_tree functions.now) }
     requires classes { turn.classes.now ≡ world.now.classes }
     requires goes { turn.refused ≡ false }
     requires idle { thread.old.activation ≡ None }
@@ -306,7 +306,7 @@ fn enter<'a>(
     thread: &mut Thread<'a>,
 ) -> Result<Option<Event>, AllocError>
     requires tree { IsTree (unit_tree functions.now) }
-    requires sorted { IsSorted (unit_tree functions.now) }
+    requires well_typed { IsWellTyped (unit_tree functions.now) }
     requires classes { turn.classes.now ≡ world.now.classes }
     requires idle { thread.old.activation ≡ None }
     requires range { ThreadInRange thread.old }
@@ -504,7 +504,7 @@ pub(crate) fn take_step<'a>(
     thread: &mut Thread<'a>,
 ) -> Result<Option<Event>, AllocError>
     requires tree { IsTree (unit_tree functions.now) }
-    requires sorted { IsSorted (unit_tree functions.now) }
+    requires well_typed { IsWellTyped (unit_tree functions.now) }
     requires unit { turn.unit.now ≡ functions.now }
     requires classes { turn.classes.now ≡ world.now.classes }
     requires grown { IsGrown turn.classes.now }

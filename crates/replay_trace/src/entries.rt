@@ -4,7 +4,7 @@ ghost use Rattle.std.specs.Prelude.{◌≡◌, IfOk};
 ghost use Rattle.sinks.specs.Sink.{CanFail};
 ghost use Rattle.syntax.specs.Limits.{IsTree};
 ghost use Rattle.syntax.specs.Views.{unit_tree};
-ghost use Rattle.type_rules.specs.SortRules.{IsSorted};
+ghost use Rattle.type_rules.specs.TypeRules.{IsWellTyped};
 ghost use Rattle.replay_threads.specs.States.{AreInRange};
 ghost use Rattle.replay_trace.specs.Traces.{WritesSome};
 
@@ -127,7 +127,7 @@ fn tell_step<'a>(
     told: Told,
 ) -> Result<Taken, AllocError>
     requires tree { IsTree (unit_tree functions.now) }
-    requires sorted { IsSorted (unit_tree functions.now) }
+    requires well_typed { IsWellTyped (unit_tree functions.now) }
     requires range { AreInRange state.old.threads.items }
     ensures range { IfOk result (λ _. AreInRange state.new.threads.items) }
 {
@@ -156,7 +156,7 @@ fn tell_clearing<'a>(
     told: Told,
 ) -> Result<Taken, AllocError>
     requires tree { IsTree (unit_tree functions.now) }
-    requires sorted { IsSorted (unit_tree functions.now) }
+    requires well_typed { IsWellTyped (unit_tree functions.now) }
     requires range { AreInRange state.old.threads.items }
     ensures range { IfOk result (λ _. AreInRange state.new.threads.items) }
 {
@@ -182,7 +182,7 @@ fn tell_entry<'a>(
     told: Told,
 ) -> Result<Taken, AllocError>
     requires tree { IsTree (unit_tree functions.now) }
-    requires sorted { IsSorted (unit_tree functions.now) }
+    requires well_typed { IsWellTyped (unit_tree functions.now) }
     requires range { AreInRange state.old.threads.items }
     ensures range { IfOk result (λ _. AreInRange state.new.threads.items) }
 {
@@ -232,7 +232,7 @@ fn tell_entries<'a, W: Sink>(
 ) -> Result<(), SinkFailed>
     requires sink { CanFail (W.written out.old) }
     requires tree { IsTree (unit_tree functions.now) }
-    requires sorted { IsSorted (unit_tree functions.now) }
+    requires well_typed { IsWellTyped (unit_tree functions.now) }
     requires range { AreInRange state.old.threads.items }
     ensures { WritesSome (W.written out.old) (W.written out.new) result }
 {

@@ -7,8 +7,8 @@ use Rattle.std.proofs.lemmas.Slice.Eq.{bytes_eq-Decides}
 use Rattle.base.specs.Bytes.{Identifier, lookup}
 use Rattle.syntax.specs.Parts.{functions_of, statics_of, parameter_names}
 use Rattle.syntax.specs.Tree.{Void, StaticType, ReferenceStatic, WeakStatic, Static, Function, Item, StaticItem, FunctionItem, SourceUnit}
-use Rattle.type_rules.specs.Sorts.{Sort, Scope, is_weak, sort_in}
-use Rattle.type_rules.specs.SortRules.{SortRule, UnknownName, DeclaredTwice, SortMisfit, UnknownFunction, ArgumentCount, ReferenceCopied, BadMode, ReadOnlyWrite, sort_rules, Place, StaticForm, HeadForm, has_name, has_repeated, breaks, broken_at, places_of, function_places, item_places, IsSorted, static_sort}
+use Rattle.type_rules.specs.ExprTypes.{ExprType, Scope, is_weak, type_in}
+use Rattle.type_rules.specs.TypeRules.{TypeRule, UnknownName, DeclaredTwice, TypeMisfit, UnknownFunction, ArgumentCount, ReferenceCopied, BadMode, ReadOnlyWrite, typing_rules, Place, StaticForm, HeadForm, has_name, has_repeated, breaks, broken_at, places_of, function_places, item_places, IsWellTyped, static_type}
 use Rattle.region_rules.specs.Regions.{AcceptedFunction, HasRegions}
 use Rattle.semantics.specs.Journal.{Journal}
 use Rattle.semantics.specs.Load.{Loads}
@@ -23,8 +23,8 @@ use Rattle.semantics_safety.specs.Owners.{owners_after}
 use Rattle.semantics_safety.specs.Stands.{IsSound}
 use Rattle.semantics_safety.specs.StepSafe.{HasCalls, AcceptedIsSafe}
 use Rattle.semantics_safety.specs.Wanted.{GoesOn}
-use Rattle.semantics_safety.specs.WeakNames.{WeakNames, IsOfKind, AreOfKind, static_sorts, weak_names}
-use Rattle.semantics_safety.proofs.EntryPoints.{entry_scope, entry_point, IsStaticSort, SeesStatics, HasNamesOnce, or_false}
+use Rattle.semantics_safety.specs.WeakNames.{WeakNames, IsOfKind, AreOfKind, static_types, weak_names}
+use Rattle.semantics_safety.proofs.EntryPoints.{entry_scope, entry_point, IsStaticType, SeesStatics, HasNamesOnce, or_false}
 use Rattle.semantics_safety.proofs.NameLaws.{front_same}
 use Rattle.semantics_safety.proofs.SetLaws.{kinds_named}
 use Rattle.type_rules.proofs.PlaceLists.{AreUnbroken, first_empty, second_empty, front_unbroken, back_unbroken, none_broken, first_false, second_false}
@@ -41,14 +41,14 @@ abbrev head_place : List Identifier → Scope → Function → Place
 head_place taken scope f = record { line = f.line; known = scope; taken = taken; returns = f.result; form = HeadForm f }
 
 -- the rules after the first two
-abbrev other_rules : List SortRule
-other_rules = SortMisfit ∷ UnknownFunction ∷ ArgumentCount ∷ ReferenceCopied ∷ BadMode ∷ ReadOnlyWrite ∷ []
+abbrev other_rules : List TypeRule
+other_rules = TypeMisfit ∷ UnknownFunction ∷ ArgumentCount ∷ ReferenceCopied ∷ BadMode ∷ ReadOnlyWrite ∷ []
 
 names_once : (taken : List Identifier) (scope : Scope) (f : Function) → broken_at (head_place taken scope f) ≡ [] → HasNamesOnce f scope
 names_once taken scope f none =
     let place = head_place taken scope f in
-    let p : SortRule → Bool = λ rule. breaks rule place place.form in
-    let twice = second_false (p UnknownName) (list_any p (DeclaredTwice ∷ other_rules)) (none_broken p f.line sort_rules none) in
+    let p : TypeRule → Bool = λ rule. breaks rule place place.form in
+    let twice = second_false (p UnknownName) (list_any p (DeclaredTwice ∷ other_rules)) (none_broken p f.line typing_rules none) in
     second_false (has_name taken f.name) (has_repeated (parameter_names f ++ map (λ s. s.0) scope)) (first_false (p DeclaredTwice) (list_any p other_rules) twice)
 
 -- ---- statics
@@ -69,22 +69,22 @@ all_there : (gs : List Static) → AllByRecursion (IsThere (map null_static gs))
 all_there [] = tt
 all_there (g ∷ gs) = ((Empty, front_same g.name Empty (map null_static gs)), there_further g.name Empty (map null_static gs) gs (all_there gs))
 
-static_sorted : (type : StaticType) → IsStaticSort (static_sort type)
-static_sorted (ReferenceStatic r) = tt
-static_sorted WeakStatic = tt
+static_typed : (type : StaticType) → IsStaticType (static_type type)
+static_typed (ReferenceStatic r) = tt
+static_typed WeakStatic = tt
 
-sees_more : (ss : Statics) (scope : Scope) (g : Static) → IsThere ss g → SeesStatics scope ss → SeesStatics ((g.name, static_sort g.type) ∷ scope) ss
+sees_more : (ss : Statics) (scope : Scope) (g : Static) → IsThere ss g → SeesStatics scope ss → SeesStatics ((g.name, static_type g.type) ∷ scope) ss
 sees_more ss scope g there sees x s e = by_test (bytes_eq x g.name) refl e
   where
-    by_test : (b : Bool) → bytes_eq x g.name ≡ b → (if b then Some (static_sort g.type) else sort_in scope x) ≡ Some s → IsStaticSort s × ((r : StaticReference) × (lookup x ss ≡ Some r))
-    by_test true same at = (let is : static_sort g.type ≡ s = cc in subst IsStaticSort is (static_sorted g.type), (there.0, ap (λ (y : Identifier). lookup y ss) ((bytes_eq-Decides x g.name).0 same) ∙ there.1))
+    by_test : (b : Bool) → bytes_eq x g.name ≡ b → (if b then Some (static_type g.type) else type_in scope x) ≡ Some s → IsStaticType s × ((r : StaticReference) × (lookup x ss ≡ Some r))
+    by_test true same at = (let is : static_type g.type ≡ s = cc in subst IsStaticType is (static_typed g.type), (there.0, ap (λ (y : Identifier). lookup y ss) ((bytes_eq-Decides x g.name).0 same) ∙ there.1))
     by_test false other at = sees x s at
 
 -- ---- functions
 
 -- each known name is a static
 abbrev pub AreStatics : Scope → Type 0
-AreStatics scope = (x : Identifier) (s : Sort) → sort_in scope x ≡ Some s → IsStaticSort s
+AreStatics scope = (x : Identifier) (s : ExprType) → type_in scope x ≡ Some s → IsStaticType s
 
 -- an accepted function's tasks break no rule from its entry on
 abbrev pub GivesWanted : Function → Scope → Type 0
@@ -105,26 +105,26 @@ static_place taken scope g = record { line = g.line; known = scope; taken = take
 static_new : (taken : List Identifier) (scope : Scope) (g : Static) → broken_at (static_place taken scope g) ≡ [] → has_name taken g.name ≡ false
 static_new taken scope g none =
     let place = static_place taken scope g in
-    let p : SortRule → Bool = λ rule. breaks rule place place.form in
-    let twice = second_false (p UnknownName) (list_any p (DeclaredTwice ∷ other_rules)) (none_broken p g.line sort_rules none) in
+    let p : TypeRule → Bool = λ rule. breaks rule place place.form in
+    let twice = second_false (p UnknownName) (list_any p (DeclaredTwice ∷ other_rules)) (none_broken p g.line typing_rules none) in
     first_false (p DeclaredTwice) (list_any p other_rules) twice
 
-static_kind : (weak : Bool) (type : StaticType) → weak ≡ is_weak (Some (static_sort type)) → IsOfKind weak (static_sort type)
+static_kind : (weak : Bool) (type : StaticType) → weak ≡ is_weak (Some (static_type type)) → IsOfKind weak (static_type type)
 static_kind weak (ReferenceStatic r) e = e
 static_kind weak WeakStatic e = e
 
 -- which of these are weak
 abbrev weak_in : List Static → WeakNames
-weak_in all x = is_weak (sort_in (static_sorts all) x)
+weak_in all x = is_weak (type_in (static_types all) x)
 
--- a name that isn't taken yet has the sort that it has among the items that are left
+-- a name that isn't taken yet has the type that it has among the items that are left
 abbrev AreLeft : List Static → List Identifier → List Item → Type 0
-AreLeft all taken items = (x : Identifier) → has_name taken x ≡ false → sort_in (static_sorts all) x ≡ sort_in (static_sorts (statics_in items)) x
+AreLeft all taken items = (x : Identifier) → has_name taken x ≡ false → type_in (static_types all) x ≡ type_in (static_types (statics_in items)) x
 
 left_static : (all : List Static) (taken : List Identifier) (g : Static) (items : List Item) → AreLeft all taken (StaticItem g ∷ items) → AreLeft all (g.name ∷ taken) items
 left_static all taken g items left x new =
     let both = or_false (bytes_eq x g.name) (has_name taken x) new in
-    left x both.1 ∙ ap (λ (b : Bool). if b then Some (static_sort g.type) else sort_in (static_sorts (statics_in items)) x) both.0
+    left x both.1 ∙ ap (λ (b : Bool). if b then Some (static_type g.type) else type_in (static_types (statics_in items)) x) both.0
 
 left_function : (all : List Static) (taken : List Identifier) (f : Function) (items : List Item) → AreLeft all taken (FunctionItem f ∷ items) → AreLeft all (f.name ∷ taken) items
 left_function all taken f items left x new = left x (or_false (bytes_eq x f.name) (has_name taken x) new).1
@@ -138,13 +138,13 @@ IsFirst taken items f = (has_name taken f.name ≡ false) × (find (λ (g : Func
 function_new : (taken : List Identifier) (scope : Scope) (f : Function) → broken_at (head_place taken scope f) ≡ [] → has_name taken f.name ≡ false
 function_new taken scope f none =
     let place = head_place taken scope f in
-    let p : SortRule → Bool = λ rule. breaks rule place place.form in
-    let twice = second_false (p UnknownName) (list_any p (DeclaredTwice ∷ other_rules)) (none_broken p f.line sort_rules none) in
+    let p : TypeRule → Bool = λ rule. breaks rule place place.form in
+    let twice = second_false (p UnknownName) (list_any p (DeclaredTwice ∷ other_rules)) (none_broken p f.line typing_rules none) in
     first_false (has_name taken f.name) (has_repeated (parameter_names f ++ map (λ s. s.0) scope)) (first_false (p DeclaredTwice) (list_any p other_rules) twice)
 
 -- a name is no other's
-other_way : (x y : Identifier) → bytes_eq y x ≡ false → bytes_eq x y ≡ false
-other_way x y e = by_test (bytes_eq x y) refl
+other_path : (x y : Identifier) → bytes_eq y x ≡ false → bytes_eq x y ≡ false
+other_path x y e = by_test (bytes_eq x y) refl
   where
     by_test : (b : Bool) → bytes_eq x y ≡ b → b ≡ false
     by_test true h = absurd (let same : x ≡ y = (bytes_eq-Decides x y).0 h in let no : true ≡ false = sym ((bytes_eq-Decides y x).1 (sym same)) ∙ e in cc)
@@ -158,48 +158,48 @@ first_after_function : (taken : List Identifier) (g : Function) (items : List It
 first_after_function taken g items [] h = tt
 first_after_function taken g items (f ∷ fs) h =
     let both = or_false (bytes_eq f.name g.name) (has_name taken f.name) h.0.0 in
-    let skips = ap (λ (b : Bool). if b then Some g else find (λ (f' : Function). bytes_eq f'.name f.name) (functions_in items)) (other_way g.name f.name both.0) in
+    let skips = ap (λ (b : Bool). if b then Some g else find (λ (f' : Function). bytes_eq f'.name f.name) (functions_in items)) (other_path g.name f.name both.0) in
     ((both.1, skips ∙ h.0.1), first_after_function taken g items fs h.1)
 
 all_first : (items : List Item) (taken : List Identifier) (scope : Scope) → AreUnbroken (item_places taken scope items) → AllByRecursion (IsFirst taken items) (functions_in items)
-all_first [] taken scope sorted = tt
-all_first (StaticItem g ∷ items) taken scope sorted =
+all_first [] taken scope well_typed = tt
+all_first (StaticItem g ∷ items) taken scope well_typed =
     first_after_static taken g items (functions_in items)
-    (all_first items (g.name ∷ taken) ((g.name, static_sort g.type) ∷ scope) (second_empty (broken_at (static_place taken scope g)) (flat_map broken_at (item_places (g.name ∷ taken) ((g.name, static_sort g.type) ∷ scope) items)) sorted))
-all_first (FunctionItem f ∷ items) taken scope sorted =
+    (all_first items (g.name ∷ taken) ((g.name, static_type g.type) ∷ scope) (second_empty (broken_at (static_place taken scope g)) (flat_map broken_at (item_places (g.name ∷ taken) ((g.name, static_type g.type) ∷ scope) items)) well_typed))
+all_first (FunctionItem f ∷ items) taken scope well_typed =
     let further = item_places (f.name ∷ taken) scope items in
     let body = places_of f.result (entry_scope f scope) (parameter_names f ++ map (λ s. s.0) scope) f.body in
-    let own : AreUnbroken (head_place taken scope f ∷ body) = front_unbroken (function_places taken scope f) further sorted in
+    let own : AreUnbroken (head_place taken scope f ∷ body) = front_unbroken (function_places taken scope f) further well_typed in
     let new = function_new taken scope f (first_empty (broken_at (head_place taken scope f)) (flat_map broken_at body) own) in (
       (new, ap (λ (b : Bool). if b then Some f else find (λ (g : Function). bytes_eq g.name f.name) (functions_in items)) ((bytes_eq-Decides f.name f.name).1 refl)),
-      first_after_function taken f items (functions_in items) (all_first items (f.name ∷ taken) scope (back_unbroken (function_places taken scope f) further sorted)),
+      first_after_function taken f items (functions_in items) (all_first items (f.name ∷ taken) scope (back_unbroken (function_places taken scope f) further well_typed)),
     )
 
 found_by_name : (unit : SourceUnit) (fs : List Function) → AllByRecursion (IsFirst [] unit.items) fs → AllByRecursion (λ (f : Function). function_at unit f.name ≡ Some f) fs
 found_by_name unit [] h = tt
 found_by_name unit (f ∷ fs) h = (h.0.1, found_by_name unit fs h.1)
 
--- each function of a sorted unit is found by its name
-functions_once : (unit : SourceUnit) → IsSorted unit → AllByRecursion (λ (f : Function). function_at unit f.name ≡ Some f) (functions_of unit)
-functions_once unit sorted = found_by_name unit (functions_of unit) (all_first unit.items [] [] sorted)
+-- each function of a well-typed unit is found by its name
+functions_once : (unit : SourceUnit) → IsWellTyped unit → AllByRecursion (λ (f : Function). function_at unit f.name ≡ Some f) (functions_of unit)
+functions_once unit well_typed = found_by_name unit (functions_of unit) (all_first unit.items [] [] well_typed)
 
 module _ (gives : (f : Function) (scope : Scope) → GivesWanted f scope) where
   all_enter : (ss : Statics) (all : List Static) (items : List Item) (taken : List Identifier) (scope : Scope) → SeesStatics scope ss → AreOfKind (weak_in all) scope → AreLeft all taken items → AllByRecursion (IsThere ss) (statics_in items) → AreUnbroken (item_places taken scope items) → AllByRecursion AcceptedFunction (functions_in items)
       → AllByRecursion (Enters (weak_in all) ss) (functions_in items)
-  all_enter ss all [] taken scope sees kinds left there sorted regions = tt
-  all_enter ss all (StaticItem g ∷ items) taken scope sees kinds left there sorted regions =
-      let new = static_new taken scope g (first_empty (broken_at (static_place taken scope g)) (flat_map broken_at (item_places (g.name ∷ taken) ((g.name, static_sort g.type) ∷ scope) items)) sorted) in
-      all_enter ss all items (g.name ∷ taken) ((g.name, static_sort g.type) ∷ scope) (sees_more ss scope g there.0 sees)
-      (kinds_named (weak_in all) g.name (static_sort g.type) scope (static_kind (weak_in all g.name) g.type (ap is_weak (left g.name new ∙ front_same g.name (static_sort g.type) (static_sorts (statics_in items))))) kinds)
+  all_enter ss all [] taken scope sees kinds left there well_typed regions = tt
+  all_enter ss all (StaticItem g ∷ items) taken scope sees kinds left there well_typed regions =
+      let new = static_new taken scope g (first_empty (broken_at (static_place taken scope g)) (flat_map broken_at (item_places (g.name ∷ taken) ((g.name, static_type g.type) ∷ scope) items)) well_typed) in
+      all_enter ss all items (g.name ∷ taken) ((g.name, static_type g.type) ∷ scope) (sees_more ss scope g there.0 sees)
+      (kinds_named (weak_in all) g.name (static_type g.type) scope (static_kind (weak_in all g.name) g.type (ap is_weak (left g.name new ∙ front_same g.name (static_type g.type) (static_types (statics_in items))))) kinds)
       (left_static all taken g items left) there.1
-      (second_empty (broken_at (static_place taken scope g)) (flat_map broken_at (item_places (g.name ∷ taken) ((g.name, static_sort g.type) ∷ scope) items)) sorted) regions
-  all_enter ss all (FunctionItem f ∷ items) taken scope sees kinds left there sorted regions =
+      (second_empty (broken_at (static_place taken scope g)) (flat_map broken_at (item_places (g.name ∷ taken) ((g.name, static_type g.type) ∷ scope) items)) well_typed) regions
+  all_enter ss all (FunctionItem f ∷ items) taken scope sees kinds left there well_typed regions =
       let further = item_places (f.name ∷ taken) scope items in
       let body = places_of f.result (entry_scope f scope) (parameter_names f ++ map (λ s. s.0) scope) f.body in
-      let own : AreUnbroken (head_place taken scope f ∷ body) = front_unbroken (function_places taken scope f) further sorted in
+      let own : AreUnbroken (head_place taken scope f ∷ body) = front_unbroken (function_places taken scope f) further well_typed in
       let once = names_once taken scope f (first_empty (broken_at (head_place taken scope f)) (flat_map broken_at body) own) in (
         (scope, sees, kinds, once, gives f scope (λ x s e. (sees x s e).0) once (second_empty (broken_at (head_place taken scope f)) (flat_map broken_at body) own) regions.0),
-        all_enter ss all items (f.name ∷ taken) scope sees kinds (left_function all taken f items left) there (back_unbroken (function_places taken scope f) further sorted) regions.1,
+        all_enter ss all items (f.name ∷ taken) scope sees kinds (left_function all taken f items left) there (back_unbroken (function_places taken scope f) further well_typed) regions.1,
       )
 
   no_names : (ss : Statics) → SeesStatics [] ss
@@ -208,19 +208,19 @@ module _ (gives : (f : Function) (scope : Scope) → GivesWanted f scope) where
   no_kinds : (weak : WeakNames) → AreOfKind weak []
   no_kinds weak x s e = absurd (cc)
 
-  accepted_enters : (unit : SourceUnit) → IsSorted unit → HasRegions unit → AllByRecursion (Enters (weak_names unit) (null_statics unit)) (functions_of unit)
-  accepted_enters unit sorted regions =
-      all_enter (null_statics unit) (statics_of unit) unit.items [] [] (no_names (null_statics unit)) (no_kinds (weak_names unit)) (λ x e. refl) (all_there (statics_of unit)) sorted regions
+  accepted_enters : (unit : SourceUnit) → IsWellTyped unit → HasRegions unit → AllByRecursion (Enters (weak_names unit) (null_statics unit)) (functions_of unit)
+  accepted_enters unit well_typed regions =
+      all_enter (null_statics unit) (statics_of unit) unit.items [] [] (no_names (null_statics unit)) (no_kinds (weak_names unit)) (λ x e. refl) (all_there (statics_of unit)) well_typed regions
 
-  -- what GetStaticMethodID finds in a sorted unit can be called
-  sorted_finds : IsInverse → (unit : SourceUnit) (classes : Classes) → IsSorted unit → FindsCallable unit classes
-  sorted_finds inverse unit classes sorted = found_is_callable inverse classes unit (functions_once unit sorted)
+  -- what GetStaticMethodID finds in a well-typed unit can be called
+  typed_finds : IsInverse → (unit : SourceUnit) (classes : Classes) → IsWellTyped unit → FindsCallable unit classes
+  typed_finds inverse unit classes well_typed = found_is_callable inverse classes unit (functions_once unit well_typed)
 
   -- after each journal, each thread is at a point from which its tasks break no rule, or before an entry
-  pub accepted_are_sound : IsInverse → (unit : SourceUnit) (w : World) → IsSorted unit → HasRegions unit → Loads unit w → HasCalls w → (journal : Journal) (s : State) (k : ℕ) (t : Thread) → replay unit w journal ≡ Some s → thread_at s k ≡ Some t
+  pub accepted_are_sound : IsInverse → (unit : SourceUnit) (w : World) → IsWellTyped unit → HasRegions unit → Loads unit w → HasCalls w → (journal : Journal) (s : State) (k : ℕ) (t : Thread) → replay unit w journal ≡ Some s → thread_at s k ≡ Some t
       → IsSound unit w.classes (owners_after unit w journal k) s.shared.statics t
-  accepted_are_sound inverse unit w sorted regions loads has = threads_are_sound unit w (accepted_enters unit sorted regions) (sorted_finds inverse unit w.classes sorted) loads has
+  accepted_are_sound inverse unit w well_typed regions loads has = threads_are_sound unit w (accepted_enters unit well_typed regions) (typed_finds inverse unit w.classes well_typed) loads has
 
   -- an accepted unit is safe in each world that goes with it
   pub accepted_is_safe : IsInverse → AcceptedIsSafe
-  accepted_is_safe inverse unit w sorted regions loads has = runs_are_safe unit w (accepted_enters unit sorted regions) (sorted_finds inverse unit w.classes sorted) loads has
+  accepted_is_safe inverse unit w well_typed regions loads has = runs_are_safe unit w (accepted_enters unit well_typed regions) (typed_finds inverse unit w.classes well_typed) loads has

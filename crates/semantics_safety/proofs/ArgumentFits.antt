@@ -1,4 +1,4 @@
--- The arguments of a call that fit by the rules of sorts, and whose names may be used, are operands that fit.
+-- The arguments of a call that fit by the rules of types, and whose names may be used, are operands that fit.
 use Rattle.std.proofs.Common.{◌≡◌, ℕ, Bool, true, false, not, ◌&&◌, ◌||◌, List, [], ◌∷◌, ◌++◌, map, length, Option, Some, None, refl, sym, ap, ◌∙◌}
 use Rattle.std.specs.Prelude.{flat_map, zip}
 use Rattle.std.specs.List.{list_any}
@@ -9,14 +9,14 @@ use Rattle.syntax.specs.Parts.{names_in, elements_in, argument_expressions}
 use Rattle.syntax.specs.Tree.{Null, Expr, Number, Named, Variable, Element, Prefix, Binary, Paren, Argument, Value, Text, AddressOf}
 use Rattle.jni.specs.Access.{Access, ElementsCopy, ArrayView, CharsCopy, CharsView}
 use Rattle.jni.specs.Prototype.{ParameterKind, Nullable, NonNull, AnyReference, ClassObject, AnyArray, ObjectArray, StringObject, NumberArray, LocalVariable, StaticVariable, WeakVariable, FieldID, MethodID, Passed, IntNumber, TextBytes, ArrayVariable, BufferVariable, Mode, IsCopy}
-use Rattle.type_rules.specs.Sorts.{Sort, Jint, Flag, Ref, Global, Weak, Buffer, Array, sort_in, sort_of, is_jint, is_flag, is_ref, is_global, is_weak, is_any_reference, is_reference, is_field, is_method, is_array_of, is_buffer_for, is_null, name_sort, argument_fits, arguments_fit}
-use Rattle.type_rules.specs.Sorts as sort
-use Rattle.type_rules.specs.SortRules.{is_mode, is_mode_parameter, modes_fit}
+use Rattle.type_rules.specs.ExprTypes.{ExprType, Jint, Flag, Ref, Global, Weak, Buffer, Array, type_in, type_of, is_jint, is_flag, is_ref, is_global, is_weak, is_any_reference, is_reference, is_field, is_method, is_array_of, is_buffer_for, is_null, name_type, argument_fits, arguments_fit}
+use Rattle.type_rules.specs.ExprTypes as ty
+use Rattle.type_rules.specs.TypeRules.{is_mode, is_mode_parameter, modes_fit}
 use Rattle.region_rules.specs.RegionRules.{is_dead, is_untested, is_free}
 use Rattle.region_rules.specs.RegionStates.{RegionState, state_of}
 use Rattle.semantics.specs.Task.{operand}
 use Rattle.semantics.specs.Term.{term_of}
-use Rattle.semantics_safety.specs.Points.{Point, ReferenceFits, AnyReferenceFits, ReferenceArgumentFits, GivenFits, PassedFits, HasSort, OperandFits, OperandsFit}
+use Rattle.semantics_safety.specs.Points.{Point, ReferenceFits, AnyReferenceFits, ReferenceArgumentFits, GivenFits, PassedFits, HasType, OperandFits, OperandsFit}
 use Rattle.semantics_safety.proofs.ExpressionFits.{AreStated, MayRead, is_live, usable_if, expression_fits}
 
 -- ---- expressions together
@@ -62,32 +62,32 @@ both_so : (a b : Bool) → (a && b) ≡ true → (a ≡ true) × (b ≡ true)
 both_so true b h = (refl, h)
 both_so false b h = absurd (cc)
 
-pub is_a_jint : (o : Option Sort) → is_jint o ≡ true → o ≡ Some Jint
+pub is_a_jint : (o : Option ExprType) → is_jint o ≡ true → o ≡ Some Jint
 is_a_jint (Some Jint) h = refl
 is_a_jint o h = absurd (cc)
 
-pub is_a_flag : (o : Option Sort) → is_flag o ≡ true → o ≡ Some Flag
+pub is_a_flag : (o : Option ExprType) → is_flag o ≡ true → o ≡ Some Flag
 is_a_flag (Some Flag) h = refl
 is_a_flag o h = absurd (cc)
 
-pub is_a_ref : (o : Option Sort) → is_ref o ≡ true → o ≡ Some Ref
+pub is_a_ref : (o : Option ExprType) → is_ref o ≡ true → o ≡ Some Ref
 is_a_ref (Some Ref) h = refl
 is_a_ref o h = absurd (cc)
 
-pub is_a_global : (o : Option Sort) → is_global o ≡ true → o ≡ Some Global
+pub is_a_global : (o : Option ExprType) → is_global o ≡ true → o ≡ Some Global
 is_a_global (Some Global) h = refl
 is_a_global o h = absurd (cc)
 
-pub is_a_weak : (o : Option Sort) → is_weak o ≡ true → o ≡ Some Weak
+pub is_a_weak : (o : Option ExprType) → is_weak o ≡ true → o ≡ Some Weak
 is_a_weak (Some Weak) h = refl
 is_a_weak o h = absurd (cc)
 
-pub is_a_field : (o : Option Sort) → is_field o ≡ true → o ≡ Some sort.FieldId
-is_a_field (Some sort.FieldId) h = refl
+pub is_a_field : (o : Option ExprType) → is_field o ≡ true → o ≡ Some ty.FieldId
+is_a_field (Some ty.FieldId) h = refl
 is_a_field o h = absurd (cc)
 
-pub is_a_method : (o : Option Sort) → is_method o ≡ true → o ≡ Some sort.MethodId
-is_a_method (Some sort.MethodId) h = refl
+pub is_a_method : (o : Option ExprType) → is_method o ≡ true → o ≡ Some ty.MethodId
+is_a_method (Some ty.MethodId) h = refl
 is_a_method o h = absurd (cc)
 
 pub element_same : (t u : ElementType) → same_element t u ≡ true → u ≡ t
@@ -97,11 +97,11 @@ element_same JByte JByte h = refl
 element_same JChar JChar h = refl
 element_same t u h = absurd (cc)
 
-array_of : (t : ElementType) (o : Option Sort) → is_array_of t o ≡ true → (size : ℕ) × (o ≡ Some (Array t size))
+array_of : (t : ElementType) (o : Option ExprType) → is_array_of t o ≡ true → (size : ℕ) × (o ≡ Some (Array t size))
 array_of t (Some (Array u size)) h = (size, ap (λ (v : ElementType). Some (Array v size)) (element_same t u h))
 array_of t o h = absurd (cc)
 
-pub buffer_for : (access : Access) (o : Option Sort) → is_buffer_for access o ≡ true → (t : ElementType) × (writable : Bool) × (o ≡ Some (Buffer t writable))
+pub buffer_for : (access : Access) (o : Option ExprType) → is_buffer_for access o ≡ true → (t : ElementType) × (writable : Bool) × (o ≡ Some (Buffer t writable))
 buffer_for (ElementsCopy t) (Some (Buffer u true)) h = (u, true, refl)
 buffer_for ArrayView (Some (Buffer u true)) h = (u, true, refl)
 buffer_for CharsCopy (Some (Buffer u false)) h = (u, false, refl)
@@ -120,12 +120,12 @@ abbrev IsRightMode : ParameterKind → Argument → Type 0
 IsRightMode parameter a = (not (is_mode_parameter parameter) || is_mode a) ≡ true
 
 module _ (p : Point) (stated : AreStated p) where
-  reference_fits : (x : Identifier) (o : Option Sort) → sort_in p.names x ≡ o → is_reference o ≡ true → is_dead (state_of p.regions x) ≡ false → ReferenceFits p x o
+  reference_fits : (x : Identifier) (o : Option ExprType) → type_in p.names x ≡ o → is_reference o ≡ true → is_dead (state_of p.regions x) ≡ false → ReferenceFits p x o
   reference_fits x (Some Ref) e h alive = is_live p stated x e alive
   reference_fits x (Some Global) e h alive = tt
   reference_fits x o e h alive = absurd (cc)
 
-  any_reference_fits : (x : Identifier) (o : Option Sort) → sort_in p.names x ≡ o → is_any_reference o ≡ true → is_dead (state_of p.regions x) ≡ false → AnyReferenceFits p x o
+  any_reference_fits : (x : Identifier) (o : Option ExprType) → type_in p.names x ≡ o → is_any_reference o ≡ true → is_dead (state_of p.regions x) ≡ false → AnyReferenceFits p x o
   any_reference_fits x (Some Ref) e h alive = is_live p stated x e alive
   any_reference_fits x (Some Global) e h alive = tt
   any_reference_fits x (Some Weak) e h alive = tt
@@ -138,9 +138,9 @@ module _ (p : Point) (stated : AreStated p) where
   unfree_name x h = (neither (is_free (state_of p.regions x)) false h.unfree).0
 
   -- NULL or a reference
-  null_or_reference : (e : Expr) → (is_null e || is_reference (name_sort p.names e)) ≡ true → MayReadAll p.regions (e ∷ []) → ReferenceArgumentFits p (Value e)
+  null_or_reference : (e : Expr) → (is_null e || is_reference (name_type p.names e)) ≡ true → MayReadAll p.regions (e ∷ []) → ReferenceArgumentFits p (Value e)
   null_or_reference (Named Null) h read = tt
-  null_or_reference (Variable x) h read = reference_fits x (sort_in p.names x) refl h (alive_name x read)
+  null_or_reference (Variable x) h read = reference_fits x (type_in p.names x) refl h (alive_name x read)
   null_or_reference e h read = absurd (cc)
 
   reference_argument : (a : Argument) → argument_fits p.names Nullable a ≡ true → MayReadAll p.regions (argument_expressions a) → ReferenceArgumentFits p a
@@ -151,7 +151,7 @@ module _ (p : Point) (stated : AreStated p) where
   -- the same, weak or not
   any_argument : (a : Argument) → argument_fits p.names AnyReference a ≡ true → MayReadAll p.regions (argument_expressions a) → GivenFits p AnyReference a
   any_argument (Value (Named Null)) h read = tt
-  any_argument (Value (Variable x)) h read = any_reference_fits x (sort_in p.names x) refl h (alive_name x read)
+  any_argument (Value (Variable x)) h read = any_reference_fits x (type_in p.names x) refl h (alive_name x read)
   any_argument a h read = absurd (cc)
 
   mode_argument : (a : Argument) → IsRightMode Mode a → GivenFits p Mode a
@@ -160,29 +160,29 @@ module _ (p : Point) (stated : AreStated p) where
   mode_argument a h = absurd (cc)
 
   local_argument : (a : Argument) → argument_fits p.names LocalVariable a ≡ true → MayReadAll p.regions (argument_expressions a) → GivenFits p LocalVariable a
-  local_argument (Value (Variable x)) h read = is_live p stated x (is_a_ref (sort_in p.names x) h) (alive_name x read)
+  local_argument (Value (Variable x)) h read = is_live p stated x (is_a_ref (type_in p.names x) h) (alive_name x read)
   local_argument a h read = absurd (cc)
 
   static_argument : (a : Argument) → argument_fits p.names StaticVariable a ≡ true → GivenFits p StaticVariable a
-  static_argument (Value (Variable x)) h = is_a_global (sort_in p.names x) h
+  static_argument (Value (Variable x)) h = is_a_global (type_in p.names x) h
   static_argument a h = absurd (cc)
 
   weak_argument : (a : Argument) → argument_fits p.names WeakVariable a ≡ true → GivenFits p WeakVariable a
-  weak_argument (Value (Variable x)) h = is_a_weak (sort_in p.names x) h
+  weak_argument (Value (Variable x)) h = is_a_weak (type_in p.names x) h
   weak_argument a h = absurd (cc)
 
   field_argument : (a : Argument) → argument_fits p.names FieldID a ≡ true → GivenFits p FieldID a
   field_argument (Value (Named c)) h = tt
-  field_argument (Value (Variable x)) h = is_a_field (sort_in p.names x) h
+  field_argument (Value (Variable x)) h = is_a_field (type_in p.names x) h
   field_argument a h = absurd (cc)
 
   method_argument : (a : Argument) → argument_fits p.names MethodID a ≡ true → GivenFits p MethodID a
   method_argument (Value (Named c)) h = tt
-  method_argument (Value (Variable x)) h = is_a_method (sort_in p.names x) h
+  method_argument (Value (Variable x)) h = is_a_method (type_in p.names x) h
   method_argument a h = absurd (cc)
 
   array_argument : (t : ElementType) (a : Argument) → argument_fits p.names (ArrayVariable t) a ≡ true → GivenFits p (ArrayVariable t) a
-  array_argument t (Value (Variable x)) h = array_of t (sort_in p.names x) h
+  array_argument t (Value (Variable x)) h = array_of t (type_in p.names x) h
   array_argument t a h = absurd (cc)
 
   no_access : (access : Access) → is_buffer_for access None ≡ true → ⊥
@@ -193,7 +193,7 @@ module _ (p : Point) (stated : AreStated p) where
 
   buffer_argument : (access : Access) (a : Argument) → argument_fits p.names (BufferVariable access) a ≡ true → MayReadAll p.regions (argument_expressions a) → BufferTested p (BufferVariable access) a → GivenFits p (BufferVariable access) a
   buffer_argument access (Value (Variable x)) h read tested =
-      let is = buffer_for access (sort_in p.names x) h in
+      let is = buffer_for access (type_in p.names x) h in
       let found = stated.buffer x is.0 is.1 is.2 in
       usable_if p x found.0 found.1 (unfree_name x read) tested
   buffer_argument access (Value (Number n unsigned)) h read tested = absurd (no_access access h)
@@ -207,7 +207,7 @@ module _ (p : Point) (stated : AreStated p) where
 
   copy_argument : (a : Argument) → argument_fits p.names IsCopy a ≡ true → GivenFits p IsCopy a
   copy_argument (Value (Named c)) h = tt
-  copy_argument (AddressOf x) h = is_a_flag (sort_in p.names x) h
+  copy_argument (AddressOf x) h = is_a_flag (type_in p.names x) h
   copy_argument a h = absurd (cc)
 
   text_argument : (a : Argument) → argument_fits p.names TextBytes a ≡ true → GivenFits p TextBytes a
@@ -215,7 +215,7 @@ module _ (p : Point) (stated : AreStated p) where
   text_argument a h = absurd (cc)
 
   number_argument : (a : Argument) → argument_fits p.names IntNumber a ≡ true → MayReadAll p.regions (argument_expressions a) → OperandFits p IntNumber (operand (IntNumber, a))
-  number_argument (Value e) h read = expression_fits p stated e Jint (first_read p.regions e [] read).0 (is_a_jint (sort_of p.names e) h) tt
+  number_argument (Value e) h read = expression_fits p stated e Jint (first_read p.regions e [] read).0 (is_a_jint (type_of p.names e) h) tt
   number_argument (Text t) h read = absurd (cc)
   number_argument (AddressOf x) h read = absurd (cc)
 
@@ -224,10 +224,10 @@ module _ (p : Point) (stated : AreStated p) where
   no_reference true h = refl
   no_reference false h = absurd (cc)
 
-  passed_number : (e : Expr) → is_jint (sort_of p.names e) ≡ true → MayReadAll p.regions (e ∷ []) → HasSort p (term_of e) Jint
-  passed_number e h read = expression_fits p stated e Jint (first_read p.regions e [] read).0 (is_a_jint (sort_of p.names e) h) tt
+  passed_number : (e : Expr) → is_jint (type_of p.names e) ≡ true → MayReadAll p.regions (e ∷ []) → HasType p (term_of e) Jint
+  passed_number e h read = expression_fits p stated e Jint (first_read p.regions e [] read).0 (is_a_jint (type_of p.names e) h) tt
 
-  passed_name : (x : Identifier) (o : Option Sort) → sort_in p.names x ≡ o → (is_jint o || false || is_reference o) ≡ true → is_dead (state_of p.regions x) ≡ false → PassedFits p x o
+  passed_name : (x : Identifier) (o : Option ExprType) → type_in p.names x ≡ o → (is_jint o || false || is_reference o) ≡ true → is_dead (state_of p.regions x) ≡ false → PassedFits p x o
   passed_name x (Some Jint) e h alive = tt
   passed_name x (Some Ref) e h alive = is_live p stated x e alive
   passed_name x (Some Global) e h alive = tt
@@ -235,7 +235,7 @@ module _ (p : Point) (stated : AreStated p) where
 
   passed_argument : (a : Argument) → argument_fits p.names Passed a ≡ true → MayReadAll p.regions (argument_expressions a) → OperandFits p Passed (operand (Passed, a))
   passed_argument (Value (Named Null)) h read = tt
-  passed_argument (Value (Variable x)) h read = passed_name x (sort_in p.names x) refl h (alive_name x read)
+  passed_argument (Value (Variable x)) h read = passed_name x (type_in p.names x) refl h (alive_name x read)
   passed_argument (Value (Named c)) h read = passed_number (Named c) (no_reference _ h) read
   passed_argument (Value (Number n unsigned)) h read = passed_number (Number n unsigned) (no_reference _ h) read
   passed_argument (Value (Element x i)) h read = passed_number (Element x i) (no_reference _ h) read

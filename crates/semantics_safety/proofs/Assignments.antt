@@ -14,11 +14,11 @@ use Rattle.syntax.specs.Tree.{ResultType, Expr, Argument, Call, RightSide, FromE
 use Rattle.jni.specs.Access.{Access}
 use Rattle.jni.specs.JniFunction.{JniFunction, GetBuffer, prototype}
 use Rattle.jni.specs.Prototype.{ResultKind, NewLocal, NewGlobal, NewWeak, GivesFlag, GivesInt, GivesField, GivesMethod, GivesNothing, GivesBuffer}
-use Rattle.type_rules.specs.Sorts.{Sort, Word, Jint, Flag, Ref, Global, Weak, Buffer, sort_in, sort_of, is_buffer_for, is_ref, is_field, is_method, is_null, name_sort}
-use Rattle.type_rules.specs.Sorts as sort
-use Rattle.type_rules.specs.SortRules as rules
-use Rattle.type_rules.specs.SortRules.{result_fits, call_fits, value_sets}
-use Rattle.type_rules.specs.SortGroups.{IsNumberSort}
+use Rattle.type_rules.specs.ExprTypes.{ExprType, Word, Jint, Flag, Ref, Global, Weak, Buffer, type_in, type_of, is_buffer_for, is_ref, is_field, is_method, is_null, name_type}
+use Rattle.type_rules.specs.ExprTypes as ty
+use Rattle.type_rules.specs.TypeRules as rules
+use Rattle.type_rules.specs.TypeRules.{result_fits, call_fits, value_sets}
+use Rattle.type_rules.specs.TypeGroups.{IsNumberType}
 use Rattle.region_rules.specs.RegionRules.{HeldBuffer, ArrayInUse, WrongLevel, is_reference_now, is_level, is_held, is_array_in_use, Obeys}
 use Rattle.region_rules.specs.RegionStates.{VariableState, BufferState, Free, Untested, Usable, ReferenceAt, BufferIn, RegionState, state_of, held_by, held_buffers, function_called, get_of, Release, release_of, deleted_name, pops, frame_count_after, made_free, killed, killed_from, with_changed, with_some_changed, after_release, after_pop, after_call, buffer_from, set_to, FunctionCall}
 use Rattle.semantics.specs.Task.{Assigned, set_task}
@@ -31,7 +31,7 @@ use Rattle.semantics_safety.proofs.PlainStatements.{null_is, scalar_runs}
 use Rattle.semantics_safety.proofs.Declarations.{called_taken, first_so, is_a_word}
 use Rattle.semantics_safety.proofs.KnownPoints.{IsKnown, Kin, HasState, known_more, each_found, from_map, held_of, holds_of}
 use Rattle.semantics_safety.proofs.StatementCalls.{IsCalled, call_there, known_called, call_runs}
-use Rattle.semantics_safety.proofs.WaysGive.{Gives, covers_front, known_one}
+use Rattle.semantics_safety.proofs.PathsGive.{Gives, covers_front, known_one}
 
 -- ---- one variable's state changes
 
@@ -224,7 +224,7 @@ module _ (p : Point) (taken : List Identifier) (known : IsKnown p taken) (line :
       none_holds p (λ held. bytes_eq held.1 x) none y access x (held_before p (function_called s) y access x h) ((bytes_eq-Decides x x).1 refl)
 
   -- a reference that is assigned may be set after the call
-  pub may_set : sort_in p.names x ≡ Some Ref → MaySet q x
+  pub may_set : type_in p.names x ≡ Some Ref → MaySet q x
   may_set e =
       let there = known.stated.reference x e in
       let level : there.0 ≡ frame_count_after p.regions s = level_rule (frame_count_after p.regions s) (state_of p.regions x) there.0 there.1 there.2 (unbroken p.regions s WrongLevel obeys) in
@@ -240,7 +240,7 @@ module _ (p : Point) (taken : List Identifier) (known : IsKnown p taken) (line :
 -- ---- a variable's state after it is set
 
 -- nothing is known of a variable without a state
-stateless_same : (q : Point) (taken : List Identifier) → IsKnown q taken → (x : Identifier) (f : VariableState → VariableState) (k : Point → Type 0) (t : Sort) → sort_in q.names x ≡ Some t → (HasState t → ⊥) → k (at q (with_changed q.regions x f)) → k q
+stateless_same : (q : Point) (taken : List Identifier) → IsKnown q taken → (x : Identifier) (f : VariableState → VariableState) (k : Point → Type 0) (t : ExprType) → type_in q.names x ≡ Some t → (HasState t → ⊥) → k (at q (with_changed q.regions x f)) → k q
 stateless_same q taken known x f k t e stateless now = subst (λ (r : RegionState). k (at q r)) (changed_none q.regions x f (by_state (state_of q.regions x) refl)) now
   where
     by_state : (o : Option VariableState) → state_of q.regions x ≡ o → o ≡ None
@@ -251,27 +251,27 @@ stateless_same q taken known x f k t e stateless now = subst (λ (r : RegionStat
         absurd (stateless (subst HasState same there.2))
 
 -- a reference that is set is live
-reference_set : (q : Point) (taken : List Identifier) → IsKnown q taken → (x : Identifier) (r : RightSide) (k : Point → Type 0) → sort_in q.names x ≡ Some Ref → k (at q (with_changed q.regions x (set_to r))) → k (at q (with_changed q.regions x revived))
+reference_set : (q : Point) (taken : List Identifier) → IsKnown q taken → (x : Identifier) (r : RightSide) (k : Point → Type 0) → type_in q.names x ≡ Some Ref → k (at q (with_changed q.regions x (set_to r))) → k (at q (with_changed q.regions x revived))
 reference_set q taken known x r k e now =
     let there = known.stated.reference x e in
     subst (λ (state : RegionState). k (at q state)) (changed_same q.regions x (set_to r) revived (ReferenceAt there.0 there.1) known.once there.2 refl) now
 
 -- ---- the result
 
-is_a_global : (o : Option Sort) → result_fits o NewGlobal ≡ true → o ≡ Some Global
+is_a_global : (o : Option ExprType) → result_fits o NewGlobal ≡ true → o ≡ Some Global
 is_a_global (Some Global) h = refl
 is_a_global o h = absurd (cc)
 
-is_a_weak : (o : Option Sort) → result_fits o NewWeak ≡ true → o ≡ Some Weak
+is_a_weak : (o : Option ExprType) → result_fits o NewWeak ≡ true → o ≡ Some Weak
 is_a_weak (Some Weak) h = refl
 is_a_weak o h = absurd (cc)
 
-is_a_field : (o : Option Sort) → is_field o ≡ true → o ≡ Some sort.FieldId
-is_a_field (Some sort.FieldId) h = refl
+is_a_field : (o : Option ExprType) → is_field o ≡ true → o ≡ Some ty.FieldId
+is_a_field (Some ty.FieldId) h = refl
 is_a_field o h = absurd (cc)
 
-is_a_method : (o : Option Sort) → is_method o ≡ true → o ≡ Some sort.MethodId
-is_a_method (Some sort.MethodId) h = refl
+is_a_method : (o : Option ExprType) → is_method o ≡ true → o ≡ Some ty.MethodId
+is_a_method (Some ty.MethodId) h = refl
 is_a_method o h = absurd (cc)
 
 is_a_get : (f : JniFunction) (access : Access) → (prototype f).result ≡ GivesBuffer access → f ≡ GetBuffer access
@@ -317,7 +317,7 @@ module _ (p : Point) (taken : List Identifier) (returns : ResultType) (known : I
   end_known = known_one later taken after_known x (set_to (FromCall c)) set_kin
 
   module _ (now : k end) where
-    buffer : (access : Access) (t : ElementType) (writable : Bool) → (prototype call.function).result ≡ GivesBuffer access → sort_in p.names x ≡ Some (Buffer t writable) → is_buffer_for access (Some (Buffer t writable)) ≡ true
+    buffer : (access : Access) (t : ElementType) (writable : Bool) → (prototype call.function).result ≡ GivesBuffer access → type_in p.names x ≡ Some (Buffer t writable) → is_buffer_for access (Some (Buffer t writable)) ≡ true
         → (state_of later.regions x ≡ Some (BufferIn Free)) × (is_buffer_for access (Some (Buffer t writable)) ≡ true) × k (at later (with_changed later.regions x (λ old. BufferIn (buffer_from get))))
     buffer access t writable result e for_it =
         let there = known.stated.buffer x t writable e in
@@ -327,30 +327,30 @@ module _ (p : Point) (taken : List Identifier) (returns : ResultType) (known : I
         ap (λ (r : RegionState). state_of r x) (get_keeps p.regions (function_called stmt) access c.arguments is) ∙ there.1 ∙ ap (λ (b : BufferState). Some (BufferIn b)) free in
         (state, for_it, subst (λ (r : RegionState). k (at later r)) (changed_same later.regions x (set_to (FromCall c)) (λ old. BufferIn (buffer_from get)) (BufferIn Free) after_known.once state refl) now)
 
-    assigned : (o : Option Sort) → sort_in p.names x ≡ o → (result : ResultKind) → (prototype call.function).result ≡ result → result_fits o result ≡ true → AssignsResult later o x result get k
-    assigned o e GivesInt is fit = subst (λ (o : Option Sort). AssignsResult later o x GivesInt get k) (sym (is_a_jint o fit)) (stateless_same later taken after_known x (set_to (FromCall c)) k Jint (e ∙ is_a_jint o fit) (λ h. h) now)
-    assigned o e GivesFlag is fit = subst (λ (o : Option Sort). AssignsResult later o x GivesFlag get k) (sym (is_a_flag o fit)) (stateless_same later taken after_known x (set_to (FromCall c)) k Flag (e ∙ is_a_flag o fit) (λ h. h) now)
-    assigned o e GivesField is fit = subst (λ (o : Option Sort). AssignsResult later o x GivesField get k) (sym (is_a_field o fit)) (stateless_same later taken after_known x (set_to (FromCall c)) k sort.FieldId (e ∙ is_a_field o fit) (λ h. h) now)
-    assigned o e GivesMethod is fit = subst (λ (o : Option Sort). AssignsResult later o x GivesMethod get k) (sym (is_a_method o fit)) (stateless_same later taken after_known x (set_to (FromCall c)) k sort.MethodId (e ∙ is_a_method o fit) (λ h. h) now)
-    assigned o e NewGlobal is fit = subst (λ (o : Option Sort). AssignsResult later o x NewGlobal get k) (sym (is_a_global o fit)) (stateless_same later taken after_known x (set_to (FromCall c)) k Global (e ∙ is_a_global o fit) (λ h. h) now)
-    assigned o e NewWeak is fit = subst (λ (o : Option Sort). AssignsResult later o x NewWeak get k) (sym (is_a_weak o fit)) (stateless_same later taken after_known x (set_to (FromCall c)) k Weak (e ∙ is_a_weak o fit) (λ h. h) now)
+    assigned : (o : Option ExprType) → type_in p.names x ≡ o → (result : ResultKind) → (prototype call.function).result ≡ result → result_fits o result ≡ true → AssignsResult later o x result get k
+    assigned o e GivesInt is fit = subst (λ (o : Option ExprType). AssignsResult later o x GivesInt get k) (sym (is_a_jint o fit)) (stateless_same later taken after_known x (set_to (FromCall c)) k Jint (e ∙ is_a_jint o fit) (λ h. h) now)
+    assigned o e GivesFlag is fit = subst (λ (o : Option ExprType). AssignsResult later o x GivesFlag get k) (sym (is_a_flag o fit)) (stateless_same later taken after_known x (set_to (FromCall c)) k Flag (e ∙ is_a_flag o fit) (λ h. h) now)
+    assigned o e GivesField is fit = subst (λ (o : Option ExprType). AssignsResult later o x GivesField get k) (sym (is_a_field o fit)) (stateless_same later taken after_known x (set_to (FromCall c)) k ty.FieldId (e ∙ is_a_field o fit) (λ h. h) now)
+    assigned o e GivesMethod is fit = subst (λ (o : Option ExprType). AssignsResult later o x GivesMethod get k) (sym (is_a_method o fit)) (stateless_same later taken after_known x (set_to (FromCall c)) k ty.MethodId (e ∙ is_a_method o fit) (λ h. h) now)
+    assigned o e NewGlobal is fit = subst (λ (o : Option ExprType). AssignsResult later o x NewGlobal get k) (sym (is_a_global o fit)) (stateless_same later taken after_known x (set_to (FromCall c)) k Global (e ∙ is_a_global o fit) (λ h. h) now)
+    assigned o e NewWeak is fit = subst (λ (o : Option ExprType). AssignsResult later o x NewWeak get k) (sym (is_a_weak o fit)) (stateless_same later taken after_known x (set_to (FromCall c)) k Weak (e ∙ is_a_weak o fit) (λ h. h) now)
     assigned o e NewLocal is fit =
         let ref = is_a_ref o fit in
-        subst (λ (o : Option Sort). AssignsResult later o x NewLocal get k) (sym ref) (may_set p taken known line x (FromCall c) obeys (e ∙ ref), reference_set later taken after_known x (FromCall c) k (e ∙ ref) now)
+        subst (λ (o : Option ExprType). AssignsResult later o x NewLocal get k) (sym ref) (may_set p taken known line x (FromCall c) obeys (e ∙ ref), reference_set later taken after_known x (FromCall c) k (e ∙ ref) now)
     assigned o e (GivesBuffer access) is fit =
         let of = buffer_for access o fit in
-        subst (λ (o : Option Sort). AssignsResult later o x (GivesBuffer access) get k) (sym of.2) (buffer access of.0 of.1 is (e ∙ of.2) (ap (is_buffer_for access) (sym of.2) ∙ fit))
+        subst (λ (o : Option ExprType). AssignsResult later o x (GivesBuffer access) get k) (sym of.2) (buffer access of.0 of.1 is (e ∙ of.2) (ap (is_buffer_for access) (sym of.2) ∙ fit))
     assigned o e GivesNothing is fit = absurd (cc)
 
 pub assign_call : (line : ℕ) (x : Identifier) (c : Call) → Gives (tree.Assign line x (FromCall c))
-assign_call line x c p taken returns way k known kept (obeys, is) h =
+assign_call line x c p taken returns path k known kept (obeys, is) h =
     let s = tree.Assign line x (FromCall c) in
     let call = call_there p taken returns s c known kept obeys refl refl in
     let result = (prototype call.function).result in
-    let both = both_so (not (rules.is_push call.function)) (result_fits (sort_in p.names x) result) (ap (call_fits (sort_in p.names x)) (sym call.is_named) ∙ kept.fits) in
+    let both = both_so (not (rules.is_push call.function)) (result_fits (type_in p.names x) result) (ap (call_fits (type_in p.names x)) (sym call.is_named) ∙ kept.fits) in
     let after = end p taken returns known line x c obeys call k in
     let now = h after.regions is (known_more after taken (taken ++ []) (covers_front taken []) (end_known p taken returns known line x c obeys call k)) in
-    call_runs p s line (Assigned x) c k call both.0 (assigned p taken returns known line x c obeys call k now (sort_in p.names x) refl result refl both.1)
+    call_runs p s line (Assigned x) c k call both.0 (assigned p taken returns known line x c obeys call k now (type_in p.names x) refl result refl both.1)
 
 -- ---- a value
 
@@ -363,28 +363,28 @@ module _ (p : Point) (taken : List Identifier) (known : IsKnown p taken) (line :
   reads : MayRead p.regions e
   reads = (first_read p.regions e [] (statement_reads p.regions (tree.Assign line x (FromExpr e)) obeys)).0
 
-  number : (t : Sort) → IsNumberSort t → (HasState t → ⊥) → sort_in p.names x ≡ Some t → sort_of p.names e ≡ Some t → RunsPlain (set_task line (Assigned x) x e) k p
+  number : (t : ExprType) → IsNumberType t → (HasState t → ⊥) → type_in p.names x ≡ Some t → type_of p.names e ≡ Some t → RunsPlain (set_task line (Assigned x) x e) k p
   number t numbered stateless at' is = scalar_runs p taken line (Assigned x) x e t k known numbered is reads (inl (at', stateless_same p taken known x (set_to (FromExpr e)) k t at' stateless now))
 
   -- NULL is assigned
-  null : (o : Option Sort) → sort_in p.names x ≡ o → is_null e ≡ true → AssignsNull p o x k → RunsPlain (set_task line (Assigned x) x e) k p
-  null o at' is runs = subst (λ (e : Expr). RunsPlain (set_task line (Assigned x) x e) k p) (sym (null_is e is)) (subst (λ (o : Option Sort). AssignsNull p o x k) (sym at') runs)
+  null : (o : Option ExprType) → type_in p.names x ≡ o → is_null e ≡ true → AssignsNull p o x k → RunsPlain (set_task line (Assigned x) x e) k p
+  null o at' is runs = subst (λ (e : Expr). RunsPlain (set_task line (Assigned x) x e) k p) (sym (null_is e is)) (subst (λ (o : Option ExprType). AssignsNull p o x k) (sym at') runs)
 
-  valued : (o : Option Sort) → sort_in p.names x ≡ o → value_sets p.names o e ≡ true → (is_ref o && is_some (name_sort p.names e)) ≡ false → RunsPlain (set_task line (Assigned x) x e) k p
-  valued (Some Word) at' fit uncopied = number Word tt (λ h. h) at' (is_a_word (sort_of p.names e) fit)
-  valued (Some Jint) at' fit uncopied = number Jint tt (λ h. h) at' (is_a_jint (sort_of p.names e) fit)
-  valued (Some Flag) at' fit uncopied = number Flag tt (λ h. h) at' (is_a_flag (sort_of p.names e) fit)
+  valued : (o : Option ExprType) → type_in p.names x ≡ o → value_sets p.names o e ≡ true → (is_ref o && is_some (name_type p.names e)) ≡ false → RunsPlain (set_task line (Assigned x) x e) k p
+  valued (Some Word) at' fit uncopied = number Word tt (λ h. h) at' (is_a_word (type_of p.names e) fit)
+  valued (Some Jint) at' fit uncopied = number Jint tt (λ h. h) at' (is_a_jint (type_of p.names e) fit)
+  valued (Some Flag) at' fit uncopied = number Flag tt (λ h. h) at' (is_a_flag (type_of p.names e) fit)
   valued (Some Ref) at' fit uncopied =
-      null (Some Ref) at' (first_so (is_null e) (is_some (name_sort p.names e)) fit uncopied)
+      null (Some Ref) at' (first_so (is_null e) (is_some (name_type p.names e)) fit uncopied)
       (may_set p taken known line x (FromExpr e) obeys at', reference_set p taken known x (FromExpr e) k at' now)
   valued (Some Global) at' fit uncopied = null (Some Global) at' fit (stateless_same p taken known x (set_to (FromExpr e)) k Global at' (λ h. h) now)
   valued (Some Weak) at' fit uncopied = null (Some Weak) at' fit (stateless_same p taken known x (set_to (FromExpr e)) k Weak at' (λ h. h) now)
-  valued (Some sort.FieldId) at' fit uncopied = null (Some sort.FieldId) at' fit (stateless_same p taken known x (set_to (FromExpr e)) k sort.FieldId at' (λ h. h) now)
-  valued (Some sort.MethodId) at' fit uncopied = null (Some sort.MethodId) at' fit (stateless_same p taken known x (set_to (FromExpr e)) k sort.MethodId at' (λ h. h) now)
+  valued (Some ty.FieldId) at' fit uncopied = null (Some ty.FieldId) at' fit (stateless_same p taken known x (set_to (FromExpr e)) k ty.FieldId at' (λ h. h) now)
+  valued (Some ty.MethodId) at' fit uncopied = null (Some ty.MethodId) at' fit (stateless_same p taken known x (set_to (FromExpr e)) k ty.MethodId at' (λ h. h) now)
   valued o at' fit uncopied = absurd (cc)
 
 pub assign_value : (line : ℕ) (x : Identifier) (e : Expr) → Gives (tree.Assign line x (FromExpr e))
-assign_value line x e p taken returns way k known kept (obeys, is) h =
+assign_value line x e p taken returns path k known kept (obeys, is) h =
     let after = at p (with_changed p.regions x (set_to (FromExpr e))) in
     let now = h after.regions is (known_more after taken (taken ++ []) (covers_front taken []) (known_one p taken known x (set_to (FromExpr e)) (λ y u at'. value_kin taken e u))) in
-    valued p taken known line x e obeys k now (sort_in p.names x) refl kept.fits kept.uncopied
+    valued p taken known line x e obeys k now (type_in p.names x) refl kept.fits kept.uncopied

@@ -5,8 +5,8 @@ use Rattle.syntax.specs.Tree.{Stmt, If, IfElse, While, Block, End, Next, TestExp
 use Rattle.jni.specs.Access.{Access}
 use Rattle.jni.specs.JniFunction.{JniFunction, prototype, function_named}
 use Rattle.jni.specs.Prototype.{ResultKind, NewLocal, NewGlobal, NewWeak, GivesFlag, GivesInt, GivesField, GivesMethod, GivesBuffer}
-use Rattle.type_rules.specs.Sorts.{Sort, sort_in}
-use Rattle.type_rules.specs.Sorts as sort
+use Rattle.type_rules.specs.ExprTypes.{ExprType, type_in}
+use Rattle.type_rules.specs.ExprTypes as ty
 use Rattle.region_rules.specs.RegionStates.{get_of}
 use Rattle.semantics.specs.Task as task
 use Rattle.semantics.specs.Task.{Task, SetScalar, SetElement, SetNull, MakeArray, Invoke, Print, Target, Declared, Assigned, Tested, Dropped, VariableKind, ScalarKind, ReferenceKind, FieldKind, MethodKind, BufferKind, invocation, task_of, tasks_of}
@@ -31,12 +31,12 @@ null_declared_more k l h p FieldKind x r = (r.0, h _ r.1)
 null_declared_more k l h p MethodKind x r = (r.0, h _ r.1)
 null_declared_more k l h p (BufferKind t) x r = (r.0, (r.1.0, h _ r.1.1))
 
-null_assigned_more : (k l : Point → Type 0) → k ⇒ l → (p : Point) (s : Option Sort) (x : Identifier) → AssignsNull p s x k → AssignsNull p s x l
-null_assigned_more k l h p (Some sort.Ref) x r = (r.0, h _ r.1)
-null_assigned_more k l h p (Some sort.Global) x r = h p r
-null_assigned_more k l h p (Some sort.Weak) x r = h p r
-null_assigned_more k l h p (Some sort.FieldId) x r = h p r
-null_assigned_more k l h p (Some sort.MethodId) x r = h p r
+null_assigned_more : (k l : Point → Type 0) → k ⇒ l → (p : Point) (s : Option ExprType) (x : Identifier) → AssignsNull p s x k → AssignsNull p s x l
+null_assigned_more k l h p (Some ty.Ref) x r = (r.0, h _ r.1)
+null_assigned_more k l h p (Some ty.Global) x r = h p r
+null_assigned_more k l h p (Some ty.Weak) x r = h p r
+null_assigned_more k l h p (Some ty.FieldId) x r = h p r
+null_assigned_more k l h p (Some ty.MethodId) x r = h p r
 null_assigned_more k l h p s x r = absurd r
 
 result_declared_more : (k l : Point → Type 0) → k ⇒ l → (p : Point) (kind : VariableKind) (x : Identifier) (result : ResultKind) (get : Option (Access × Option Identifier)) → DeclaresResult p kind x result get k → DeclaresResult p kind x result get l
@@ -48,25 +48,25 @@ result_declared_more k l h p MethodKind x GivesMethod get r = (r.0, h _ r.1)
 result_declared_more k l h p (BufferKind t) x (GivesBuffer access) get r = (r.0, (r.1.0, r.1.1, h _ r.1.2))
 result_declared_more k l h p kind x result get r = absurd r
 
-result_assigned_more : (k l : Point → Type 0) → k ⇒ l → (p : Point) (s : Option Sort) (x : Identifier) (result : ResultKind) (get : Option (Access × Option Identifier)) → AssignsResult p s x result get k → AssignsResult p s x result get l
-result_assigned_more k l h p (Some sort.Jint) x GivesInt get r = h p r
-result_assigned_more k l h p (Some sort.Flag) x GivesFlag get r = h p r
-result_assigned_more k l h p (Some sort.Ref) x NewLocal get r = (r.0, h _ r.1)
-result_assigned_more k l h p (Some sort.Global) x NewGlobal get r = h p r
-result_assigned_more k l h p (Some sort.Weak) x NewWeak get r = h p r
-result_assigned_more k l h p (Some sort.FieldId) x GivesField get r = h p r
-result_assigned_more k l h p (Some sort.MethodId) x GivesMethod get r = h p r
-result_assigned_more k l h p (Some (sort.Buffer t writable)) x (GivesBuffer access) get r = (r.0, r.1, h _ r.2)
+result_assigned_more : (k l : Point → Type 0) → k ⇒ l → (p : Point) (s : Option ExprType) (x : Identifier) (result : ResultKind) (get : Option (Access × Option Identifier)) → AssignsResult p s x result get k → AssignsResult p s x result get l
+result_assigned_more k l h p (Some ty.Jint) x GivesInt get r = h p r
+result_assigned_more k l h p (Some ty.Flag) x GivesFlag get r = h p r
+result_assigned_more k l h p (Some ty.Ref) x NewLocal get r = (r.0, h _ r.1)
+result_assigned_more k l h p (Some ty.Global) x NewGlobal get r = h p r
+result_assigned_more k l h p (Some ty.Weak) x NewWeak get r = h p r
+result_assigned_more k l h p (Some ty.FieldId) x GivesField get r = h p r
+result_assigned_more k l h p (Some ty.MethodId) x GivesMethod get r = h p r
+result_assigned_more k l h p (Some (ty.Buffer t writable)) x (GivesBuffer access) get r = (r.0, r.1, h _ r.2)
 result_assigned_more k l h p s x result get r = absurd r
 
 null_more : (k l : Point → Type 0) → k ⇒ l → (p : Point) (target : Target) → SetsNullThere p target k → SetsNullThere p target l
 null_more k l h p (Declared kind x) r = null_declared_more k l h p kind x r
-null_more k l h p (Assigned x) r = null_assigned_more k l h p (sort_in p.names x) x r
+null_more k l h p (Assigned x) r = null_assigned_more k l h p (type_in p.names x) x r
 null_more k l h p target r = absurd r
 
 result_more : (k l : Point → Type 0) → k ⇒ l → (p : Point) (target : Target) (result : ResultKind) (get : Option (Access × Option Identifier)) → ResultGoes target result get k p → ResultGoes target result get l p
 result_more k l h p (Declared kind x) result get r = result_declared_more k l h p kind x result get r
-result_more k l h p (Assigned x) result get r = result_assigned_more k l h p (sort_in p.names x) x result get r
+result_more k l h p (Assigned x) result get r = result_assigned_more k l h p (type_in p.names x) x result get r
 result_more k l h p (Tested a b) result get r = r
 result_more k l h p Dropped result get r = (r.0, h p r.1)
 

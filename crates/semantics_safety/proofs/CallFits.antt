@@ -1,4 +1,4 @@
--- A call that keeps the rules of sorts and regions fits at its point.
+-- A call that keeps the rules of types and regions fits at its point.
 use Rattle.std.proofs.Common.{◌≡◌, ℕ, suc, ◌<◌, arith, inl, inr, Bool, true, false, not, ◌&&◌, ◌||◌, List, [], ◌∷◌, ◌++◌, map, length, nat_le, Option, Some, None, refl, sym, ap, ◌∙◌, subst, if◌then◌else◌}
 use Rattle.std.specs.Prelude.{flat_map, filter_map, zip, ◌==◌}
 use Rattle.std.specs.List.{list_any, cons_option}
@@ -15,8 +15,8 @@ use Rattle.syntax.specs.Tree.{Variable, Argument, Value, Stmt}
 use Rattle.jni.specs.Access.{Access, ElementsCopy, ArrayView, CharsCopy, CharsView, is_critical, same_access}
 use Rattle.jni.specs.JniFunction.{JniFunction, GetBuffer, ReleaseBuffer, DeleteLocalRef, PopLocalFrame, calls_method, parameters_for, takes_count, prototype}
 use Rattle.jni.specs.Prototype.{ParameterKind, IntNumber, Passed, BufferVariable, Mode, owner, release_mode}
-use Rattle.type_rules.specs.Sorts.{arguments_fit}
-use Rattle.type_rules.specs.SortRules.{modes_fit}
+use Rattle.type_rules.specs.ExprTypes.{arguments_fit}
+use Rattle.type_rules.specs.TypeRules.{modes_fit}
 use Rattle.region_rules.specs.RegionRules.{RegionRule, CallWhileCritical, UntestedBuffer, WrongBuffer, PopLastFrame, DeadReference, ArrayInUse, is_put_jint, is_critical_call, is_dead, is_reference_now, is_untested, is_free, is_mismatched, is_array_in_use, is_level, breaks_region_rule, Obeys}
 use Rattle.region_rules.specs.RegionStates.{VariableState, BufferState, Untested, Usable, ReferenceAt, BufferIn, RegionState, state_of, buffer_of, held_by, held_buffers, FunctionCall, function_called, argument_name, get_of, has_commit, Release, release_of, deleted_name, pops, after_call}
 use Rattle.region_rules.proofs.KeptRules.{kept}
@@ -405,7 +405,7 @@ module _ (p : Point) (stated : AreStated p) where
     -- a call that keeps the rules fits
     pub call_fits : CallFits p f (operands_of f arguments)
     call_fits = record {
-      sorts = subst (λ (n : ℕ). OperandsFit p (parameters_for f n) (operands_of f arguments)) (sym same_number) call_operands;
+      types = subst (λ (n : ℕ). OperandsFit p (parameters_for f n) (operands_of f arguments)) (sym same_number) call_operands;
       count = subst (λ (n : ℕ). takes_count f n ≡ true) (sym same_number) takes;
       views = views_met p s obeys f arguments called;
       rules = keeps_seen arguments p f count call_rules;

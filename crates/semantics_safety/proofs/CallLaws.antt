@@ -76,26 +76,26 @@ IsWithin (Calls line target f args) = calls_method f ≡ false
 IsWithin e = Unit {0}
 
 -- an effect returns, calls a method, or does neither
-pub data Way (e : Effect) : Type 0 where
-  Returning : (given : CallResult) → e ≡ Returns given → Way e
-  Calling : (line : ℕ) (target : Target) (f : JniFunction) (args : List Actual) → e ≡ Calls line target f args → calls_method f ≡ true → Way e
-  Within : IsWithin e → Way e
+pub data Path (e : Effect) : Type 0 where
+  Returning : (given : CallResult) → e ≡ Returns given → Path e
+  Calling : (line : ℕ) (target : Target) (f : JniFunction) (args : List Actual) → e ≡ Calls line target f args → calls_method f ≡ true → Path e
+  Within : IsWithin e → Path e
 
-way_of_call : (line : ℕ) (target : Target) (f : JniFunction) (args : List Actual) (b : Bool) → calls_method f ≡ b → Way (Calls line target f args)
-way_of_call line target f args true is = Calling line target f args refl is
-way_of_call line target f args false is = Within is
+path_of_call : (line : ℕ) (target : Target) (f : JniFunction) (args : List Actual) (b : Bool) → calls_method f ≡ b → Path (Calls line target f args)
+path_of_call line target f args true is = Calling line target f args refl is
+path_of_call line target f args false is = Within is
 
-pub way_of : (e : Effect) → Way e
-way_of (Returns given) = Returning given refl
-way_of (Calls line target f args) = way_of_call line target f args (calls_method f) refl
-way_of (Becomes tasks) = Within tt
-way_of (Sets x v) = Within tt
-way_of (SetsNull target) = Within tt
-way_of (SetsElement x i z) = Within tt
-way_of (MakesArray u x n) = Within tt
-way_of (Prints z) = Within tt
-way_of (TrapsAt trap line) = Within tt
-way_of NoEffect = Within tt
+pub path_of : (e : Effect) → Path e
+path_of (Returns given) = Returning given refl
+path_of (Calls line target f args) = path_of_call line target f args (calls_method f) refl
+path_of (Becomes tasks) = Within tt
+path_of (Sets x v) = Within tt
+path_of (SetsNull target) = Within tt
+path_of (SetsElement x i z) = Within tt
+path_of (MakesArray u x n) = Within tt
+path_of (Prints z) = Within tt
+path_of (TrapsAt trap line) = Within tt
+path_of NoEffect = Within tt
 
 module _ (unit : SourceUnit) (classes : Classes) (in_use : BuffersInUse) (k : ℕ) (s : Shared) (t : Thread) (task : Task) (rest : List Task) (p : Point) {weak : WeakNames} {own : Owners} (stands : Stands weak own s.statics t.variables t.frames p) (runs : Runs task (GoesOn rest) p) (whole : Goes weak own s.statics t t.tasks) where
   each_lands : (e : Effect) → IsWithin e → Follows weak own (sight_of s t) s.statics t.variables t.frames p rest e → LandsBy weak e (length t.frames) own s.statics (after_effect unit classes in_use k s t rest e)

@@ -15,7 +15,7 @@ use Rattle.jni.specs.JniFunction.{JniFunction, calls_method, prototype}
 use Rattle.semantics.specs.Thread.{Caller, Thread, Shared, BuffersInUse, Advance, Advances, NoAdvance, sight_of}
 use Rattle.semantics.specs.ThreadStep.{after_effect, after_refused_effect, step_within, thread_step}
 use Rattle.semantics.specs.World.{Invocation}
-use Rattle.semantics_safety.proofs.CallLaws.{Way, Returning, Calling, Within, way_of}
+use Rattle.semantics_safety.proofs.CallLaws.{Path, Returning, Calling, Within, path_of}
 use Rattle.semantics_safety.proofs.Pushes.{each_call, unrefused}
 use Rattle.semantics_safety.proofs.KeptCalls.{Held, KeepsCalls, calls_kept, held, put_keeps, received_calls}
 
@@ -54,7 +54,7 @@ module _ (P : Caller → Type 0) where
     HoldsPushed o = (task : Task) (rest : List Task) (line : ℕ) (target : Target) (f : JniFunction) (args : List Actual) → o ≡ Some (task ∷ rest) → effect_of (sight_of s t) task ≡ Calls line target f args → calls_method f ≡ true
         → P (record { target = target; result = (prototype f).result; tasks = rest; variables = t.variables; frames = t.frames })
 
-    within_left : (refused : Bool) (task : Task) (rest : List Task) → HoldsPushed (Some (task ∷ rest)) → Way (effect_of (sight_of s t) task) → LeavesCallers P (step_within unit classes in_use k s t refused (Some (task ∷ rest)))
+    within_left : (refused : Bool) (task : Task) (rest : List Task) → HoldsPushed (Some (task ∷ rest)) → Path (effect_of (sight_of s t) task) → LeavesCallers P (step_within unit classes in_use k s t refused (Some (task ∷ rest)))
     within_left false task rest pushed (Returning given is) = subst (λ (e : Effect). LeavesCallers P (after_effect unit classes in_use k s t rest e)) (sym is) (return_left given t.callers all)
     within_left true task rest pushed (Returning given is) = subst (λ (e : Effect). LeavesCallers P (after_refused_effect unit classes in_use k s t rest e)) (sym is) tt
     within_left false task rest pushed (Calling line target f args is method) =
@@ -70,7 +70,7 @@ module _ (P : Caller → Type 0) where
     step_left false None pushed = entry_left t.calls
     step_left true (Some []) pushed = tt
     step_left false (Some []) pushed = tt
-    step_left refused (Some (task ∷ rest)) pushed = within_left refused task rest pushed (way_of (effect_of (sight_of s t) task))
+    step_left refused (Some (task ∷ rest)) pushed = within_left refused task rest pushed (path_of (effect_of (sight_of s t) task))
 
     pub callers_left : HoldsPushed t.tasks → (refused : Bool) → LeavesCallers P (thread_step unit classes in_use k s t refused)
     callers_left pushed refused = step_left refused t.tasks pushed

@@ -11,8 +11,8 @@ use Rattle.class_rules.specs.Class.{Classes}
 use Rattle.jni.specs.Access.{Access}
 use Rattle.jni.specs.JniFunction.{JniFunction, prototype}
 use Rattle.jni.specs.Prototype.{ParameterKind, ResultKind, NewLocal, GivesNothing, IntNumber, ArrayVariable}
-use Rattle.type_rules.specs.Sorts.{sort_in}
-use Rattle.type_rules.specs.Sorts as sort
+use Rattle.type_rules.specs.ExprTypes.{type_in}
+use Rattle.type_rules.specs.ExprTypes as ty
 use Rattle.semantics.specs.Answer.{Answer, effect_of, with_region_got}
 use Rattle.semantics.specs.AnswerTable.{call_answer}
 use Rattle.semantics.specs.Arguments.{Actual, actuals, look_up, variable_given}
@@ -89,15 +89,15 @@ module _ (unit : SourceUnit) (classes : Classes) (in_use : BuffersInUse) (k : �
   array_no_buffer : (v : ElementType) (zs : List ℤ) (u : ElementType) (b : Buffer) → LocalArray v zs ≡ Elements u b → ⊥
   array_no_buffer v zs u b e = cc
 
-  stands_filled : (u : ElementType) (size : ℕ) (x : Identifier) (new : List ℤ) → sort_in p.names x ≡ Some (sort.Array u size) → Stands weak own s.statics (change x (begun_with new) t.variables) t.frames p
+  stands_filled : (u : ElementType) (size : ℕ) (x : Identifier) (new : List ℤ) → type_in p.names x ≡ Some (ty.Array u size) → Stands weak own s.statics (change x (begun_with new) t.variables) t.frames p
   stands_filled u size x new e =
-      let there = stands.sorts x (sort.Array u size) e in
+      let there = stands.types x (ty.Array u size) e in
       subst (λ (vs : Variables). Stands weak own s.statics vs t.frames p) (sym (changed_is x (begun_with new) (LocalArray u there.0) t.variables there.1))
-      (stands_kept s.statics t.variables t.frames p stands x (LocalArray u (overwritten there.0 0 new)) (sort.Array u size) (LocalArray u there.0) e there.1 (array_no_ref u there.0) (array_no_buffer u there.0) (overwritten there.0 0 new, refl)
+      (stands_kept s.statics t.variables t.frames p stands x (LocalArray u (overwritten there.0 0 new)) (ty.Array u size) (LocalArray u there.0) e there.1 (array_no_ref u there.0) (array_no_buffer u there.0) (overwritten there.0 0 new, refl)
       (λ v b c. absurd (array_no_buffer u (overwritten there.0 0 new) v b c)))
 
   module _ (f : JniFunction) (target : Target) (away : IsNoTest target) (args : List Actual) (get : Option (Access × Option Identifier)) (left : (y : Identifier) → own y ≡ left_by f args (length t.frames) own y) where
-    region_lands : {sight : CallSight} {g : JniFunction} {kind : ResultKind} {a : Answer} → (u : ElementType) (size : ℕ) → sort_in p.names (variable_given args 3) ≡ Some (sort.Array u size)
+    region_lands : {sight : CallSight} {g : JniFunction} {kind : ResultKind} {a : Answer} → (u : ElementType) (size : ℕ) → type_in p.names (variable_given args 3) ≡ Some (ty.Array u size)
         → (prototype f).result ≡ kind → ResultGoes target kind get (GoesOn rest) p → AnswersAs unit classes sight g FillsArray kind a
         → LandsBy weak (Calls line target f args) (length t.frames) own s.statics (after_call unit classes in_use k s t line target f args rest (effect_of classes in_use k s t args a))
     unfolding effect_of
@@ -113,7 +113,7 @@ module _ (unit : SourceUnit) (classes : Classes) (in_use : BuffersInUse) (k : �
 
   -- the array is the last argument
   array_last : (owner : ParameterKind) (u : ElementType) (operands : List Operand) → OperandsFit p (owner ∷ IntNumber ∷ IntNumber ∷ ArrayVariable u ∷ []) operands
-      → (size : ℕ) × (sort_in p.names (variable_given (map (look_up (sight_of s t)) (zip (owner ∷ IntNumber ∷ IntNumber ∷ ArrayVariable u ∷ []) operands)) 3) ≡ Some (sort.Array u size))
+      → (size : ℕ) × (type_in p.names (variable_given (map (look_up (sight_of s t)) (zip (owner ∷ IntNumber ∷ IntNumber ∷ ArrayVariable u ∷ []) operands)) 3) ≡ Some (ty.Array u size))
   array_last owner u (a ∷ b ∷ c ∷ Given (tree.Value (tree.Variable x)) ∷ []) fit = fit.1.1.1.0
   array_last owner u (a ∷ b ∷ c ∷ Given (tree.Value (tree.Variable x)) ∷ o ∷ more) fit = absurd fit.1.1.1.1
   array_last owner u (a ∷ b ∷ c ∷ o ∷ more) fit = absurd fit.1.1.1.0
@@ -155,10 +155,10 @@ module _ (unit : SourceUnit) (classes : Classes) (in_use : BuffersInUse) (k : �
     region_call_lands looked is runs =
         let last = filled_last f is in
         let parameters = last.1.1 (length operands) in
-        let array = array_last last.0 last.1.0 operands (subst (λ (l : List ParameterKind). OperandsFit p l operands) parameters (call_fits target runs).sorts) in
+        let array = array_last last.0 last.1.0 operands (subst (λ (l : List ParameterKind). OperandsFit p l operands) parameters (call_fits target runs).types) in
         let given : args ≡ map (look_up (sight_of s t)) (zip (last.0 ∷ IntNumber ∷ IntNumber ∷ ArrayVariable last.1.0 ∷ []) operands) =
         looked ∙ ap (λ (l : List ParameterKind). map (look_up (sight_of s t)) (zip l operands)) parameters in
         plain_call_lands unit classes in_use k s t line f args rest p stands (subst IsPlain (sym is) tt) whole target operands (λ get away room goes.
         answered (region_lands f target away args get (plain_left FillsArray is tt) last.1.0 array.0
-        (subst (λ (l : List Actual). sort_in p.names (variable_given l 3) ≡ Some (sort.Array last.1.0 array.0)) (sym given) array.1)
+        (subst (λ (l : List Actual). type_in p.names (variable_given l 3) ≡ Some (ty.Array last.1.0 array.0)) (sym given) array.1)
         refl goes (answers_of unit classes k (sight_of_call s t JInt f args) f FillsArray is))) runs

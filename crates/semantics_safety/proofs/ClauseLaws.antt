@@ -11,9 +11,9 @@ use Rattle.syntax.specs.Tree.{Argument}
 use Rattle.jni.specs.Access.{Access, is_critical}
 use Rattle.jni.specs.JniFunction.{JniFunction, parameters_for}
 use Rattle.jni.specs.Prototype.{ParameterKind, FieldID, IntNumber, TextBytes, AnyReference, LocalVariable, StaticVariable, WeakVariable, ArrayVariable, BufferVariable, Mode, IsCopy, MethodID, Passed}
-use Rattle.type_rules.specs.Sorts.{Sort, sort_in}
-use Rattle.type_rules.specs.Sorts as sort
-use Rattle.type_rules.specs.SortGroups.{IsNumberSort}
+use Rattle.type_rules.specs.ExprTypes.{ExprType, type_in}
+use Rattle.type_rules.specs.ExprTypes as ty
+use Rattle.type_rules.specs.TypeGroups.{IsNumberType}
 use Rattle.semantics.specs.Object.{Reference}
 use Rattle.region_rules.specs.RegionRules.{is_critical_call}
 use Rattle.region_rules.specs.RegionStates.{VariableState, Untested, Usable, ReferenceAt, BufferIn, state_of}
@@ -24,7 +24,7 @@ use Rattle.semantics.specs.Term.{Term, Done, Read, IsNull, Prefix, And, Or, Bina
 use Rattle.semantics.specs.Thread.{Frame}
 use Rattle.semantics.specs.Variable.{Variable, LocalRef, Elements, Buffer, NoBuffer, Copy, View, StaticReference, Variables, Statics, viewed}
 use Rattle.semantics_safety.specs.Owners.{Owners, IsOwn}
-use Rattle.semantics_safety.specs.Points.{Point, AreOnce, IsLive, IsUsable, NullTestFits, ElementsFit, ReferenceFits, AnyReferenceFits, HasSort, ReferenceArgumentFits, AnyReferenceArgumentFits, NameFits, FieldArgumentFits, ModeFits, CopyFits, TextFits, GivenFits, OperandFits, OperandsFit, is_copy, owns, owners, PassedFits, NullFits, MethodArgumentFits}
+use Rattle.semantics_safety.specs.Points.{Point, AreOnce, IsLive, IsUsable, NullTestFits, ElementsFit, ReferenceFits, AnyReferenceFits, HasType, ReferenceArgumentFits, AnyReferenceArgumentFits, NameFits, FieldArgumentFits, ModeFits, CopyFits, TextFits, GivenFits, OperandFits, OperandsFit, is_copy, owns, owners, PassedFits, NullFits, MethodArgumentFits}
 use Rattle.semantics_safety.specs.StepSafe.{MayMeetView, is_lent, references_at, IsAlive}
 use Rattle.semantics_safety.specs.Stands.{VariableFits, IsOf, Shows, Stands}
 use Rattle.semantics_safety.specs.Used.{term_names, argument_names, operand_names, task_names}
@@ -187,60 +187,60 @@ module _ (ss : Statics) (vs : Variables) (frames : List Frame) (p : Point) {weak
   live_alive : (x : Identifier) → IsLive p x → Alive x
   live_alive x (level, e) = let shown = stands.shows x _ e in subst (Serves x) (sym shown.1) (alive_at x level shown.0 e shown.1, own_at x level shown.0 e shown.1)
 
-  other_alive : (x : Identifier) (s : Sort) (o : Option Variable) (g : Option StaticReference) → (s ≡ sort.Ref → ⊥) → VariableFits s o g → Serves x o
-  other_alive x sort.Ref o g away h = absurd (away refl)
-  other_alive x sort.Global o g away (none, h) = subst (Serves x) (sym none) (tt, tt)
-  other_alive x sort.Weak o g away (none, h) = subst (Serves x) (sym none) (tt, tt)
-  other_alive x sort.FieldId o g away (f, h) = subst (Serves x) (sym h) (tt, tt)
-  other_alive x sort.MethodId o g away (f, h) = subst (Serves x) (sym h) (tt, tt)
-  other_alive x (sort.Buffer t w) o g away (b, h) = subst (Serves x) (sym h) (tt, tt)
-  other_alive x (sort.Array t size) o g away (zs, h) = subst (Serves x) (sym h) (tt, tt)
-  other_alive x sort.Truth o g away h = absurd h
-  other_alive x sort.Word o g away (v, h, f) = subst (Serves x) (sym h) (tt, tt)
-  other_alive x sort.Jint o g away (v, h, f) = subst (Serves x) (sym h) (tt, tt)
-  other_alive x sort.Flag o g away (v, h, f) = subst (Serves x) (sym h) (tt, tt)
+  other_alive : (x : Identifier) (s : ExprType) (o : Option Variable) (g : Option StaticReference) → (s ≡ ty.Ref → ⊥) → VariableFits s o g → Serves x o
+  other_alive x ty.Ref o g away h = absurd (away refl)
+  other_alive x ty.Global o g away (none, h) = subst (Serves x) (sym none) (tt, tt)
+  other_alive x ty.Weak o g away (none, h) = subst (Serves x) (sym none) (tt, tt)
+  other_alive x ty.FieldId o g away (f, h) = subst (Serves x) (sym h) (tt, tt)
+  other_alive x ty.MethodId o g away (f, h) = subst (Serves x) (sym h) (tt, tt)
+  other_alive x (ty.Buffer t w) o g away (b, h) = subst (Serves x) (sym h) (tt, tt)
+  other_alive x (ty.Array t size) o g away (zs, h) = subst (Serves x) (sym h) (tt, tt)
+  other_alive x ty.Truth o g away h = absurd h
+  other_alive x ty.Word o g away (v, h, f) = subst (Serves x) (sym h) (tt, tt)
+  other_alive x ty.Jint o g away (v, h, f) = subst (Serves x) (sym h) (tt, tt)
+  other_alive x ty.Flag o g away (v, h, f) = subst (Serves x) (sym h) (tt, tt)
 
-  no_ref : (s : Sort) → IsNumberSort s → s ≡ sort.Ref → ⊥
-  no_ref s h e = subst IsNumberSort e h
+  no_ref : (s : ExprType) → IsNumberType s → s ≡ ty.Ref → ⊥
+  no_ref s h e = subst IsNumberType e h
 
-  null_alive : (x : Identifier) (o : Option Sort) → sort_in p.names x ≡ o → NullTestFits p x o → Alive x
-  null_alive x (Some sort.Ref) e h = live_alive x h
-  null_alive x (Some sort.Global) e h = other_alive x sort.Global (lookup x vs) (lookup x ss) (λ c. cc) (stands.sorts x sort.Global e)
-  null_alive x (Some sort.FieldId) e h = other_alive x sort.FieldId (lookup x vs) (lookup x ss) (λ c. cc) (stands.sorts x sort.FieldId e)
-  null_alive x (Some sort.MethodId) e h = other_alive x sort.MethodId (lookup x vs) (lookup x ss) (λ c. cc) (stands.sorts x sort.MethodId e)
-  null_alive x (Some (sort.Buffer t w)) e h = other_alive x (sort.Buffer t w) (lookup x vs) (lookup x ss) (λ c. cc) (stands.sorts x (sort.Buffer t w) e)
+  null_alive : (x : Identifier) (o : Option ExprType) → type_in p.names x ≡ o → NullTestFits p x o → Alive x
+  null_alive x (Some ty.Ref) e h = live_alive x h
+  null_alive x (Some ty.Global) e h = other_alive x ty.Global (lookup x vs) (lookup x ss) (λ c. cc) (stands.types x ty.Global e)
+  null_alive x (Some ty.FieldId) e h = other_alive x ty.FieldId (lookup x vs) (lookup x ss) (λ c. cc) (stands.types x ty.FieldId e)
+  null_alive x (Some ty.MethodId) e h = other_alive x ty.MethodId (lookup x vs) (lookup x ss) (λ c. cc) (stands.types x ty.MethodId e)
+  null_alive x (Some (ty.Buffer t w)) e h = other_alive x (ty.Buffer t w) (lookup x vs) (lookup x ss) (λ c. cc) (stands.types x (ty.Buffer t w) e)
   null_alive x o e h = absurd h
 
-  element_alive : (x : Identifier) (o : Option Sort) → sort_in p.names x ≡ o → ElementsFit p x o → Alive x
-  element_alive x (Some (sort.Buffer t w)) e h = other_alive x (sort.Buffer t w) (lookup x vs) (lookup x ss) (λ c. cc) (stands.sorts x (sort.Buffer t w) e)
-  element_alive x (Some (sort.Array t n)) e h = other_alive x (sort.Array t n) (lookup x vs) (lookup x ss) (λ c. cc) (stands.sorts x (sort.Array t n) e)
+  element_alive : (x : Identifier) (o : Option ExprType) → type_in p.names x ≡ o → ElementsFit p x o → Alive x
+  element_alive x (Some (ty.Buffer t w)) e h = other_alive x (ty.Buffer t w) (lookup x vs) (lookup x ss) (λ c. cc) (stands.types x (ty.Buffer t w) e)
+  element_alive x (Some (ty.Array t n)) e h = other_alive x (ty.Array t n) (lookup x vs) (lookup x ss) (λ c. cc) (stands.types x (ty.Array t n) e)
   element_alive x o e h = absurd h
 
-  reference_alive : (x : Identifier) (o : Option Sort) → sort_in p.names x ≡ o → ReferenceFits p x o → Alive x
-  reference_alive x (Some sort.Ref) e h = live_alive x h
-  reference_alive x (Some sort.Global) e h = other_alive x sort.Global (lookup x vs) (lookup x ss) (λ c. cc) (stands.sorts x sort.Global e)
+  reference_alive : (x : Identifier) (o : Option ExprType) → type_in p.names x ≡ o → ReferenceFits p x o → Alive x
+  reference_alive x (Some ty.Ref) e h = live_alive x h
+  reference_alive x (Some ty.Global) e h = other_alive x ty.Global (lookup x vs) (lookup x ss) (λ c. cc) (stands.types x ty.Global e)
   reference_alive x o e h = absurd h
 
-  any_reference_alive : (x : Identifier) (o : Option Sort) → sort_in p.names x ≡ o → AnyReferenceFits p x o → Alive x
-  any_reference_alive x (Some sort.Ref) e h = live_alive x h
-  any_reference_alive x (Some sort.Global) e h = other_alive x sort.Global (lookup x vs) (lookup x ss) (λ c. cc) (stands.sorts x sort.Global e)
-  any_reference_alive x (Some sort.Weak) e h = other_alive x sort.Weak (lookup x vs) (lookup x ss) (λ c. cc) (stands.sorts x sort.Weak e)
+  any_reference_alive : (x : Identifier) (o : Option ExprType) → type_in p.names x ≡ o → AnyReferenceFits p x o → Alive x
+  any_reference_alive x (Some ty.Ref) e h = live_alive x h
+  any_reference_alive x (Some ty.Global) e h = other_alive x ty.Global (lookup x vs) (lookup x ss) (λ c. cc) (stands.types x ty.Global e)
+  any_reference_alive x (Some ty.Weak) e h = other_alive x ty.Weak (lookup x vs) (lookup x ss) (λ c. cc) (stands.types x ty.Weak e)
   any_reference_alive x o e h = absurd h
 
   both_alive : (xs ys : List Identifier) → AllByRecursion Alive xs → AllByRecursion Alive ys → AllByRecursion Alive (xs ++ ys)
   both_alive [] ys h g = g
   both_alive (x ∷ xs) ys h g = (h.0, both_alive xs ys h.1 g)
 
-  term_alive : (t : Term) (s : Sort) → HasSort p t s → AllByRecursion Alive (term_names t)
+  term_alive : (t : Term) (s : ExprType) → HasType p t s → AllByRecursion Alive (term_names t)
   term_alive (Done v) s h = tt
   term_alive (term.Number n unsigned) s h = tt
   term_alive (term.Named c) s h = tt
-  term_alive (Read x) s h = (other_alive x s (lookup x vs) (lookup x ss) (no_ref s h.1) (stands.sorts x s h.0), tt)
-  term_alive (term.Element x t) s h = (element_alive x (sort_in p.names x) refl h.0, term_alive t h.1.0 h.1.2)
-  term_alive (IsNull equal x) s h = (null_alive x (sort_in p.names x) refl h.0, tt)
+  term_alive (Read x) s h = (other_alive x s (lookup x vs) (lookup x ss) (no_ref s h.1) (stands.types x s h.0), tt)
+  term_alive (term.Element x t) s h = (element_alive x (type_in p.names x) refl h.0, term_alive t h.1.0 h.1.2)
+  term_alive (IsNull equal x) s h = (null_alive x (type_in p.names x) refl h.0, tt)
   term_alive (Prefix op t) s h = term_alive t h.0 h.2
-  term_alive (And a b) s h = both_alive (term_names a) (term_names b) (term_alive a sort.Truth h.0) (term_alive b sort.Truth h.1)
-  term_alive (Or a b) s h = both_alive (term_names a) (term_names b) (term_alive a sort.Truth h.0) (term_alive b sort.Truth h.1)
+  term_alive (And a b) s h = both_alive (term_names a) (term_names b) (term_alive a ty.Truth h.0) (term_alive b ty.Truth h.1)
+  term_alive (Or a b) s h = both_alive (term_names a) (term_names b) (term_alive a ty.Truth h.0) (term_alive b ty.Truth h.1)
   term_alive (Binary op a b) s h = both_alive (term_names a) (term_names b) (term_alive a h.0 h.2) (term_alive b h.0 h.3)
 
   -- ---- arguments
@@ -251,38 +251,38 @@ module _ (ss : Statics) (vs : Variables) (frames : List Frame) (p : Point) {weak
 
   reference_argument_alive : (a : Argument) → ReferenceArgumentFits p a → AllByRecursion Alive (argument_names a)
   reference_argument_alive (tree.Value (tree.Named tree.Null)) h = tt
-  reference_argument_alive (tree.Value (tree.Variable x)) h = (reference_alive x (sort_in p.names x) refl h, tt)
+  reference_argument_alive (tree.Value (tree.Variable x)) h = (reference_alive x (type_in p.names x) refl h, tt)
   reference_argument_alive a h = absurd h
 
   any_argument_alive : (a : Argument) → AnyReferenceArgumentFits p a → AllByRecursion Alive (argument_names a)
   any_argument_alive (tree.Value (tree.Named tree.Null)) h = tt
-  any_argument_alive (tree.Value (tree.Variable x)) h = (any_reference_alive x (sort_in p.names x) refl h, tt)
+  any_argument_alive (tree.Value (tree.Variable x)) h = (any_reference_alive x (type_in p.names x) refl h, tt)
   any_argument_alive a h = absurd h
 
-  sort_alive : (x : Identifier) (s : Sort) → (s ≡ sort.Ref → ⊥) → sort_in p.names x ≡ Some s → Alive x
-  sort_alive x s away e = other_alive x s (lookup x vs) (lookup x ss) away (stands.sorts x s e)
+  type_alive : (x : Identifier) (s : ExprType) → (s ≡ ty.Ref → ⊥) → type_in p.names x ≡ Some s → Alive x
+  type_alive x s away e = other_alive x s (lookup x vs) (lookup x ss) away (stands.types x s e)
 
   usable_alive : (x : Identifier) → IsUsable p x → Alive x
   usable_alive x (access, a, e) = let shown = stands.shows x _ e in subst (Serves x) (sym shown.2) (tt, tt)
 
   field_argument_alive : (a : Argument) → FieldArgumentFits p a → AllByRecursion Alive (argument_names a)
   field_argument_alive (tree.Value (tree.Named c)) h = tt
-  field_argument_alive (tree.Value (tree.Variable x)) h = (sort_alive x sort.FieldId (λ c. cc) h, tt)
+  field_argument_alive (tree.Value (tree.Variable x)) h = (type_alive x ty.FieldId (λ c. cc) h, tt)
   field_argument_alive a h = absurd h
 
   method_argument_alive : (a : Argument) → MethodArgumentFits p a → AllByRecursion Alive (argument_names a)
   method_argument_alive (tree.Value (tree.Named c)) h = tt
-  method_argument_alive (tree.Value (tree.Variable x)) h = (sort_alive x sort.MethodId (λ c. cc) h, tt)
+  method_argument_alive (tree.Value (tree.Variable x)) h = (type_alive x ty.MethodId (λ c. cc) h, tt)
   method_argument_alive a h = absurd h
 
   null_argument_alive : (a : Argument) → NullFits a → AllByRecursion Alive (argument_names a)
   null_argument_alive (tree.Value (tree.Named tree.Null)) h = tt
   null_argument_alive a h = absurd h
 
-  passed_alive : (x : Identifier) (o : Option Sort) → sort_in p.names x ≡ o → PassedFits p x o → Alive x
-  passed_alive x (Some sort.Jint) e h = sort_alive x sort.Jint (λ c. cc) e
-  passed_alive x (Some sort.Ref) e h = live_alive x h
-  passed_alive x (Some sort.Global) e h = sort_alive x sort.Global (λ c. cc) e
+  passed_alive : (x : Identifier) (o : Option ExprType) → type_in p.names x ≡ o → PassedFits p x o → Alive x
+  passed_alive x (Some ty.Jint) e h = type_alive x ty.Jint (λ c. cc) e
+  passed_alive x (Some ty.Ref) e h = live_alive x h
+  passed_alive x (Some ty.Global) e h = type_alive x ty.Global (λ c. cc) e
   passed_alive x o e h = absurd h
 
   mode_alive : (a : Argument) → ModeFits a → AllByRecursion Alive (argument_names a)
@@ -292,7 +292,7 @@ module _ (ss : Statics) (vs : Variables) (frames : List Frame) (p : Point) {weak
 
   copy_alive : (a : Argument) → CopyFits p a → AllByRecursion Alive (argument_names a)
   copy_alive (tree.Value (tree.Named c)) h = tt
-  copy_alive (tree.AddressOf x) h = (sort_alive x sort.Flag (λ c. cc) h, tt)
+  copy_alive (tree.AddressOf x) h = (type_alive x ty.Flag (λ c. cc) h, tt)
   copy_alive a h = absurd h
 
   text_alive : (a : Argument) → TextFits a → AllByRecursion Alive (argument_names a)
@@ -303,22 +303,22 @@ module _ (ss : Statics) (vs : Variables) (frames : List Frame) (p : Point) {weak
   given_alive IntNumber a h = absurd h
   given_alive TextBytes a h = text_alive a h
   given_alive LocalVariable a h = named_alive (IsLive p) a live_alive h
-  given_alive StaticVariable a h = named_alive (λ x. sort_in p.names x ≡ Some sort.Global) a (λ x e. sort_alive x sort.Global (λ c. cc) e) h
-  given_alive WeakVariable a h = named_alive (λ x. sort_in p.names x ≡ Some sort.Weak) a (λ x e. sort_alive x sort.Weak (λ c. cc) e) h
+  given_alive StaticVariable a h = named_alive (λ x. type_in p.names x ≡ Some ty.Global) a (λ x e. type_alive x ty.Global (λ c. cc) e) h
+  given_alive WeakVariable a h = named_alive (λ x. type_in p.names x ≡ Some ty.Weak) a (λ x e. type_alive x ty.Weak (λ c. cc) e) h
   given_alive AnyReference a h = any_argument_alive a h
   given_alive FieldID a h = field_argument_alive a h
   given_alive MethodID a h = method_argument_alive a h
   given_alive Passed a h = null_argument_alive a h
-  given_alive (ArrayVariable t) a h = named_alive (λ x. (size : ℕ) × (sort_in p.names x ≡ Some (sort.Array t size))) a (λ x e. sort_alive x (sort.Array t e.0) (λ c. cc) e.1) h
+  given_alive (ArrayVariable t) a h = named_alive (λ x. (size : ℕ) × (type_in p.names x ≡ Some (ty.Array t size))) a (λ x e. type_alive x (ty.Array t e.0) (λ c. cc) e.1) h
   given_alive (BufferVariable access) a h = named_alive (IsUsable p) a usable_alive h
   given_alive Mode a h = mode_alive a h
   given_alive IsCopy a h = copy_alive a h
   given_alive parameter a h = reference_argument_alive a h
 
   operand_alive : (parameter : ParameterKind) (o : Operand) → OperandFits p parameter o → AllByRecursion Alive (operand_names o)
-  operand_alive IntNumber (NumberOperand t) h = term_alive t sort.Jint h
-  operand_alive Passed (NumberOperand t) h = term_alive t sort.Jint h
-  operand_alive Passed (PassedName x) h = (passed_alive x (sort_in p.names x) refl h, tt)
+  operand_alive IntNumber (NumberOperand t) h = term_alive t ty.Jint h
+  operand_alive Passed (NumberOperand t) h = term_alive t ty.Jint h
+  operand_alive Passed (PassedName x) h = (passed_alive x (type_in p.names x) refl h, tt)
   operand_alive parameter (NumberOperand t) h = absurd h
   operand_alive parameter (PassedName x) h = absurd h
   operand_alive parameter (Given a) h = given_alive parameter a h
@@ -329,9 +329,9 @@ module _ (ss : Statics) (vs : Variables) (frames : List Frame) (p : Point) {weak
   operands_alive (parameter ∷ parameters) [] h = absurd h
   operands_alive (parameter ∷ parameters) (o ∷ operands) h = both_alive (operand_names o) (flat_map operand_names operands) (operand_alive parameter o h.0) (operands_alive parameters operands h.1)
 
-  returned_alive : (x : Identifier) (o : Option Sort) → sort_in p.names x ≡ o → ReturnedFits p x o → Alive x
-  returned_alive x (Some sort.Ref) e h = live_alive x h
-  returned_alive x (Some sort.Jint) e h = sort_alive x sort.Jint (λ c. cc) e
+  returned_alive : (x : Identifier) (o : Option ExprType) → type_in p.names x ≡ o → ReturnedFits p x o → Alive x
+  returned_alive x (Some ty.Ref) e h = live_alive x h
+  returned_alive x (Some ty.Jint) e h = type_alive x ty.Jint (λ c. cc) e
   returned_alive x o e h = absurd h
 
   return_alive : (t : Term) → ReturnFits p t → AllByRecursion Alive (term_names t)
@@ -340,30 +340,30 @@ module _ (ss : Statics) (vs : Variables) (frames : List Frame) (p : Point) {weak
   return_alive (term.Named tree.False) h = tt
   return_alive (term.Named tree.Commit) h = tt
   return_alive (term.Named tree.Abort) h = tt
-  return_alive (Read x) h = (returned_alive x (sort_in p.names x) refl h, tt)
+  return_alive (Read x) h = (returned_alive x (type_in p.names x) refl h, tt)
   return_alive (Done v) h = tt
   return_alive (term.Number n unsigned) h = tt
-  return_alive (term.Element x t) h = term_alive (term.Element x t) sort.Jint h
-  return_alive (IsNull equal x) h = term_alive (IsNull equal x) sort.Jint h
-  return_alive (Prefix op t) h = term_alive (Prefix op t) sort.Jint h
-  return_alive (And a b) h = term_alive (And a b) sort.Jint h
-  return_alive (Or a b) h = term_alive (Or a b) sort.Jint h
-  return_alive (Binary op a b) h = term_alive (Binary op a b) sort.Jint h
+  return_alive (term.Element x t) h = term_alive (term.Element x t) ty.Jint h
+  return_alive (IsNull equal x) h = term_alive (IsNull equal x) ty.Jint h
+  return_alive (Prefix op t) h = term_alive (Prefix op t) ty.Jint h
+  return_alive (And a b) h = term_alive (And a b) ty.Jint h
+  return_alive (Or a b) h = term_alive (Or a b) ty.Jint h
+  return_alive (Binary op a b) h = term_alive (Binary op a b) ty.Jint h
 
   call_alive : (line : ℕ) (target : Target) (f : JniFunction) (operands : List Operand) (k : Point → Type 0) → Runs (Invoke line target f operands) k p → AllByRecursion Alive (flat_map operand_names operands)
-  call_alive line (Tested a b) f operands k r = operands_alive (parameters_for f (length operands)) operands (r.0).sorts
-  call_alive line (Declared kind x) f operands k r = operands_alive (parameters_for f (length operands)) operands (r.0).sorts
-  call_alive line (Assigned x) f operands k r = operands_alive (parameters_for f (length operands)) operands (r.0).sorts
-  call_alive line Dropped f operands k r = operands_alive (parameters_for f (length operands)) operands (r.0).sorts
+  call_alive line (Tested a b) f operands k r = operands_alive (parameters_for f (length operands)) operands (r.0).types
+  call_alive line (Declared kind x) f operands k r = operands_alive (parameters_for f (length operands)) operands (r.0).types
+  call_alive line (Assigned x) f operands k r = operands_alive (parameters_for f (length operands)) operands (r.0).types
+  call_alive line Dropped f operands k r = operands_alive (parameters_for f (length operands)) operands (r.0).types
 
   -- each name that a step uses
   each_used : (t : Task) (k : Point → Type 0) → Runs t k p → AllByRecursion Alive (task_names t)
   each_used (SetScalar line x t) k (s, n, f, g) = term_alive t s f
-  each_used (SetElement line x i t) k (fit, (r, n, f), g, h) = (element_alive x (sort_in p.names x) refl fit, both_alive (term_names i) (term_names t) (term_alive i r f) (term_alive t sort.Jint g))
+  each_used (SetElement line x i t) k (fit, (r, n, f), g, h) = (element_alive x (type_in p.names x) refl fit, both_alive (term_names i) (term_names t) (term_alive i r f) (term_alive t ty.Jint g))
   each_used (Invoke line target f operands) k r = call_alive line target f operands k r
-  each_used (Print line t) k r = term_alive t sort.Jint r.0
-  each_used (Branch line t a b) k r = term_alive t sort.Truth r.0
-  each_used (Loop line e t body) k r = term_alive t sort.Truth r.0
+  each_used (Print line t) k r = term_alive t ty.Jint r.0
+  each_used (Branch line t a b) k r = term_alive t ty.Truth r.0
+  each_used (Loop line e t body) k r = term_alive t ty.Truth r.0
   each_used (task.ReturnValue line t) k r = return_alive t r.0
   each_used t k r = tt
 

@@ -8,10 +8,10 @@ use Rattle.syntax.specs.Tree.{VariableType, UInt32, JIntVariable, JSize, JBoolea
 use Rattle.jni.specs.Access.{Access}
 use Rattle.jni.specs.JniFunction.{JniFunction, GetBuffer, prototype}
 use Rattle.jni.specs.Prototype.{ResultKind, NewLocal, NewGlobal, NewWeak, GivesFlag, GivesInt, GivesField, GivesMethod, GivesBuffer}
-use Rattle.type_rules.specs.Sorts.{Sort, Word, Jint, Flag, Ref, Buffer, sort_of, is_word, is_null, name_sort}
-use Rattle.type_rules.specs.Sorts as sort
-use Rattle.type_rules.specs.SortRules as rules
-use Rattle.type_rules.specs.SortRules.{has_name, variable_sort, result_fits, call_fits}
+use Rattle.type_rules.specs.ExprTypes.{ExprType, Word, Jint, Flag, Ref, Buffer, type_of, is_word, is_null, name_type}
+use Rattle.type_rules.specs.ExprTypes as ty
+use Rattle.type_rules.specs.TypeRules as rules
+use Rattle.type_rules.specs.TypeRules.{has_name, variable_type, result_fits, call_fits}
 use Rattle.region_rules.specs.RegionStates.{Free, BufferIn, ReferenceAt, held_by, get_of, buffer_from, function_called, after_call, with_new, with_set, FunctionCall}
 use Rattle.semantics.specs.Task.{Declared, ScalarKind, ReferenceKind, FieldKind, MethodKind, BufferKind, set_task, kind_of}
 use Rattle.semantics_safety.specs.Points.{Point}
@@ -21,9 +21,9 @@ use Rattle.semantics_safety.proofs.CallFits.{both_so, statement_reads}
 use Rattle.semantics_safety.proofs.KnownPoints.{IsKnown, is_new, known_named, known_new}
 use Rattle.semantics_safety.proofs.PlainStatements.{null_is, scalar_runs}
 use Rattle.semantics_safety.proofs.StatementCalls.{call_there, known_called, call_runs}
-use Rattle.semantics_safety.proofs.WaysGive.{Gives}
+use Rattle.semantics_safety.proofs.PathsGive.{Gives}
 
-pub is_a_word : (o : Option Sort) → is_word o ≡ true → o ≡ Some Word
+pub is_a_word : (o : Option ExprType) → is_word o ≡ true → o ≡ Some Word
 is_a_word (Some Word) h = refl
 is_a_word o h = absurd (cc)
 
@@ -34,42 +34,42 @@ first_so false b h e = absurd (let c : true ≡ false = sym h ∙ e in cc)
 -- ---- values
 
 pub declare_value : (line : ℕ) (t : VariableType) (x : Identifier) (e : Expr) → Gives (tree.Declare line t x (FromExpr e))
-declare_value line UInt32 x e p taken returns way k known kept (obeys, is) h =
+declare_value line UInt32 x e p taken returns path k known kept (obeys, is) h =
     let read = (first_read p.regions e [] (statement_reads p.regions (tree.Declare line UInt32 x (FromExpr e)) obeys)).0 in
-    scalar_runs p taken line (Declared ScalarKind x) x e Word k known tt (is_a_word (sort_of p.names e) kept.fits) read (inr (is_new p taken x known kept.new, h p.regions is (known_named p taken known x kept.new Word tt)))
-declare_value line JIntVariable x e p taken returns way k known kept (obeys, is) h =
+    scalar_runs p taken line (Declared ScalarKind x) x e Word k known tt (is_a_word (type_of p.names e) kept.fits) read (inr (is_new p taken x known kept.new, h p.regions is (known_named p taken known x kept.new Word tt)))
+declare_value line JIntVariable x e p taken returns path k known kept (obeys, is) h =
     let read = (first_read p.regions e [] (statement_reads p.regions (tree.Declare line JIntVariable x (FromExpr e)) obeys)).0 in
-    scalar_runs p taken line (Declared ScalarKind x) x e Jint k known tt (is_a_jint (sort_of p.names e) kept.fits) read (inr (is_new p taken x known kept.new, h p.regions is (known_named p taken known x kept.new Jint tt)))
-declare_value line JSize x e p taken returns way k known kept (obeys, is) h =
+    scalar_runs p taken line (Declared ScalarKind x) x e Jint k known tt (is_a_jint (type_of p.names e) kept.fits) read (inr (is_new p taken x known kept.new, h p.regions is (known_named p taken known x kept.new Jint tt)))
+declare_value line JSize x e p taken returns path k known kept (obeys, is) h =
     let read = (first_read p.regions e [] (statement_reads p.regions (tree.Declare line JSize x (FromExpr e)) obeys)).0 in
-    scalar_runs p taken line (Declared ScalarKind x) x e Jint k known tt (is_a_jint (sort_of p.names e) kept.fits) read (inr (is_new p taken x known kept.new, h p.regions is (known_named p taken known x kept.new Jint tt)))
-declare_value line JBoolean x e p taken returns way k known kept (obeys, is) h =
+    scalar_runs p taken line (Declared ScalarKind x) x e Jint k known tt (is_a_jint (type_of p.names e) kept.fits) read (inr (is_new p taken x known kept.new, h p.regions is (known_named p taken known x kept.new Jint tt)))
+declare_value line JBoolean x e p taken returns path k known kept (obeys, is) h =
     let read = (first_read p.regions e [] (statement_reads p.regions (tree.Declare line JBoolean x (FromExpr e)) obeys)).0 in
-    scalar_runs p taken line (Declared ScalarKind x) x e Flag k known tt (is_a_flag (sort_of p.names e) kept.fits) read (inr (is_new p taken x known kept.new, h p.regions is (known_named p taken known x kept.new Flag tt)))
-declare_value line JFieldId x e p taken returns way k known kept (obeys, is) h =
-    subst (λ (e : Expr). RunsPlain (set_task line (Declared FieldKind x) x e) k p) (sym (null_is e kept.fits)) (is_new p taken x known kept.new, h p.regions is (known_named p taken known x kept.new sort.FieldId tt))
-declare_value line JMethodId x e p taken returns way k known kept (obeys, is) h =
-    subst (λ (e : Expr). RunsPlain (set_task line (Declared MethodKind x) x e) k p) (sym (null_is e kept.fits)) (is_new p taken x known kept.new, h p.regions is (known_named p taken known x kept.new sort.MethodId tt))
-declare_value line (ReferenceVariable r) x e p taken returns way k known kept (obeys, is) h =
-    subst (λ (e : Expr). RunsPlain (set_task line (Declared ReferenceKind x) x e) k p) (sym (null_is e (first_so (is_null e) (is_some (name_sort p.names e)) kept.fits kept.uncopied)))
+    scalar_runs p taken line (Declared ScalarKind x) x e Flag k known tt (is_a_flag (type_of p.names e) kept.fits) read (inr (is_new p taken x known kept.new, h p.regions is (known_named p taken known x kept.new Flag tt)))
+declare_value line JFieldId x e p taken returns path k known kept (obeys, is) h =
+    subst (λ (e : Expr). RunsPlain (set_task line (Declared FieldKind x) x e) k p) (sym (null_is e kept.fits)) (is_new p taken x known kept.new, h p.regions is (known_named p taken known x kept.new ty.FieldId tt))
+declare_value line JMethodId x e p taken returns path k known kept (obeys, is) h =
+    subst (λ (e : Expr). RunsPlain (set_task line (Declared MethodKind x) x e) k p) (sym (null_is e kept.fits)) (is_new p taken x known kept.new, h p.regions is (known_named p taken known x kept.new ty.MethodId tt))
+declare_value line (ReferenceVariable r) x e p taken returns path k known kept (obeys, is) h =
+    subst (λ (e : Expr). RunsPlain (set_task line (Declared ReferenceKind x) x e) k p) (sym (null_is e (first_so (is_null e) (is_some (name_type p.names e)) kept.fits kept.uncopied)))
     (is_new p taken x known kept.new, h (with_new p.regions x (ReferenceAt p.regions.frames true)) is (known_new p taken known x kept.new Ref (ReferenceAt p.regions.frames true) tt))
 
 nothing_held : (access : Access) (a : Identifier) → held_by Free ≡ Some (access, a) → ⊥
 nothing_held access a h = cc
 
 pub declare_buffer : (line : ℕ) (t : ElementType) (x : Identifier) (e : Expr) → Gives (tree.DeclareBuffer line t x (FromExpr e))
-declare_buffer line t x e p taken returns way k known kept (obeys, is) h =
+declare_buffer line t x e p taken returns path k known kept (obeys, is) h =
     subst (λ (e : Expr). RunsPlain (set_task line (Declared (BufferKind t) x) x e) k p) (sym (null_is e kept.fits))
     (is_new p taken x known kept.new, (true, h (with_new p.regions x (BufferIn Free)) is (known_new p taken known x kept.new (Buffer t true) (BufferIn Free) (λ access a g. absurd (nothing_held access a g)))))
 
 pub declare_chars : (line : ℕ) (x : Identifier) (e : Expr) → Gives (tree.DeclareChars line x (FromExpr e))
-declare_chars line x e p taken returns way k known kept (obeys, is) h =
+declare_chars line x e p taken returns path k known kept (obeys, is) h =
     subst (λ (e : Expr). RunsPlain (set_task line (Declared (BufferKind JChar) x) x e) k p) (sym (null_is e kept.fits))
     (is_new p taken x known kept.new, (false, h (with_new p.regions x (BufferIn Free)) is (known_new p taken known x kept.new (Buffer JChar false) (BufferIn Free) (λ access a g. absurd (nothing_held access a g)))))
 
 -- ---- results
 
-no_buffer_type : (t : VariableType) (u : ElementType) (w : Bool) → Some (variable_sort t) ≡ Some (Buffer u w) → ⊥
+no_buffer_type : (t : VariableType) (u : ElementType) (w : Bool) → Some (variable_type t) ≡ Some (Buffer u w) → ⊥
 no_buffer_type UInt32 u w e = cc
 no_buffer_type JIntVariable u w e = cc
 no_buffer_type JSize u w e = cc
@@ -78,10 +78,10 @@ no_buffer_type JFieldId u w e = cc
 no_buffer_type JMethodId u w e = cc
 no_buffer_type (ReferenceVariable r) u w e = cc
 
-no_buffer_result : (t : VariableType) (access : Access) → result_fits (Some (variable_sort t)) (GivesBuffer access) ≡ true → ⊥
-no_buffer_result t access h = let is = buffer_for access (Some (variable_sort t)) h in no_buffer_type t is.0 is.1 is.2
+no_buffer_result : (t : VariableType) (access : Access) → result_fits (Some (variable_type t)) (GivesBuffer access) ≡ true → ⊥
+no_buffer_result t access h = let is = buffer_for access (Some (variable_type t)) h in no_buffer_type t is.0 is.1 is.2
 
-no_global_result : (t : VariableType) → result_fits (Some (variable_sort t)) NewGlobal ≡ true → ⊥
+no_global_result : (t : VariableType) → result_fits (Some (variable_type t)) NewGlobal ≡ true → ⊥
 no_global_result UInt32 h = cc
 no_global_result JIntVariable h = cc
 no_global_result JSize h = cc
@@ -90,7 +90,7 @@ no_global_result JFieldId h = cc
 no_global_result JMethodId h = cc
 no_global_result (ReferenceVariable r) h = cc
 
-no_weak_result : (t : VariableType) → result_fits (Some (variable_sort t)) NewWeak ≡ true → ⊥
+no_weak_result : (t : VariableType) → result_fits (Some (variable_type t)) NewWeak ≡ true → ⊥
 no_weak_result UInt32 h = cc
 no_weak_result JIntVariable h = cc
 no_weak_result JSize h = cc
@@ -100,8 +100,8 @@ no_weak_result JMethodId h = cc
 no_weak_result (ReferenceVariable r) h = cc
 
 module _ (q : Point) (taken : List Identifier) (known : IsKnown q taken) (x : Identifier) (new : has_name taken x ≡ false) (k : Point → Type 0) where
-  declared_result : (line : ℕ) (c : Call) (t : VariableType) (result : ResultKind) (get : Option (Access × Option Identifier)) → result_fits (Some (variable_sort t)) result ≡ true
-      → (IsKnown (record { names = (x, variable_sort t) ∷ q.names; regions = with_set q.regions (tree.Declare line t x (FromCall c)) }) (taken ++ x ∷ []) → k (record { names = (x, variable_sort t) ∷ q.names; regions = with_set q.regions (tree.Declare line t x (FromCall c)) }))
+  declared_result : (line : ℕ) (c : Call) (t : VariableType) (result : ResultKind) (get : Option (Access × Option Identifier)) → result_fits (Some (variable_type t)) result ≡ true
+      → (IsKnown (record { names = (x, variable_type t) ∷ q.names; regions = with_set q.regions (tree.Declare line t x (FromCall c)) }) (taken ++ x ∷ []) → k (record { names = (x, variable_type t) ∷ q.names; regions = with_set q.regions (tree.Declare line t x (FromCall c)) }))
       → DeclaresResult q (kind_of t) x result get k
   declared_result line c t (GivesBuffer access) get fit h = absurd (no_buffer_result t access fit)
   declared_result line c t NewGlobal get fit h = absurd (no_global_result t fit)
@@ -109,8 +109,8 @@ module _ (q : Point) (taken : List Identifier) (known : IsKnown q taken) (x : Id
   declared_result line c JIntVariable GivesInt get fit h = (is_new q taken x known new, h (known_named q taken known x new Jint tt))
   declared_result line c JSize GivesInt get fit h = (is_new q taken x known new, h (known_named q taken known x new Jint tt))
   declared_result line c JBoolean GivesFlag get fit h = (is_new q taken x known new, h (known_named q taken known x new Flag tt))
-  declared_result line c JFieldId GivesField get fit h = (is_new q taken x known new, h (known_named q taken known x new sort.FieldId tt))
-  declared_result line c JMethodId GivesMethod get fit h = (is_new q taken x known new, h (known_named q taken known x new sort.MethodId tt))
+  declared_result line c JFieldId GivesField get fit h = (is_new q taken x known new, h (known_named q taken known x new ty.FieldId tt))
+  declared_result line c JMethodId GivesMethod get fit h = (is_new q taken x known new, h (known_named q taken known x new ty.MethodId tt))
   declared_result line c (ReferenceVariable r) NewLocal get fit h = (is_new q taken x known new, h (known_new q taken known x new Ref (ReferenceAt q.regions.frames true) tt))
   declared_result line c t result get fit h = absurd (cc)
 
@@ -137,61 +137,61 @@ abbrev CallGives : VariableType → Type 1
 CallGives t = (line : ℕ) (x : Identifier) (c : Call) → Gives (tree.Declare line t x (FromCall c))
 
 declare_word : CallGives UInt32
-declare_word line x c p taken returns way k known kept (obeys, is) h =
+declare_word line x c p taken returns path k known kept (obeys, is) h =
     let s = tree.Declare line UInt32 x (FromCall c) in
     let call = call_there p taken returns s c known kept obeys refl refl in
     let result = (prototype call.function).result in
-    let both = both_so (not (rules.is_push call.function)) (result_fits (Some (variable_sort UInt32)) result) (ap (call_fits (Some (variable_sort UInt32))) (sym call.is_named) ∙ kept.fits) in
+    let both = both_so (not (rules.is_push call.function)) (result_fits (Some (variable_type UInt32)) result) (ap (call_fits (Some (variable_type UInt32))) (sym call.is_named) ∙ kept.fits) in
     let q = at p (after_call p.regions (function_called s)) in
     call_runs p s line (Declared (kind_of UInt32) x) c k call both.0 (declared_result q taken (known_called p taken s known obeys) x kept.new k line c UInt32 result (get_of (function_called s)) both.1 (h q.regions is))
 
 declare_jint : CallGives JIntVariable
-declare_jint line x c p taken returns way k known kept (obeys, is) h =
+declare_jint line x c p taken returns path k known kept (obeys, is) h =
     let s = tree.Declare line JIntVariable x (FromCall c) in
     let call = call_there p taken returns s c known kept obeys refl refl in
     let result = (prototype call.function).result in
-    let both = both_so (not (rules.is_push call.function)) (result_fits (Some (variable_sort JIntVariable)) result) (ap (call_fits (Some (variable_sort JIntVariable))) (sym call.is_named) ∙ kept.fits) in
+    let both = both_so (not (rules.is_push call.function)) (result_fits (Some (variable_type JIntVariable)) result) (ap (call_fits (Some (variable_type JIntVariable))) (sym call.is_named) ∙ kept.fits) in
     let q = at p (after_call p.regions (function_called s)) in
     call_runs p s line (Declared (kind_of JIntVariable) x) c k call both.0 (declared_result q taken (known_called p taken s known obeys) x kept.new k line c JIntVariable result (get_of (function_called s)) both.1 (h q.regions is))
 
 declare_size : CallGives JSize
-declare_size line x c p taken returns way k known kept (obeys, is) h =
+declare_size line x c p taken returns path k known kept (obeys, is) h =
     let s = tree.Declare line JSize x (FromCall c) in
     let call = call_there p taken returns s c known kept obeys refl refl in
     let result = (prototype call.function).result in
-    let both = both_so (not (rules.is_push call.function)) (result_fits (Some (variable_sort JSize)) result) (ap (call_fits (Some (variable_sort JSize))) (sym call.is_named) ∙ kept.fits) in
+    let both = both_so (not (rules.is_push call.function)) (result_fits (Some (variable_type JSize)) result) (ap (call_fits (Some (variable_type JSize))) (sym call.is_named) ∙ kept.fits) in
     let q = at p (after_call p.regions (function_called s)) in
     call_runs p s line (Declared (kind_of JSize) x) c k call both.0 (declared_result q taken (known_called p taken s known obeys) x kept.new k line c JSize result (get_of (function_called s)) both.1 (h q.regions is))
 
 declare_flag : CallGives JBoolean
-declare_flag line x c p taken returns way k known kept (obeys, is) h =
+declare_flag line x c p taken returns path k known kept (obeys, is) h =
     let s = tree.Declare line JBoolean x (FromCall c) in
     let call = call_there p taken returns s c known kept obeys refl refl in
     let result = (prototype call.function).result in
-    let both = both_so (not (rules.is_push call.function)) (result_fits (Some (variable_sort JBoolean)) result) (ap (call_fits (Some (variable_sort JBoolean))) (sym call.is_named) ∙ kept.fits) in
+    let both = both_so (not (rules.is_push call.function)) (result_fits (Some (variable_type JBoolean)) result) (ap (call_fits (Some (variable_type JBoolean))) (sym call.is_named) ∙ kept.fits) in
     let q = at p (after_call p.regions (function_called s)) in
     call_runs p s line (Declared (kind_of JBoolean) x) c k call both.0 (declared_result q taken (known_called p taken s known obeys) x kept.new k line c JBoolean result (get_of (function_called s)) both.1 (h q.regions is))
 
 declare_field : CallGives JFieldId
-declare_field line x c p taken returns way k known kept (obeys, is) h =
+declare_field line x c p taken returns path k known kept (obeys, is) h =
     let s = tree.Declare line JFieldId x (FromCall c) in
     let call = call_there p taken returns s c known kept obeys refl refl in
     let result = (prototype call.function).result in
-    let both = both_so (not (rules.is_push call.function)) (result_fits (Some (variable_sort JFieldId)) result) (ap (call_fits (Some (variable_sort JFieldId))) (sym call.is_named) ∙ kept.fits) in
+    let both = both_so (not (rules.is_push call.function)) (result_fits (Some (variable_type JFieldId)) result) (ap (call_fits (Some (variable_type JFieldId))) (sym call.is_named) ∙ kept.fits) in
     let q = at p (after_call p.regions (function_called s)) in
     call_runs p s line (Declared (kind_of JFieldId) x) c k call both.0 (declared_result q taken (known_called p taken s known obeys) x kept.new k line c JFieldId result (get_of (function_called s)) both.1 (h q.regions is))
 
 declare_method : CallGives JMethodId
-declare_method line x c p taken returns way k known kept (obeys, is) h =
+declare_method line x c p taken returns path k known kept (obeys, is) h =
     let s = tree.Declare line JMethodId x (FromCall c) in
     let call = call_there p taken returns s c known kept obeys refl refl in
     let result = (prototype call.function).result in
-    let both = both_so (not (rules.is_push call.function)) (result_fits (Some (variable_sort JMethodId)) result) (ap (call_fits (Some (variable_sort JMethodId))) (sym call.is_named) ∙ kept.fits) in
+    let both = both_so (not (rules.is_push call.function)) (result_fits (Some (variable_type JMethodId)) result) (ap (call_fits (Some (variable_type JMethodId))) (sym call.is_named) ∙ kept.fits) in
     let q = at p (after_call p.regions (function_called s)) in
     call_runs p s line (Declared (kind_of JMethodId) x) c k call both.0 (declared_result q taken (known_called p taken s known obeys) x kept.new k line c JMethodId result (get_of (function_called s)) both.1 (h q.regions is))
 
 declare_reference : (r : _) → CallGives (ReferenceVariable r)
-declare_reference r line x c p taken returns way k known kept (obeys, is) h =
+declare_reference r line x c p taken returns path k known kept (obeys, is) h =
     let s = tree.Declare line (ReferenceVariable r) x (FromCall c) in
     let call = call_there p taken returns s c known kept obeys refl refl in
     let result = (prototype call.function).result in
@@ -209,7 +209,7 @@ declare_call JMethodId = declare_method
 declare_call (ReferenceVariable r) = declare_reference r
 
 pub buffer_call : (line : ℕ) (t : ElementType) (x : Identifier) (c : Call) → Gives (tree.DeclareBuffer line t x (FromCall c))
-buffer_call line t x c p taken returns way k known kept (obeys, is) h =
+buffer_call line t x c p taken returns path k known kept (obeys, is) h =
     let s = tree.DeclareBuffer line t x (FromCall c) in
     let call = call_there p taken returns s c known kept obeys refl refl in
     let result = (prototype call.function).result in
@@ -219,7 +219,7 @@ buffer_call line t x c p taken returns way k known kept (obeys, is) h =
     (buffer_result q taken (known_called p taken s known obeys) x kept.new k t true result (get_of (function_called s)) both.1 (called_taken p taken known call.function c.arguments call.keeps (function_called s) call.called) (h (with_set q.regions s) is))
 
 pub chars_call : (line : ℕ) (x : Identifier) (c : Call) → Gives (tree.DeclareChars line x (FromCall c))
-chars_call line x c p taken returns way k known kept (obeys, is) h =
+chars_call line x c p taken returns path k known kept (obeys, is) h =
     let s = tree.DeclareChars line x (FromCall c) in
     let call = call_there p taken returns s c known kept obeys refl refl in
     let result = (prototype call.function).result in

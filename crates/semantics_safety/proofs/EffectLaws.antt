@@ -7,9 +7,9 @@ use Rattle.syntax.specs.Tree as tree
 use Rattle.syntax.specs.Tree.{Block, Expr, Argument}
 use Rattle.jni.specs.JniFunction.{JniFunction, parameters_for, takes_count, prototype}
 use Rattle.jni.specs.Prototype.{ParameterKind, IntNumber, Passed}
-use Rattle.type_rules.specs.Sorts.{Sort, sort_in}
-use Rattle.type_rules.specs.Sorts as sort
-use Rattle.type_rules.specs.SortGroups.{IsIndexSort, IsNumberSort}
+use Rattle.type_rules.specs.ExprTypes.{ExprType, type_in}
+use Rattle.type_rules.specs.ExprTypes as ty
+use Rattle.type_rules.specs.TypeGroups.{IsIndexType, IsNumberType}
 use Rattle.semantics.specs.Arguments.{actuals}
 use Rattle.semantics.specs.CallEffects.{ScalarResult}
 use Rattle.semantics.specs.Effect.{Effect, Becomes, Sets, SetsElement, Prints, Calls, Returns, at_line, goes_on, with_value, print_effect, branch_effect, loop_effect, element_effect, is_given, is_no_number, is_ready, reduce_number, reduce_name, reduce_first, call_effect_of, returned_name, return_effect, effect_of}
@@ -25,7 +25,7 @@ use Rattle.semantics.specs.Thread.{Frame}
 use Rattle.semantics.specs.Value.{Value, Int, Truth, Outcome, Gives, Traps, Stuck, outcome_map}
 use Rattle.semantics.specs.Variable.{StaticReference, Variable, LocalRef, Variables, Statics}
 use Rattle.semantics_safety.specs.Owners.{Owners}
-use Rattle.semantics_safety.specs.Points.{Point, value_sort, ElementsFit, HasSort, OperandFits, OperandsFit, PassedFits}
+use Rattle.semantics_safety.specs.Points.{Point, value_type, ElementsFit, HasType, OperandFits, OperandsFit, PassedFits}
 use Rattle.semantics_safety.specs.Stands.{Stands}
 use Rattle.semantics_safety.specs.Wanted.{at, Teaches, Nothing, ForNull, ForOther, IsTrueNow, IsFalseNow, Closes, Outside, MayReturnFrom, ReturnedFits, ReturnFits, SetsNumber, ResultGoes, CallFits, CallKeeps, operand_argument, call_seen, RunsTest, RunsBlock, Turns, Runs, GoesOn}
 use Rattle.semantics_safety.specs.Follows.{Follows}
@@ -45,20 +45,20 @@ module _ (heap : Heap) (ss : Statics) (vs : Variables) (frames : List Frame) (p 
 
   -- ---- tasks with an expression
 
-  stepped : (line : ℕ) (task : Term → Task) (s : Sort) (o : Reduction) → TermFits p s o → ((u : Term) → o ≡ Gives u → HasSort p u s → Goes (Becomes (task u ∷ []))) → Goes (goes_on line task o)
+  stepped : (line : ℕ) (task : Term → Task) (s : ExprType) (o : Reduction) → TermFits p s o → ((u : Term) → o ≡ Gives u → HasType p u s → Goes (Becomes (task u ∷ []))) → Goes (goes_on line task o)
   stepped line task s (Gives u) h g = g u refl h
   stepped line task s (Traps trap) h g = tt
   stepped line task s Stuck h g = absurd h
 
-  valued : (line : ℕ) (use_value : Value → Effect) (task : Term → Task) (s : Sort) (t : Term) → HasSort p t s → ((v : Value) → t ≡ Done v → value_sort v ≡ s → Goes (use_value v)) → ((u : Term) → reduce sight t ≡ Gives u → HasSort p u s → Goes (Becomes (task u ∷ [])))
+  valued : (line : ℕ) (use_value : Value → Effect) (task : Term → Task) (s : ExprType) (t : Term) → HasType p t s → ((v : Value) → t ≡ Done v → value_type v ≡ s → Goes (use_value v)) → ((u : Term) → reduce sight t ≡ Gives u → HasType p u s → Goes (Becomes (task u ∷ [])))
       → Goes (with_value sight line use_value task t)
   valued line use_value task s (Done v) h value step = value v refl h
   valued line use_value task s t h value step = stepped line task s (reduce sight t) (reduce_fits p sight (sees ss vs frames p heap stands) t s h tt) step
 
-  sets : (x : Identifier) (s : Sort) (v : Value) → value_sort v ≡ s → IsNumberSort s → SetsNumber x s (GoesOn rest) p → Goes (Sets x v)
-  sets x s v e n h = (subst (λ (r : Sort). SetsNumber x r (GoesOn rest) p) (sym e) h, subst IsNumberSort (sym e) n)
+  sets : (x : Identifier) (s : ExprType) (v : Value) → value_type v ≡ s → IsNumberType s → SetsNumber x s (GoesOn rest) p → Goes (Sets x v)
+  sets x s v e n h = (subst (λ (r : ExprType). SetsNumber x r (GoesOn rest) p) (sym e) h, subst IsNumberType (sym e) n)
 
-  prints : (v : Value) → value_sort v ≡ sort.Jint → ((z : ℤ) → Goes (Prints z)) → Goes (print_effect v)
+  prints : (v : Value) → value_type v ≡ ty.Jint → ((z : ℤ) → Goes (Prints z)) → Goes (print_effect v)
   prints (Int z) e h = h z
   prints v e h = absurd (cc)
 
@@ -72,29 +72,29 @@ module _ (heap : Heap) (ss : Statics) (vs : Variables) (frames : List Frame) (p 
   at_place line x z (Traps trap) i a h = tt
   at_place line x z Stuck i a h = absurd i
 
-  places : (line : ℕ) (x : Identifier) (v w : Value) (r : Sort) → IsIndexSort r → value_sort v ≡ r → value_sort w ≡ sort.Jint → ElementsFit p x (sort_in p.names x) → GoesOn rest p → Goes (element_effect sight line x v w)
+  places : (line : ℕ) (x : Identifier) (v w : Value) (r : ExprType) → IsIndexType r → value_type v ≡ r → value_type w ≡ ty.Jint → ElementsFit p x (type_in p.names x) → GoesOn rest p → Goes (element_effect sight line x v w)
   places line x v (Int z) r n e f fit k = at_place line x z (index_of v) (index_fits v r n e) (λ n. (sees ss vs frames p heap stands).element x n fit) (λ n. (fit, k))
   places line x v w r n e f fit k = absurd (cc)
 
-  -- ---- ways
+  -- ---- paths
 
   grouped : (b : Block) (last : Task) (q : Point) → GoesOn (tasks_of b ++ last ∷ rest) q → GoesOn ((tasks_of b ++ last ∷ []) ++ rest) q
   grouped b last q h = subst (λ (tasks : List Task). GoesOn tasks q) (sym (append_assoc (tasks_of b) (last ∷ []) rest)) h
 
-  way : (b : Block) → RunsBlock b (Outside (GoesOn rest)) p → Goes (Becomes (tasks_of b ++ EndIf ∷ []))
-  way b h = (p, stands, grouped b EndIf p (block_goes b (Outside (GoesOn rest)) (EndIf ∷ rest) (λ q r. r) p h))
+  path : (b : Block) → RunsBlock b (Outside (GoesOn rest)) p → Goes (Becomes (tasks_of b ++ EndIf ∷ []))
+  path b h = (p, stands, grouped b EndIf p (block_goes b (Outside (GoesOn rest)) (EndIf ∷ rest) (λ q r. r) p h))
 
-  true_way : (y n : Point) → Teaches p (Done (Truth true)) y n → (k : Point → Type 0) → k y → k p
-  true_way y n (Nothing t) k h = h
-  true_way y n (IsTrueNow other) k h = h
+  true_path : (y n : Point) → Teaches p (Done (Truth true)) y n → (k : Point → Type 0) → k y → k p
+  true_path y n (Nothing t) k h = h
+  true_path y n (IsTrueNow other) k h = h
 
-  false_way : (y n : Point) → Teaches p (Done (Truth false)) y n → (k : Point → Type 0) → k n → k p
-  false_way y n (Nothing t) k h = h
-  false_way y n (IsFalseNow other) k h = h
+  false_path : (y n : Point) → Teaches p (Done (Truth false)) y n → (k : Point → Type 0) → k n → k p
+  false_path y n (Nothing t) k h = h
+  false_path y n (IsFalseNow other) k h = h
 
-  branches : (a b : Block) (v : Value) → value_sort v ≡ sort.Truth → (y n : Point) → Teaches p (Done v) y n → RunsBlock a (Outside (GoesOn rest)) y → RunsBlock b (Outside (GoesOn rest)) n → Goes (branch_effect a b v)
-  branches a b (Truth true) e y n t h g = way a (true_way y n t (RunsBlock a (Outside (GoesOn rest))) h)
-  branches a b (Truth false) e y n t h g = way b (false_way y n t (RunsBlock b (Outside (GoesOn rest))) g)
+  branches : (a b : Block) (v : Value) → value_type v ≡ ty.Truth → (y n : Point) → Teaches p (Done v) y n → RunsBlock a (Outside (GoesOn rest)) y → RunsBlock b (Outside (GoesOn rest)) n → Goes (branch_effect a b v)
+  branches a b (Truth true) e y n t h g = path a (true_path y n t (RunsBlock a (Outside (GoesOn rest))) h)
+  branches a b (Truth false) e y n t h g = path b (false_path y n t (RunsBlock b (Outside (GoesOn rest))) g)
   branches a b v e y n t h g = absurd (cc)
 
   -- what a test that was worked out has taught
@@ -124,30 +124,30 @@ module _ (heap : Heap) (ss : Statics) (vs : Variables) (frames : List Frame) (p 
   stuck_gives : (u : Term) (o : Reduction) → o ≡ Stuck → o ≡ Gives u → ⊥
   stuck_gives u o s e = cc
 
-  learns : (t : Term) (y n : Point) (on_true on_false : Point → Type 0) → Teaches p t y n → on_true y → on_false n → (u : Term) → reduce sight t ≡ Gives u → HasSort p u sort.Truth → Learns on_true on_false u
+  learns : (t : Term) (y n : Point) (on_true on_false : Point → Type 0) → Teaches p t y n → on_true y → on_false n → (u : Term) → reduce sight t ≡ Gives u → HasType p u ty.Truth → Learns on_true on_false u
   learns t y n on_true on_false (Nothing s) h g u e f = (p, stands, (f, (p, p, Nothing u, h, g)))
   learns t y n on_true on_false (ForNull x) h g u e f = null_learns x on_true on_false (λ b. b) (sight.is_null x) u (λ b c. null_found x on_true on_false b c h g) e
   learns t y n on_true on_false (ForOther x) h g u e f = null_learns x on_true on_false not (sight.is_null x) u (λ b c. other_found x on_true on_false b c h g) e
   learns t y n on_true on_false (IsTrueNow other) h g u e f = absurd (stuck_gives u Stuck refl e)
   learns t y n on_true on_false (IsFalseNow other) h g u e f = absurd (stuck_gives u Stuck refl e)
 
-  turns : (line : ℕ) (e : Expr) (body : Block) (v : Value) → value_sort v ≡ sort.Truth → Turns e body p → GoesOn rest p → Goes (loop_effect line e body v)
+  turns : (line : ℕ) (e : Expr) (body : Block) (v : Value) → value_type v ≡ ty.Truth → Turns e body p → GoesOn rest p → Goes (loop_effect line e body v)
   turns line e body (Truth true) f h k = (p, stands, grouped body (EndTurn line e body) p (block_goes body (λ q. Closes q p) (EndTurn line e body ∷ rest) (λ q c. (p, c, h, k)) p h.1))
   turns line e body (Truth false) f h k = (p, stands, k)
   turns line e body v f h k = absurd (cc)
 
   -- ---- returns
 
-  sort_returns : (o : Option Sort) (x : Identifier) → o ≡ Some sort.Jint → ReturnedFits p x o
-  sort_returns o x e = subst (ReturnedFits p x) (sym e) tt
+  type_returns : (o : Option ExprType) (x : Identifier) → o ≡ Some ty.Jint → ReturnedFits p x o
+  type_returns o x e = subst (ReturnedFits p x) (sym e) tt
 
-  number_returns : (u : Term) → HasSort p u sort.Jint → ReturnFits p u
+  number_returns : (u : Term) → HasType p u ty.Jint → ReturnFits p u
   number_returns (term.Named tree.Null) h = tt
   number_returns (term.Named tree.True) h = h
   number_returns (term.Named tree.False) h = h
   number_returns (term.Named tree.Commit) h = h
   number_returns (term.Named tree.Abort) h = h
-  number_returns (Read x) h = sort_returns (sort_in p.names x) x h.0
+  number_returns (Read x) h = type_returns (type_in p.names x) x h.0
   number_returns (Done v) h = h
   number_returns (term.Number n unsigned) h = h
   number_returns (term.Element x t) h = h
@@ -157,25 +157,25 @@ module _ (heap : Heap) (ss : Statics) (vs : Variables) (frames : List Frame) (p 
   number_returns (Or a b) h = h
   number_returns (Binary op a b) h = h
 
-  value_returns : (line : ℕ) (t : Term) → HasSort p t sort.Jint → MayReturnFrom p → Goes (with_value sight line (λ v. Returns (ScalarResult v)) (task.ReturnValue line) t)
-  value_returns line t h m = valued line (λ v. Returns (ScalarResult v)) (task.ReturnValue line) sort.Jint t h (λ v e f. m) (λ u e f. (p, stands, (number_returns u f, m)))
+  value_returns : (line : ℕ) (t : Term) → HasType p t ty.Jint → MayReturnFrom p → Goes (with_value sight line (λ v. Returns (ScalarResult v)) (task.ReturnValue line) t)
+  value_returns line t h m = valued line (λ v. Returns (ScalarResult v)) (task.ReturnValue line) ty.Jint t h (λ v e f. m) (λ u e f. (p, stands, (number_returns u f, m)))
 
   ref_returns : (line : ℕ) (o : Option Variable) → (level : ℕ) × (r : _) × (o ≡ Some (LocalRef level r)) → (r : StaticReference) → MayReturnFrom p → Goes (returned_name line (scalar o) r)
   ref_returns line o (level, r, e) q m = subst (λ (v : Option Variable). Goes (returned_name line (scalar v) q)) (sym e) m
 
-  name_gives : (line : ℕ) (o : Outcome Value) (r : StaticReference) → ValueFits sort.Jint o → MayReturnFrom p → Goes (returned_name line o r)
+  name_gives : (line : ℕ) (o : Outcome Value) (r : StaticReference) → ValueFits ty.Jint o → MayReturnFrom p → Goes (returned_name line o r)
   name_gives line (Gives v) r h m = (p, stands, (h, m))
   name_gives line (Traps trap) r h m = m
   name_gives line Stuck r h m = m
 
-  name_returns : (line : ℕ) (x : Identifier) (o : Option Sort) → sort_in p.names x ≡ o → ReturnedFits p x o → MayReturnFrom p → Goes (returned_name line (sight.number x) (sight.reference x))
-  name_returns line x (Some sort.Ref) e h m = ref_returns line (lookup x vs) (stands.sorts x sort.Ref e) (sight.reference x) m
-  name_returns line x (Some sort.Jint) e h m = name_gives line (sight.number x) (sight.reference x) ((sees ss vs frames p heap stands).number x sort.Jint e tt) m
+  name_returns : (line : ℕ) (x : Identifier) (o : Option ExprType) → type_in p.names x ≡ o → ReturnedFits p x o → MayReturnFrom p → Goes (returned_name line (sight.number x) (sight.reference x))
+  name_returns line x (Some ty.Ref) e h m = ref_returns line (lookup x vs) (stands.types x ty.Ref e) (sight.reference x) m
+  name_returns line x (Some ty.Jint) e h m = name_gives line (sight.number x) (sight.reference x) ((sees ss vs frames p heap stands).number x ty.Jint e tt) m
   name_returns line x o e h m = absurd h
 
   returns : (line : ℕ) (t : Term) → ReturnFits p t → MayReturnFrom p → Goes (return_effect sight line t)
   returns line (term.Named tree.Null) h m = m
-  returns line (Read x) h m = name_returns line x (sort_in p.names x) refl h m
+  returns line (Read x) h m = name_returns line x (type_in p.names x) refl h m
   returns line (term.Named tree.True) h m = value_returns line (term.Named tree.True) h m
   returns line (term.Named tree.False) h m = value_returns line (term.Named tree.False) h m
   returns line (term.Named tree.Commit) h m = absurd h
@@ -206,17 +206,17 @@ module _ (heap : Heap) (ss : Statics) (vs : Variables) (frames : List Frame) (p 
   after_go parameter parameters o before Stuck h g = g
 
   -- a number takes a step, whatever is to be given
-  number_sort : (parameter : ParameterKind) (t : Term) → OperandFits p parameter (NumberOperand t) → HasSort p t sort.Jint
-  number_sort IntNumber t h = h
-  number_sort Passed t h = h
-  number_sort parameter t h = absurd h
+  number_type : (parameter : ParameterKind) (t : Term) → OperandFits p parameter (NumberOperand t) → HasType p t ty.Jint
+  number_type IntNumber t h = h
+  number_type Passed t h = h
+  number_type parameter t h = absurd h
 
-  number_fits : (parameter : ParameterKind) (t : Term) → OperandFits p parameter (NumberOperand t) → (u : Term) → HasSort p u sort.Jint → OperandFits p parameter (NumberOperand u)
+  number_fits : (parameter : ParameterKind) (t : Term) → OperandFits p parameter (NumberOperand t) → (u : Term) → HasType p u ty.Jint → OperandFits p parameter (NumberOperand u)
   number_fits IntNumber t h u is = is
   number_fits Passed t h u is = is
   number_fits parameter t h u is = absurd h
 
-  number_go : (parameter : ParameterKind) (parameters : List ParameterKind) (e : Term) (before : List Operand) (o : Reduction) → ((u : Term) → HasSort p u sort.Jint → OperandFits p parameter (NumberOperand u)) → TermFits p sort.Jint o → OperandsFit p parameters before
+  number_go : (parameter : ParameterKind) (parameters : List ParameterKind) (e : Term) (before : List Operand) (o : Reduction) → ((u : Term) → HasType p u ty.Jint → OperandFits p parameter (NumberOperand u)) → TermFits p ty.Jint o → OperandsFit p parameters before
       → OperandsGo (parameter ∷ parameters) (NumberOperand e ∷ before) (outcome_map (λ (u : Term). NumberOperand u ∷ before) o)
   number_go parameter parameters e before (Gives u) fits h g = ((fits u h, g), refl)
   number_go parameter parameters e before (Traps trap) fits h g = tt
@@ -226,29 +226,29 @@ module _ (heap : Heap) (ss : Statics) (vs : Variables) (frames : List Frame) (p 
       → OperandsGo (parameter ∷ parameters) (NumberOperand e ∷ before) (reduce_number e before (reduce sight e) (reduce_first sight before))
   number_steps parameter parameters (Done v) before h g further e = after_go parameter parameters (NumberOperand (Done v)) before (reduce_first sight before) h (further e)
   number_steps parameter parameters t before h g further e =
-      number_go parameter parameters t before (reduce sight t) (number_fits parameter t h) (reduce_fits p sight (sees ss vs frames p heap stands) t sort.Jint (number_sort parameter t h) tt) g
+      number_go parameter parameters t before (reduce sight t) (number_fits parameter t h) (reduce_fits p sight (sees ss vs frames p heap stands) t ty.Jint (number_type parameter t h) tt) g
 
   -- a name that a method is given is that of a number, or of a reference
   abbrev PassedValue : Outcome Value → Type 0
-  PassedValue (Gives v) = HasSort p (Done v) sort.Jint
+  PassedValue (Gives v) = HasType p (Done v) ty.Jint
   PassedValue o = Unit {0}
 
-  jint_passed : (o : Outcome Value) → ValueFits sort.Jint o → PassedValue o
+  jint_passed : (o : Outcome Value) → ValueFits ty.Jint o → PassedValue o
   jint_passed (Gives v) h = h
   jint_passed (Traps trap) h = tt
   jint_passed Stuck h = tt
 
-  name_passed : (x : Identifier) (o : Option Sort) → sort_in p.names x ≡ o → PassedFits p x o → PassedValue (sight.number x)
-  name_passed x (Some sort.Jint) e h = jint_passed (sight.number x) ((sees ss vs frames p heap stands).number x sort.Jint e tt)
-  name_passed x (Some sort.Ref) e h = let there = stands.sorts x sort.Ref e in subst (λ (v : Option Variable). PassedValue (scalar v)) (sym there.2) tt
-  name_passed x (Some sort.Global) e h = let there = stands.sorts x sort.Global e in subst (λ (v : Option Variable). PassedValue (scalar v)) (sym there.0) tt
+  name_passed : (x : Identifier) (o : Option ExprType) → type_in p.names x ≡ o → PassedFits p x o → PassedValue (sight.number x)
+  name_passed x (Some ty.Jint) e h = jint_passed (sight.number x) ((sees ss vs frames p heap stands).number x ty.Jint e tt)
+  name_passed x (Some ty.Ref) e h = let there = stands.types x ty.Ref e in subst (λ (v : Option Variable). PassedValue (scalar v)) (sym there.2) tt
+  name_passed x (Some ty.Global) e h = let there = stands.types x ty.Global e in subst (λ (v : Option Variable). PassedValue (scalar v)) (sym there.0) tt
   name_passed x o e h = absurd h
 
-  name_kind : (parameter : ParameterKind) (x : Identifier) → OperandFits p parameter (PassedName x) → (parameter ≡ Passed) × PassedFits p x (sort_in p.names x)
+  name_kind : (parameter : ParameterKind) (x : Identifier) → OperandFits p parameter (PassedName x) → (parameter ≡ Passed) × PassedFits p x (type_in p.names x)
   name_kind Passed x h = (refl, h)
   name_kind parameter x h = absurd h
 
-  name_steps : (parameters : List ParameterKind) (x : Identifier) (before : List Operand) (o : Outcome Value) → PassedValue o → PassedFits p x (sort_in p.names x) → OperandsFit p parameters before → (is_ready sight.number before ≡ false → OperandsGo parameters before (reduce_first sight before)) → (is_no_number o && is_ready sight.number before) ≡ false
+  name_steps : (parameters : List ParameterKind) (x : Identifier) (before : List Operand) (o : Outcome Value) → PassedValue o → PassedFits p x (type_in p.names x) → OperandsFit p parameters before → (is_ready sight.number before ≡ false → OperandsGo parameters before (reduce_first sight before)) → (is_no_number o && is_ready sight.number before) ≡ false
       → OperandsGo (Passed ∷ parameters) (PassedName x ∷ before) (reduce_name x before o (reduce_first sight before))
   name_steps parameters x before (Gives v) is h g further e = ((is, g), refl)
   name_steps parameters x before (Traps trap) is h g further e = after_go Passed parameters (PassedName x) before (reduce_first sight before) h (further e)
@@ -262,7 +262,7 @@ module _ (heap : Heap) (ss : Statics) (vs : Variables) (frames : List Frame) (p 
   operands_go (parameter ∷ parameters) (PassedName x ∷ operands) h e =
       let kind = name_kind parameter x h.0 in
       subst (λ (q : ParameterKind). OperandsGo (q ∷ parameters) (PassedName x ∷ operands) (reduce_first sight (PassedName x ∷ operands))) (sym kind.0)
-      (name_steps parameters x operands (sight.number x) (name_passed x (sort_in p.names x) refl kind.1) kind.1 h.1 (operands_go parameters operands h.1) e)
+      (name_steps parameters x operands (sight.number x) (name_passed x (type_in p.names x) refl kind.1) kind.1 h.1 (operands_go parameters operands h.1) e)
   operands_go (parameter ∷ parameters) (Given a ∷ operands) h e = after_go parameter parameters (Given a) operands (reduce_first sight operands) h.0 (operands_go parameters operands h.1 e)
 
   -- as many
@@ -278,7 +278,7 @@ module _ (heap : Heap) (ss : Statics) (vs : Variables) (frames : List Frame) (p 
   fits_again f before after fits good =
       let same = sym (same_count before after good.1) in
       record {
-        sorts = subst (λ (n : ℕ). OperandsFit p (parameters_for f n) after) same good.0;
+        types = subst (λ (n : ℕ). OperandsFit p (parameters_for f n) after) same good.0;
         count = subst (λ (n : ℕ). takes_count f n ≡ true) same fits.count;
         views = fits.views;
         rules = subst (λ (args : List Argument). CallKeeps p f args) (sym good.1) fits.rules;
@@ -311,7 +311,7 @@ module _ (heap : Heap) (ss : Statics) (vs : Variables) (frames : List Frame) (p 
   calls line target f operands r =
       cond_both (is_ready sight.number operands) (Calls line target f (actuals sight f operands)) (goes_on line (Invoke line target f) (reduce_first sight operands)) Goes
       (λ e. (operands, refl, e, r))
-      (λ e. operands_stepped line target f operands (reduce_first sight operands) r (operands_go (parameters_for f (length operands)) operands ((call_fits line target f operands r).sorts) e))
+      (λ e. operands_stepped line target f operands (reduce_first sight operands) r (operands_go (parameters_for f (length operands)) operands ((call_fits line target f operands r).types) e))
 
   -- ---- all tasks
 
@@ -320,18 +320,18 @@ module _ (heap : Heap) (ss : Statics) (vs : Variables) (frames : List Frame) (p 
   effect_follows (SetScalar line x t) (s, n, f, g) = valued line (Sets x) (SetScalar line x) s t f (λ v e h. sets x s v h n g) (λ u e h. (p, stands, (s, n, h, g)))
   effect_follows (SetElement line x i t) (fit, (r, n, f), g, k) =
       valued line _ (λ u. SetElement line x u t) r i f
-      (λ v e h. valued line (element_effect sight line x v) (SetElement line x (Done v)) sort.Jint t g (λ w c j. places line x v w r n h j fit k) (λ u c j. (p, stands, (fit, (r, n, h), j, k))))
+      (λ v e h. valued line (element_effect sight line x v) (SetElement line x (Done v)) ty.Jint t g (λ w c j. places line x v w r n h j fit k) (λ u c j. (p, stands, (fit, (r, n, h), j, k))))
       (λ u e h. (p, stands, (fit, (r, n, h), g, k)))
   effect_follows (SetNull target) r = r
   effect_follows (MakeArray t x size) r = r
   effect_follows (Invoke line target f operands) r = calls line target f operands r
-  effect_follows (Print line t) (f, view, k) = valued line print_effect (Print line) sort.Jint t f (λ v e h. prints v h (λ z. (view, k))) (λ u e h. (p, stands, (h, view, k)))
+  effect_follows (Print line t) (f, view, k) = valued line print_effect (Print line) ty.Jint t f (λ v e h. prints v h (λ z. (view, k))) (λ u e h. (p, stands, (h, view, k)))
   effect_follows (Branch line t a b) (f, (y, n, teaches, h, g)) =
-      valued line (branch_effect a b) (λ u. Branch line u a b) sort.Truth t f
+      valued line (branch_effect a b) (λ u. Branch line u a b) ty.Truth t f
       (λ v e s. branches a b v s y n (subst (λ (t : Term). Teaches p t y n) e teaches) h g)
       (λ u e s. learns t y n (RunsBlock a (Outside (GoesOn rest))) (RunsBlock b (Outside (GoesOn rest))) teaches h g u e s)
   effect_follows EndIf (q, closes, k) = (q, stands_after ss vs frames p q stands closes, k)
-  effect_follows (Loop line e t body) (f, turn, k) = valued line (loop_effect line e body) (λ u. Loop line e u body) sort.Truth t f (λ v c s. turns line e body v s turn k) (λ u c s. (p, stands, (s, turn, k)))
+  effect_follows (Loop line e t body) (f, turn, k) = valued line (loop_effect line e body) (λ u. Loop line e u body) ty.Truth t f (λ v c s. turns line e body v s turn k) (λ u c s. (p, stands, (s, turn, k)))
   effect_follows (EndTurn line e body) (q, closes, turn, k) = (q, stands_after ss vs frames p q stands closes, (turn.0, turn, k))
   effect_follows task.Return r = r
   effect_follows (task.ReturnValue line t) (f, m) = returns line t f m

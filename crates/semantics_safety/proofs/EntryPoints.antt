@@ -9,8 +9,8 @@ use Rattle.base.specs.Bytes.{Identifier, ByName, lookup}
 use Rattle.base.specs.Element.{ElementType}
 use Rattle.syntax.specs.Parts.{parameter_names}
 use Rattle.syntax.specs.Tree.{ParameterType, IntParameter, ReferenceParameter, Parameter, Function}
-use Rattle.type_rules.specs.Sorts.{Sort, Ref, Global, Weak, Scope, sort_in}
-use Rattle.type_rules.specs.SortRules.{parameter_sort, has_name, has_repeated}
+use Rattle.type_rules.specs.ExprTypes.{ExprType, Ref, Global, Weak, Scope, type_in}
+use Rattle.type_rules.specs.TypeRules.{parameter_type, has_name, has_repeated}
 use Rattle.region_rules.specs.RegionStates.{VariableState, ReferenceAt, BufferIn, parameter_state, state_at_entry}
 use Rattle.semantics.specs.Activation.{parameter_variable, parameter_variables, named_object, entry_frame}
 use Rattle.semantics.specs.Load.{fits_parameter, fit_parameters}
@@ -31,21 +31,21 @@ use Rattle.semantics_safety.proofs.SetLaws.{none_some, kinds_named}
 
 -- the names known there, after the statics above the function
 abbrev pub entry_scope : Function → Scope → Scope
-entry_scope f statics = (f.class_name, Ref) ∷ map {B = Identifier × Sort} (λ p. (p.name, parameter_sort p.type)) f.parameters ++ statics
+entry_scope f statics = (f.class_name, Ref) ∷ map {B = Identifier × ExprType} (λ p. (p.name, parameter_type p.type)) f.parameters ++ statics
 
 -- the point at the first statement
 abbrev pub entry_point : Function → Scope → Point
 entry_point f statics = record { names = entry_scope f statics; regions = state_at_entry f }
 
--- the sorts of statics
-abbrev pub IsStaticSort : Sort → Type 0
-IsStaticSort Global = Unit {0}
-IsStaticSort Weak = Unit {0}
-IsStaticSort s = ⊥
+-- the types of statics
+abbrev pub IsStaticType : ExprType → Type 0
+IsStaticType Global = Unit {0}
+IsStaticType Weak = Unit {0}
+IsStaticType s = ⊥
 
 -- the statics above the function are there
 abbrev pub SeesStatics : Scope → Statics → Type 0
-SeesStatics scope ss = (x : Identifier) (s : Sort) → sort_in scope x ≡ Some s → IsStaticSort s × ((r : StaticReference) × (lookup x ss ≡ Some r))
+SeesStatics scope ss = (x : Identifier) (s : ExprType) → type_in scope x ≡ Some s → IsStaticType s × ((r : StaticReference) × (lookup x ss ≡ Some r))
 
 -- no name occurs twice
 abbrev pub HasNamesOnce : Function → Scope → Type 0
@@ -159,36 +159,36 @@ each_there ((x, v) ∷ rest) h = (front_same x v rest, each_further x v rest res
 pub found_further : {A : Type 0} (x y : Identifier) (w v : A) (vs : ByName A) → lookup y vs ≡ None → lookup x vs ≡ Some v → lookup x ((y, w) ∷ vs) ≡ Some v
 found_further x y w v vs none found = front_other y x w vs (λ same. none_some (lookup x vs) v (ap (λ (z : Identifier). lookup z vs) same ∙ none) found) ∙ found
 
--- ---- sorts
+-- ---- types
 
-first_fits : (b : Bool) (s t : Sort) (v : Variable) (inner : Option Sort) (o : Option Variable) (g : Option StaticReference) → (if b then Some t else inner) ≡ Some s → VariableFits t (Some v) g → (inner ≡ Some s → VariableFits s o g)
+first_fits : (b : Bool) (s t : ExprType) (v : Variable) (inner : Option ExprType) (o : Option Variable) (g : Option StaticReference) → (if b then Some t else inner) ≡ Some s → VariableFits t (Some v) g → (inner ≡ Some s → VariableFits s o g)
     → VariableFits s (if b then Some v else o) g
-first_fits true s t v inner o g e here later = let same : t ≡ s = cc in subst (λ (r : Sort). VariableFits r (Some v) g) same here
+first_fits true s t v inner o g e here later = let same : t ≡ s = cc in subst (λ (r : ExprType). VariableFits r (Some v) g) same here
 first_fits false s t v inner o g e here later = later e
 
-one_fits : (type : ParameterType) (v : ObjectValue) (g : Option StaticReference) → fits_parameter type v ≡ true → VariableFits (parameter_sort type) (Some (argument_variable v)) g
+one_fits : (type : ParameterType) (v : ObjectValue) (g : Option StaticReference) → fits_parameter type v ≡ true → VariableFits (parameter_type type) (Some (argument_variable v)) g
 one_fits IntParameter (Number z) g h = (Int z, refl, refl)
 one_fits IntParameter (Refers r) g h = absurd (cc)
 one_fits (ReferenceParameter t) (Number z) g h = absurd (cc)
 one_fits (ReferenceParameter t) (Refers r) g h = (1, r, refl)
 
 module _ (ss : Statics) (scope : Scope) (sees : SeesStatics scope ss) where
-  static_fits : (x : Identifier) (s : Sort) → sort_in scope x ≡ Some s → VariableFits s None (lookup x ss)
-  static_fits x s e = let found = sees x s e in by_sort s found.0 found.1
+  static_fits : (x : Identifier) (s : ExprType) → type_in scope x ≡ Some s → VariableFits s None (lookup x ss)
+  static_fits x s e = let found = sees x s e in on_type s found.0 found.1
     where
-      by_sort : (t : Sort) → IsStaticSort t → ((r : StaticReference) × (lookup x ss ≡ Some r)) → VariableFits t None (lookup x ss)
-      by_sort Global h there = (refl, (there.0, there.1))
-      by_sort Weak h there = (refl, (there.0, there.1))
-      by_sort t h there = absurd h
+      on_type : (t : ExprType) → IsStaticType t → ((r : StaticReference) × (lookup x ss ≡ Some r)) → VariableFits t None (lookup x ss)
+      on_type Global h there = (refl, (there.0, there.1))
+      on_type Weak h there = (refl, (there.0, there.1))
+      on_type t h there = absurd h
 
-  parameters_fit : (ps : List Parameter) (vs : List ObjectValue) → fit_parameters ps vs ≡ true → (x : Identifier) (s : Sort) → sort_in (map {B = Identifier × Sort} (λ p. (p.name, parameter_sort p.type)) ps ++ scope) x ≡ Some s
+  parameters_fit : (ps : List Parameter) (vs : List ObjectValue) → fit_parameters ps vs ≡ true → (x : Identifier) (s : ExprType) → type_in (map {B = Identifier × ExprType} (λ p. (p.name, parameter_type p.type)) ps ++ scope) x ≡ Some s
       → VariableFits s (lookup x (listed ps vs)) (lookup x ss)
   parameters_fit [] [] h x s e = static_fits x s e
   parameters_fit [] (v ∷ vs) h x s e = absurd (cc)
   parameters_fit (p ∷ ps) [] h x s e = absurd (cc)
   parameters_fit (p ∷ ps) (v ∷ vs) h x s e =
       let both = both_true (fits_parameter p.type v) (fit_parameters ps vs) h in
-      first_fits (bytes_eq x p.name) s (parameter_sort p.type) (argument_variable v) (sort_in (map {B = Identifier × Sort} (λ p. (p.name, parameter_sort p.type)) ps ++ scope) x) (lookup x (listed ps vs)) (lookup x ss) e
+      first_fits (bytes_eq x p.name) s (parameter_type p.type) (argument_variable v) (type_in (map {B = Identifier × ExprType} (λ p. (p.name, parameter_type p.type)) ps ++ scope) x) (lookup x (listed ps vs)) (lookup x ss) e
       (one_fits p.type v (lookup x ss) both.0) (parameters_fit ps vs both.1 x s)
 
 -- ---- references
@@ -292,14 +292,14 @@ none_owned vs level n ((x, v) ∷ states) h each = count_none (owns vs level n (
 
 -- ---- the whole
 
-parameter_kind : (weak : Bool) (type : ParameterType) → IsOfKind weak (parameter_sort type)
+parameter_kind : (weak : Bool) (type : ParameterType) → IsOfKind weak (parameter_type type)
 parameter_kind weak IntParameter = tt
 parameter_kind weak (ReferenceParameter r) = tt
 
-parameters_kinds : (weak : WeakNames) (ps : List Parameter) (scope : Scope) → AreOfKind weak scope → AreOfKind weak (map {B = Identifier × Sort} (λ p. (p.name, parameter_sort p.type)) ps ++ scope)
+parameters_kinds : (weak : WeakNames) (ps : List Parameter) (scope : Scope) → AreOfKind weak scope → AreOfKind weak (map {B = Identifier × ExprType} (λ p. (p.name, parameter_type p.type)) ps ++ scope)
 parameters_kinds weak [] scope kinds = kinds
 parameters_kinds weak (p ∷ ps) scope kinds =
-    kinds_named weak p.name (parameter_sort p.type) (map {B = Identifier × Sort} (λ p. (p.name, parameter_sort p.type)) ps ++ scope) (parameter_kind (weak p.name) p.type) (parameters_kinds weak ps scope kinds)
+    kinds_named weak p.name (parameter_type p.type) (map {B = Identifier × ExprType} (λ p. (p.name, parameter_type p.type)) ps ++ scope) (parameter_kind (weak p.name) p.type) (parameters_kinds weak ps scope kinds)
 
 module _ (weak : WeakNames) (ss : Statics) (scope : Scope) (f : Function) (class : ℕ) (arguments : List ObjectValue) (sees : SeesStatics scope ss) (kinds : AreOfKind weak scope) (only : HoldWeakly weak ss) (fits : fit_parameters f.parameters arguments ≡ true) (once : HasNamesOnce f scope) where
   abbrev entry_variables : Variables
@@ -334,8 +334,8 @@ module _ (weak : WeakNames) (ss : Statics) (scope : Scope) (f : Function) (class
 
   stands_so : Stands weak (holders entry_variables) ss entry_variables entry_frames (record { names = entry_scope f scope; regions = record { variables = entry_known; frames = 1 } })
   stands_so = record {
-    sorts = λ x s e.
-        first_fits (bytes_eq x f.class_name) s Ref (LocalRef 1 (Some class)) (sort_in (map {B = Identifier × Sort} (λ p. (p.name, parameter_sort p.type)) f.parameters ++ scope) x) (lookup x (listed f.parameters arguments)) (lookup x ss) e
+    types = λ x s e.
+        first_fits (bytes_eq x f.class_name) s Ref (LocalRef 1 (Some class)) (type_in (map {B = Identifier × ExprType} (λ p. (p.name, parameter_type p.type)) f.parameters ++ scope) x) (lookup x (listed f.parameters arguments)) (lookup x ss) e
         (1, Some class, refl) (parameters_fit ss scope sees f.parameters arguments fits x s);
     shows = λ x v e.
         shown entry_variables v (lookup x entry_variables)
@@ -346,7 +346,7 @@ module _ (weak : WeakNames) (ss : Statics) (scope : Scope) (f : Function) (class
     depth = refl;
     backed = λ level n. backed_at level n (1 == level) refl;
     owned = λ x level l n e h. ap level_held h;
-    kinds = kinds_named weak f.class_name Ref (map {B = Identifier × Sort} (λ p. (p.name, parameter_sort p.type)) f.parameters ++ scope) tt (parameters_kinds weak f.parameters scope kinds);
+    kinds = kinds_named weak f.class_name Ref (map {B = Identifier × ExprType} (λ p. (p.name, parameter_type p.type)) f.parameters ++ scope) tt (parameters_kinds weak f.parameters scope kinds);
     only = only;
   }
 

@@ -132,9 +132,9 @@ module _ (unit : SourceUnit) (classes : Classes) (in_use : BuffersInUse) (k : �
     where
       no_push : DeleteLocalRef ≡ PushLocalFrame → ⊥
       no_push e = cc
-  delete_lands (Declared kind x) operands r = delete_operands (Declared kind x) operands tt r.0.sorts r.2
-  delete_lands (Assigned x) operands r = delete_operands (Assigned x) operands tt r.0.sorts r.2
-  delete_lands Dropped operands r = delete_operands Dropped operands tt r.0.sorts r.2
+  delete_lands (Declared kind x) operands r = delete_operands (Declared kind x) operands tt r.0.types r.2
+  delete_lands (Assigned x) operands r = delete_operands (Assigned x) operands tt r.0.types r.2
+  delete_lands Dropped operands r = delete_operands Dropped operands tt r.0.types r.2
 
   -- ---- a frame begins
 

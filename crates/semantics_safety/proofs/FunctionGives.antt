@@ -4,8 +4,8 @@ use Rattle.syntax.specs.Parts.{parameter_names}
 use Rattle.syntax.specs.Tree as tree
 use Rattle.syntax.specs.Tree.{FromExpr, FromCall, Stmt, Function}
 use Rattle.syntax.specs.Tree.{SourceUnit}
-use Rattle.type_rules.specs.Sorts.{Scope}
-use Rattle.type_rules.specs.SortRules.{IsSorted}
+use Rattle.type_rules.specs.ExprTypes.{Scope}
+use Rattle.type_rules.specs.TypeRules.{IsWellTyped}
 use Rattle.region_rules.specs.Regions.{HasRegions, On, Returned}
 use Rattle.region_rules.specs.RegionStates.{RegionState}
 use Rattle.semantics.specs.Journal.{Journal}
@@ -29,7 +29,7 @@ use Rattle.semantics_safety.proofs.EntryPoints.{entry_point}
 use Rattle.semantics_safety.proofs.KnownPoints.{IsKnown}
 use Rattle.semantics_safety.proofs.PlainStatements.{return_gives, value_gives, print_gives, element_gives, array_gives, perform_gives}
 use Rattle.semantics_safety.proofs.StatementCalls.{push_gives}
-use Rattle.semantics_safety.proofs.WaysGive.{Gives, IsPlain, block_gives}
+use Rattle.semantics_safety.proofs.PathsGive.{Gives, IsPlain, block_gives}
 
 nil_after : (l : List Task) → l ++ [] ≡ l
 nil_after [] = refl
@@ -58,16 +58,16 @@ plain_gives (tree.IfElse line test then' else') h = absurd h
 plain_gives (tree.While line e body) h = absurd h
 
 function_gives : (f : Function) (scope : Scope) → GivesWanted f scope
-function_gives f scope globals once sorted accepted =
+function_gives f scope globals once well_typed accepted =
     let p = entry_point f scope in
     let taken = parameter_names f ++ map (λ s. s.0) scope in
     let known : IsKnown p taken = entry_known f scope globals once in
     subst (λ (l : List Task). GoesOn l p) (nil_after (tasks_of f.body))
     (block_goes f.body (Outside (λ q. ⊥)) [] (λ q o. o.2) p
-    (block_gives plain_gives push_gives f.body p p taken taken f.result Returned (λ q. ⊥) known known (λ x s e. e) sorted accepted (λ after e now. goes_nowhere after e)))
+    (block_gives plain_gives push_gives f.body p p taken taken f.result Returned (λ q. ⊥) known known (λ x s e. e) well_typed accepted (λ after e now. goes_nowhere after e)))
 
 -- after each journal of an accepted unit, each thread is at a point, or before an entry
-pub unit_is_sound : IsInverse → (unit : SourceUnit) (w : World) → IsSorted unit → HasRegions unit → Loads unit w → HasCalls w → (journal : Journal) (s : State) (k : ℕ) (t : Thread) → replay unit w journal ≡ Some s → thread_at s k ≡ Some t
+pub unit_is_sound : IsInverse → (unit : SourceUnit) (w : World) → IsWellTyped unit → HasRegions unit → Loads unit w → HasCalls w → (journal : Journal) (s : State) (k : ℕ) (t : Thread) → replay unit w journal ≡ Some s → thread_at s k ≡ Some t
     → IsSound unit w.classes (owners_after unit w journal k) s.shared.statics t
 unit_is_sound = accepted_are_sound function_gives
 

@@ -12,8 +12,8 @@ use Rattle.class_rules.specs.Class.{Classes}
 use Rattle.jni.specs.Access.{Access, ElementsCopy, ArrayView, CharsCopy, CharsView, is_critical}
 use Rattle.jni.specs.JniFunction.{JniFunction, GetBuffer, PushLocalFrame, is_allowed_pending, parameters_for}
 use Rattle.jni.specs.Prototype.{ResultKind, GivesBuffer, owner, IsCopy}
-use Rattle.type_rules.specs.Sorts.{Sort, sort_in}
-use Rattle.type_rules.specs.Sorts as sort
+use Rattle.type_rules.specs.ExprTypes.{ExprType, type_in}
+use Rattle.type_rules.specs.ExprTypes as ty
 use Rattle.region_rules.specs.RegionStates.{get_of, VariableState, BufferState, Free, Untested, ReferenceAt, BufferIn, state_of, with_new, with_changed}
 use Rattle.semantics.specs.Object.{Reference}
 use Rattle.semantics.specs.Answer.{Answer, effect_of}
@@ -42,8 +42,8 @@ use Rattle.semantics_safety.specs.WeakNames.{WeakNames}
 use Rattle.semantics_safety.proofs.FrameLaws.{counted_here}
 use Rattle.semantics_safety.proofs.NameLaws.{one_or_other, front_same, front_other, lookup_same, lookup_other, known_same, known_other}
 use Rattle.semantics_safety.proofs.QuietLaws.{IsNoTest, nothing_after}
-use Rattle.semantics_safety.proofs.SetLaws.{none_some, once_changed, owners_elsewhere, owners_same, sorts_named, kinds_named, stands_at, stands_kept}
-use Rattle.semantics_safety.proofs.StepLaws.{Lands, same_statics, apart_buffer, sort_of_buffer, buffer_no_copy}
+use Rattle.semantics_safety.proofs.SetLaws.{none_some, once_changed, owners_elsewhere, owners_same, types_named, kinds_named, stands_at, stands_kept}
+use Rattle.semantics_safety.proofs.StepLaws.{Lands, same_statics, apart_buffer, type_of_buffer, buffer_no_copy}
 
 -- NULL, or a buffer of the object that a variable holds
 abbrev pub IsLentBy : Variables → Access → Identifier → Buffer → Type 0
@@ -72,8 +72,8 @@ fewer_owners vs x b l m ((y, v) ∷ known) = by_test (bytes_eq x y) (fewer_owner
 module _ (unit : SourceUnit) (classes : Classes) (in_use : BuffersInUse) (k : ℕ) (s : Shared) (t : Thread) (rest : List Task) (p : Point) {weak : WeakNames} {own : Owners} (stands : Stands weak own s.statics t.variables t.frames p) (access : Access) (a : Identifier) (level : ℕ) (here_a : state_of p.regions a ≡ Some (ReferenceAt level true)) (b : Buffer) (is_lent : IsLentBy t.variables access a b) where
   -- a new variable holds the buffer
   got_declared : (x : Identifier) (u : ElementType) (w : Bool) → IsNew p x
-      → Stands weak own s.statics (assign x (Elements u b) t.variables) t.frames (at (named p x (sort.Buffer u w)) (with_new p.regions x (BufferIn (Untested access a))))
-  got_declared x u w new = stands_at s.statics t.variables t.frames p stands x (Elements u b) t.frames (at (named p x (sort.Buffer u w)) (with_new p.regions x (BufferIn (Untested access a)))) (record {
+      → Stands weak own s.statics (assign x (Elements u b) t.variables) t.frames (at (named p x (ty.Buffer u w)) (with_new p.regions x (BufferIn (Untested access a))))
+  got_declared x u w new = stands_at s.statics t.variables t.frames p stands x (Elements u b) t.frames (at (named p x (ty.Buffer u w)) (with_new p.regions x (BufferIn (Untested access a)))) (record {
     elsewhere = λ y other. front_other x y (BufferIn (Untested access a)) p.regions.variables other;
     apart = λ y c access' m l h at_c same. new.unused y access' (subst (Holds p y access') same h);
     here = λ v e.
@@ -82,9 +82,9 @@ module _ (unit : SourceUnit) (classes : Classes) (in_use : BuffersInUse) (k : �
         let other : a ≢ x = λ same. none_some (state_of p.regions x) (ReferenceAt level true) new.unknown (subst (λ (z : Identifier). state_of p.regions z ≡ Some (ReferenceAt level true)) same here_a) in
         subst (λ (v : VariableState). Shows (assign x (Elements u b) t.variables) v (Some (Elements u b))) one
         (u, b, refl, lent_moved t.variables (assign x (Elements u b) t.variables) access a b (lookup_other x a (Elements u b) t.variables other) is_lent);
-    sorts = sorts_named s.statics t.variables t.frames p stands x (Elements u b) (sort.Buffer u w) (b, refl);
+    types = types_named s.statics t.variables t.frames p stands x (Elements u b) (ty.Buffer u w) (b, refl);
     held = λ v c e. inr (access, a, inl (front_same x (BufferIn (Untested access a)) p.regions.variables));
-    kinds = kinds_named weak x (sort.Buffer u w) p.names tt stands.kinds;
+    kinds = kinds_named weak x (ty.Buffer u w) p.names tt stands.kinds;
     known_once = (new.unknown, stands.known_once);
     depth = stands.depth;
     backed = λ l m.
@@ -107,12 +107,12 @@ module _ (unit : SourceUnit) (classes : Classes) (in_use : BuffersInUse) (k : �
         let other : a ≢ x = λ same. let both : Some (ReferenceAt level true) ≡ Some (BufferIn Free) = sym (subst (λ (z : Identifier). state_of p.regions z ≡ Some (ReferenceAt level true)) same here_a) ∙ e in cc in
         subst (λ (v : VariableState). Shows (assign x (Elements u b) t.variables) v (Some (Elements u b))) one
         (u, b, refl, lent_moved t.variables (assign x (Elements u b) t.variables) access a b (lookup_other x a (Elements u b) t.variables other) is_lent);
-    sorts = λ y r h. elim (one_or_other y x) [
+    types = λ y r h. elim (one_or_other y x) [
       | inl same ↦
           subst (λ (z : Identifier). VariableFits r (lookup z (assign x (Elements u b) t.variables)) (lookup z s.statics)) (sym same)
           (subst (λ (o : Option Variable). VariableFits r o (lookup x s.statics)) (sym (lookup_same x (Elements u b) t.variables))
-          (sort_of_buffer unit classes in_use k s t rest p stands r (lookup x t.variables) (lookup x s.statics) u old b at_x (stands.sorts x r (subst (λ (z : Identifier). sort_in p.names z ≡ Some r) same h))))
-      | inr other ↦ subst (λ (o : Option Variable). VariableFits r o (lookup y s.statics)) (sym (lookup_other x y (Elements u b) t.variables other)) (stands.sorts y r h)
+          (type_of_buffer unit classes in_use k s t rest p stands r (lookup x t.variables) (lookup x s.statics) u old b at_x (stands.types x r (subst (λ (z : Identifier). type_in p.names z ≡ Some r) same h))))
+      | inr other ↦ subst (λ (o : Option Variable). VariableFits r o (lookup y s.statics)) (sym (lookup_other x y (Elements u b) t.variables other)) (stands.types y r h)
     ];
     held = λ v c h. inr (access, a, inl (known_there x e));
     kinds = stands.kinds;
@@ -136,14 +136,14 @@ module _ (unit : SourceUnit) (classes : Classes) (in_use : BuffersInUse) (k : �
       known_there x e = known_same p.regions x (λ v. BufferIn (Untested access a)) ∙ ap (option_map (λ (v : VariableState). BufferIn (Untested access a))) e
 
   declared : (kind : VariableKind) (x : Identifier) → DeclaresResult p kind x (GivesBuffer access) (Some (access, Some a)) (GoesOn rest) → Lands weak own s.statics (put (Declared kind x) (BufferResult b) s (with_tasks t rest))
-  declared (BufferKind u) x (new, (w, for_it, g)) = ((at (named p x (sort.Buffer u w)) (with_new p.regions x (BufferIn (Untested access a))), got_declared x u w new, g), same_statics s.statics)
+  declared (BufferKind u) x (new, (w, for_it, g)) = ((at (named p x (ty.Buffer u w)) (with_new p.regions x (BufferIn (Untested access a))), got_declared x u w new, g), same_statics s.statics)
   declared ScalarKind x h = absurd h
   declared ReferenceKind x h = absurd h
   declared FieldKind x h = absurd h
   declared MethodKind x h = absurd h
 
-  assigned : (x : Identifier) (o : Option Sort) → AssignsResult p o x (GivesBuffer access) (Some (access, Some a)) (GoesOn rest) → Lands weak own s.statics (put_assigned x (BufferResult b) s (with_tasks t rest) (lookup x t.variables))
-  assigned x (Some (sort.Buffer u w)) (e, for_it, g) =
+  assigned : (x : Identifier) (o : Option ExprType) → AssignsResult p o x (GivesBuffer access) (Some (access, Some a)) (GoesOn rest) → Lands weak own s.statics (put_assigned x (BufferResult b) s (with_tasks t rest) (lookup x t.variables))
+  assigned x (Some (ty.Buffer u w)) (e, for_it, g) =
       let shown = stands.shows x (BufferIn Free) e in
       subst (λ (v : Option Variable). Lands weak own s.statics (put_assigned x (BufferResult b) s (with_tasks t rest) v)) (sym shown.2)
       ((at p (with_changed p.regions x (λ v. BufferIn (Untested access a))), got_assigned x shown.0 shown.1 e shown.2, g), same_statics s.statics)
@@ -152,17 +152,17 @@ module _ (unit : SourceUnit) (classes : Classes) (in_use : BuffersInUse) (k : �
   -- the buffer goes where it may
   pub buffer_lands : (target : Target) → ResultGoes target (GivesBuffer access) (Some (access, Some a)) (GoesOn rest) p → Lands weak own s.statics (put target (BufferResult b) s (with_tasks t rest))
   buffer_lands (Declared kind x) h = declared kind x h
-  buffer_lands (Assigned x) h = assigned x (sort_in p.names x) h
+  buffer_lands (Assigned x) h = assigned x (type_in p.names x) h
   buffer_lands (Tested c d) h = absurd h
   buffer_lands Dropped h = absurd h.0
 
 -- ---- whether it is a copy
 
-module _ (ss : Statics) (vs : Variables) (frames : List Frame) (p : Point) {weak : WeakNames} {own : Owners} (stands : Stands weak own ss vs frames p) (y : Identifier) (flag : sort_in p.names y ≡ Some sort.Flag) where
+module _ (ss : Statics) (vs : Variables) (frames : List Frame) (p : Point) {weak : WeakNames} {own : Owners} (stands : Stands weak own ss vs frames p) (y : Identifier) (flag : type_in p.names y ≡ Some ty.Flag) where
   flag_set : (v : Bool) → Stands weak own ss (assign y (Scalar (Flag v)) vs) frames p
   flag_set v =
-      let old = stands.sorts y sort.Flag flag in
-      stands_kept ss vs frames p stands y (Scalar (Flag v)) sort.Flag (Scalar old.0) flag old.1 (λ level r e. no_ref old.0 level r e) (λ u b e. no_buffer old.0 u b e) (Flag v, refl, refl) (λ u b e. absurd (no_buffer (Flag v) u b e))
+      let old = stands.types y ty.Flag flag in
+      stands_kept ss vs frames p stands y (Scalar (Flag v)) ty.Flag (Scalar old.0) flag old.1 (λ level r e. no_ref old.0 level r e) (λ u b e. no_buffer old.0 u b e) (Flag v, refl, refl) (λ u b e. absurd (no_buffer (Flag v) u b e))
     where
       no_ref : (v : Value) (level : ℕ) (r : _) → Scalar v ≡ LocalRef level r → ⊥
       no_ref v level r e = cc
@@ -172,7 +172,7 @@ module _ (ss : Statics) (vs : Variables) (frames : List Frame) (p : Point) {weak
 
   not_flag : (a : Identifier) (level : ℕ) (r : Reference) → lookup a vs ≡ Some (LocalRef level r) → a ≢ y
   not_flag a level r e same =
-      let old = stands.sorts y sort.Flag flag in
+      let old = stands.types y ty.Flag flag in
       let there : lookup y vs ≡ Some (LocalRef level r) = subst (λ (z : Identifier). lookup z vs ≡ Some (LocalRef level r)) same e in
       let both : Some (Scalar old.0) ≡ Some (LocalRef level r) = sym old.1 ∙ there in
       cc
@@ -221,7 +221,7 @@ module _ (unit : SourceUnit) (classes : Classes) (in_use : BuffersInUse) (k : �
   module _ (access : Access) (a : Identifier) (level : ℕ) (here_a : state_of p.regions a ≡ Some (ReferenceAt level true)) (r : Reference) (at_a : lookup a t.variables ≡ Some (LocalRef level r)) (target : Target) (away : IsNoTest target) (goes : ResultGoes target (GivesBuffer access) (Some (access, Some a)) (GoesOn rest) p) where
     -- the address of a flag, or NULL
     abbrev IsFlagOrNone : Option Identifier → Type 0
-    IsFlagOrNone y = (y ≡ None) ⊎ ((x : Identifier) × (y ≡ Some x) × (sort_in p.names x ≡ Some sort.Flag))
+    IsFlagOrNone y = (y ≡ None) ⊎ ((x : Identifier) × (y ≡ Some x) × (type_in p.names x ≡ Some ty.Flag))
 
     got : (shared : Shared) → shared.statics ≡ s.statics → (b : Buffer) → IsLentBy t.variables access a b → (y : Option Identifier) → IsFlagOrNone y
         → Lands weak own shared.statics (put target (BufferResult b) shared (record t { tasks = Some (tasks_after line target false ++ rest); variables = tell_copy y (BufferResult b) t.variables }))
@@ -244,7 +244,7 @@ module _ (unit : SourceUnit) (classes : Classes) (in_use : BuffersInUse) (k : �
   abbrev told_in : Operand → Option Identifier
   told_in c = address_in_actual (Some (look_up (sight_of s t) (IsCopy, c)))
 
-  told_fits : (c : Operand) → OperandFits p IsCopy c → (told_in c ≡ None) ⊎ ((x : Identifier) × (told_in c ≡ Some x) × (sort_in p.names x ≡ Some sort.Flag))
+  told_fits : (c : Operand) → OperandFits p IsCopy c → (told_in c ≡ None) ⊎ ((x : Identifier) × (told_in c ≡ Some x) × (type_in p.names x ≡ Some ty.Flag))
   told_fits (Given (tree.Value (tree.Named n))) fit = inl refl
   told_fits (Given (tree.AddressOf y)) fit = inr (y, refl, fit)
   told_fits c fit = absurd fit
@@ -317,6 +317,6 @@ module _ (unit : SourceUnit) (classes : Classes) (in_use : BuffersInUse) (k : �
   pub get_lands : (access : Access) (target : Target) (operands : List Operand) → Runs (Invoke line target (GetBuffer access) operands) (GoesOn rest) p
       → LandsBy weak (Calls line target (GetBuffer access) (actuals (sight_of s t) (GetBuffer access) operands)) (length t.frames) own s.statics (call_step unit classes in_use k s t line target (GetBuffer access) (actuals (sight_of s t) (GetBuffer access) operands) rest false)
   get_lands access (Tested a b) operands r = absurd (get_no_push access r.1)
-  get_lands access (Declared kind x) operands r = get_operands access (Declared kind x) operands tt r.0.rules r.0.sorts r.2
-  get_lands access (Assigned x) operands r = get_operands access (Assigned x) operands tt r.0.rules r.0.sorts r.2
-  get_lands access Dropped operands r = get_operands access Dropped operands tt r.0.rules r.0.sorts r.2
+  get_lands access (Declared kind x) operands r = get_operands access (Declared kind x) operands tt r.0.rules r.0.types r.2
+  get_lands access (Assigned x) operands r = get_operands access (Assigned x) operands tt r.0.rules r.0.types r.2
+  get_lands access Dropped operands r = get_operands access Dropped operands tt r.0.rules r.0.types r.2

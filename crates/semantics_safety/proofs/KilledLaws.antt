@@ -112,7 +112,7 @@ module _ (ss : Statics) (vs : Variables) (frames : List Frame) (p : Point) {weak
   -- in frames that have enough
   pub stands_killed : (after : List Frame) → length after ≡ length frames → ((level m : ℕ) → owners (with_changed p.regions x killed) vs level m ≤ copies (references_at level after) m) → Stands weak own ss vs after (at p (with_changed p.regions x killed))
   stands_killed after depth backed = record {
-    sorts = stands.sorts;
+    types = stands.types;
     kinds = stands.kinds;
     only = stands.only;
     shows = shows_changed ss vs frames p stands x None killed (λ w h. killed_shows vs w (lookup x vs) h);

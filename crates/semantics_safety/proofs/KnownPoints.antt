@@ -8,8 +8,8 @@ use Rattle.std.proofs.lemmas.Slice.Eq.{bytes_eq-Decides}
 use Rattle.base.specs.Bytes.{Identifier, ByName, lookup}
 use Rattle.base.specs.Element.{ElementType}
 use Rattle.jni.specs.Access.{Access}
-use Rattle.type_rules.specs.Sorts.{Sort, Ref, Truth, Buffer, sort_in}
-use Rattle.type_rules.specs.SortRules.{has_name}
+use Rattle.type_rules.specs.ExprTypes.{ExprType, Ref, Truth, Buffer, type_in}
+use Rattle.type_rules.specs.TypeRules.{has_name}
 use Rattle.region_rules.specs.RegionRules.{is_held}
 use Rattle.region_rules.specs.RegionStates.{VariableState, BufferState, Free, Untested, Usable, ReferenceAt, BufferIn, RegionState, state_of, held_by, with_new}
 use Rattle.region_rules.specs.Regions.{has_variable, left, holds_own}
@@ -19,8 +19,8 @@ use Rattle.semantics_safety.proofs.ExpressionFits.{AreStated}
 use Rattle.semantics_safety.proofs.NameLaws.{one_or_other, front_same, front_other}
 use Rattle.semantics_safety.proofs.SetLaws.{once_changed}
 
--- the sorts with a state
-abbrev pub HasState : Sort → Type 0
+-- the types with a state
+abbrev pub HasState : ExprType → Type 0
 HasState Ref = Unit {0}
 HasState (Buffer t writable) = Unit {0}
 HasState s = ⊥
@@ -28,10 +28,10 @@ HasState s = ⊥
 -- what is known at a point, after the names that were taken
 pub record IsKnown (p : Point) (taken : List Identifier) : Type 0 where
   pub stated : AreStated p
-  pub named_taken : (x : Identifier) (s : Sort) → sort_in p.names x ≡ Some s → has_name taken x ≡ true
+  pub named_taken : (x : Identifier) (s : ExprType) → type_in p.names x ≡ Some s → has_name taken x ≡ true
   pub known_taken : (x : Identifier) (v : VariableState) → state_of p.regions x ≡ Some v → has_name taken x ≡ true
   pub arrays_taken : (x : Identifier) (access : Access) (a : Identifier) → Holds p x access a → has_name taken a ≡ true
-  pub stateful : (x : Identifier) (v : VariableState) → state_of p.regions x ≡ Some v → (s : Sort) × (sort_in p.names x ≡ Some s) × HasState s
+  pub stateful : (x : Identifier) (v : VariableState) → state_of p.regions x ≡ Some v → (s : ExprType) × (type_in p.names x ≡ Some s) × HasState s
   pub framed : 1 ≤ p.regions.frames
   pub once : AreOnce p.regions.variables
 
@@ -156,39 +156,39 @@ none_at taken x (Some v) h new = absurd (let c : true ≡ false = sym (h v refl)
 -- a name that isn't taken is new
 pub is_new : (p : Point) (taken : List Identifier) (x : Identifier) → IsKnown p taken → has_name taken x ≡ false → IsNew p x
 is_new p taken x k new = record {
-  unnamed = none_at taken x (sort_in p.names x) (k.named_taken x) new;
+  unnamed = none_at taken x (type_in p.names x) (k.named_taken x) new;
   unknown = none_at taken x (state_of p.regions x) (k.known_taken x) new;
   unused = λ y access h. let c : true ≡ false = sym (k.arrays_taken y access x h) ∙ new in cc;
 }
 
--- the sorts without a state
-abbrev pub HasNoState : Sort → Type 0
+-- the types without a state
+abbrev pub HasNoState : ExprType → Type 0
 HasNoState Ref = ⊥
 HasNoState Truth = ⊥
 HasNoState (Buffer t writable) = ⊥
 HasNoState s = Unit {0}
 
 module _ (p : Point) (taken : List Identifier) (k : IsKnown p taken) (x : Identifier) (new : has_name taken x ≡ false) where
-  found_old : (s r : Sort) (y : Identifier) → sort_in ((x, s) ∷ p.names) y ≡ Some r → ((y ≡ x) × (s ≡ r)) ⊎ ((y ≢ x) × (sort_in p.names y ≡ Some r))
+  found_old : (s r : ExprType) (y : Identifier) → type_in ((x, s) ∷ p.names) y ≡ Some r → ((y ≡ x) × (s ≡ r)) ⊎ ((y ≢ x) × (type_in p.names y ≡ Some r))
   found_old s r y e = elim (one_or_other y x) [
     | inl same ↦
-        let there : sort_in ((x, s) ∷ p.names) x ≡ Some r = subst (λ (z : Identifier). sort_in ((x, s) ∷ p.names) z ≡ Some r) same e in
+        let there : type_in ((x, s) ∷ p.names) x ≡ Some r = subst (λ (z : Identifier). type_in ((x, s) ∷ p.names) z ≡ Some r) same e in
         let both : Some s ≡ Some r = sym (front_same x s p.names) ∙ there in
         inl (same, cc)
     | inr other ↦ inr (other, sym (front_other x y s p.names other) ∙ e)
   ]
 
-  no_state : (s : Sort) → HasNoState s → s ≢ Truth × s ≢ Ref × ((t : ElementType) (writable : Bool) → s ≢ Buffer t writable)
+  no_state : (s : ExprType) → HasNoState s → s ≢ Truth × s ≢ Ref × ((t : ElementType) (writable : Bool) → s ≢ Buffer t writable)
   no_state s h = (λ e. subst HasNoState e h, λ e. subst HasNoState e h, λ t writable e. subst HasNoState e h)
 
-  named_now : (s r : Sort) (y : Identifier) → sort_in ((x, s) ∷ p.names) y ≡ Some r → has_name (taken ++ x ∷ []) y ≡ true
+  named_now : (s r : ExprType) (y : Identifier) → type_in ((x, s) ∷ p.names) y ≡ Some r → has_name (taken ++ x ∷ []) y ≡ true
   named_now s r y e = elim (found_old s r y e) [
     | inl here ↦ subst (λ (z : Identifier). has_name (taken ++ x ∷ []) z ≡ true) (sym here.0) (last_there taken x)
     | inr old ↦ in_front taken (x ∷ []) y (k.named_taken y r old.1)
   ]
 
-  -- a name of a sort without a state
-  pub known_named : (s : Sort) → HasNoState s → IsKnown (named p x s) (taken ++ x ∷ [])
+  -- a name of a type without a state
+  pub known_named : (s : ExprType) → HasNoState s → IsKnown (named p x s) (taken ++ x ∷ [])
   known_named s plain = record {
     stated = record {
       no_truth = λ y e. elim (found_old s Truth y e) [ inl here ↦ (no_state s plain).0 here.1 | inr old ↦ k.stated.no_truth y old.1 ];
@@ -204,36 +204,36 @@ module _ (p : Point) (taken : List Identifier) (k : IsKnown p taken) (x : Identi
   }
 
   -- what a new name is known for
-  abbrev FitsState : Sort → VariableState → Type 0
+  abbrev FitsState : ExprType → VariableState → Type 0
   FitsState Ref (ReferenceAt level live) = Unit {0}
   FitsState (Buffer t writable) (BufferIn b) = (access : Access) (a : Identifier) → held_by b ≡ Some (access, a) → has_name taken a ≡ true
   FitsState s v = ⊥
 
-  fits_reference : (s : Sort) (v : VariableState) → FitsState s v → s ≡ Ref → (level : ℕ) × (live : Bool) × (v ≡ ReferenceAt level live)
+  fits_reference : (s : ExprType) (v : VariableState) → FitsState s v → s ≡ Ref → (level : ℕ) × (live : Bool) × (v ≡ ReferenceAt level live)
   fits_reference Ref (ReferenceAt level live) h e = (level, live, refl)
   fits_reference (Buffer t writable) (BufferIn b) h e = absurd (cc)
   fits_reference s v h e = absurd h
 
-  fits_buffer : (s : Sort) (v : VariableState) (t : ElementType) (writable : Bool) → FitsState s v → s ≡ Buffer t writable → (b : BufferState) × (v ≡ BufferIn b)
+  fits_buffer : (s : ExprType) (v : VariableState) (t : ElementType) (writable : Bool) → FitsState s v → s ≡ Buffer t writable → (b : BufferState) × (v ≡ BufferIn b)
   fits_buffer Ref (ReferenceAt level live) t writable h e = absurd (cc)
   fits_buffer (Buffer u w) (BufferIn b) t writable h e = (b, refl)
   fits_buffer s v t writable h e = absurd h
 
-  fits_no_truth : (s : Sort) (v : VariableState) → FitsState s v → s ≢ Truth
+  fits_no_truth : (s : ExprType) (v : VariableState) → FitsState s v → s ≢ Truth
   fits_no_truth Ref (ReferenceAt level live) h e = cc
   fits_no_truth (Buffer u w) (BufferIn b) h e = cc
   fits_no_truth s v h e = h
 
-  fits_state : (s : Sort) (v : VariableState) → FitsState s v → HasState s
+  fits_state : (s : ExprType) (v : VariableState) → FitsState s v → HasState s
   fits_state Ref (ReferenceAt level live) h = tt
   fits_state (Buffer u w) (BufferIn b) h = tt
   fits_state s v h = absurd h
 
-  fits_array : (s : Sort) (b : BufferState) (access : Access) (a : Identifier) → FitsState s (BufferIn b) → held_by b ≡ Some (access, a) → has_name taken a ≡ true
+  fits_array : (s : ExprType) (b : BufferState) (access : Access) (a : Identifier) → FitsState s (BufferIn b) → held_by b ≡ Some (access, a) → has_name taken a ≡ true
   fits_array (Buffer u w) b access a h e = h access a e
   fits_array s b access a h e = absurd h
 
-  module _ (s : Sort) (v : VariableState) (fits : FitsState s v) where
+  module _ (s : ExprType) (v : VariableState) (fits : FitsState s v) where
     abbrev new_point : Point
     new_point = at (named p x s) (with_new p.regions x v)
 
@@ -278,7 +278,7 @@ module _ (p : Point) (taken : List Identifier) (k : IsKnown p taken) (x : Identi
             | inr old ↦ k.arrays_taken y access a (holds_of p y held.0 access a old.1 held.2)
           ]);
       stateful = λ y u e. elim (state_old u y e) [
-        | inl here ↦ (s, subst (λ (z : Identifier). sort_in ((x, s) ∷ p.names) z ≡ Some s) (sym here.0) (front_same x s p.names), fits_state s v fits)
+        | inl here ↦ (s, subst (λ (z : Identifier). type_in ((x, s) ∷ p.names) z ≡ Some s) (sym here.0) (front_same x s p.names), fits_state s v fits)
         | inr old ↦ let was = k.stateful y u old.1 in (was.0, front_other x y s p.names old.0 ∙ was.1, was.2)
       ];
       framed = k.framed;
@@ -401,7 +401,7 @@ variable_is ((y, w) ∷ vs) x h = by_test (bytes_eq x y) refl (variable_is vs x)
 
 -- the names of the outer point are known inside
 abbrev pub IsWithin : (outer p : Point) → Type 0
-IsWithin outer p = (x : Identifier) (s : Sort) → sort_in outer.names x ≡ Some s → sort_in p.names x ≡ Some s
+IsWithin outer p = (x : Identifier) (s : ExprType) → type_in outer.names x ≡ Some s → type_in p.names x ≡ Some s
 
 -- the point after a block
 abbrev pub end_point : (outer p : Point) → Point

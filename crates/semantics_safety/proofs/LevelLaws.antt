@@ -6,8 +6,8 @@ use Rattle.jni.specs.Access.{Access}
 use Rattle.jni.specs.JniFunction.{JniFunction, ReleaseBuffer, DeleteLocalRef, PopLocalFrame, prototype}
 use Rattle.jni.specs.Prototype.{ResultKind, NewLocal, GivesNothing}
 use Rattle.region_rules.specs.RegionStates.{RegionState, get_of, after_call, after_pop}
-use Rattle.type_rules.specs.Sorts.{Sort, sort_in}
-use Rattle.type_rules.specs.Sorts as sort
+use Rattle.type_rules.specs.ExprTypes.{ExprType, type_in}
+use Rattle.type_rules.specs.ExprTypes as ty
 use Rattle.semantics.specs.Checks.{frames_after}
 use Rattle.semantics.specs.Object.{Reference}
 use Rattle.semantics.specs.Task.{Assigned, Operand, Invoke}
@@ -32,8 +32,8 @@ no_local e = cc
 
 module _ (ss : Statics) (vs : Variables) (frames : List Frame) (p : Point) {weak : WeakNames} {own : Owners} (stands : Stands weak own ss vs frames p) (k : Point → Type 0) (x : Identifier) (level : ℕ) (r : Reference) (there : lookup x vs ≡ Some (LocalRef level r)) where
   -- the variable that is set at a point is of the frame that is current there
-  pub set_level : (q : Point) (fs : List Frame) → Stands weak own ss vs fs q → (s : Option Sort) (get : Option (Access × Option Identifier)) → AssignsResult q s x NewLocal get k → level ≡ length fs
-  set_level q fs now (Some sort.Ref) get (may, goes) =
+  pub set_level : (q : Point) (fs : List Frame) → Stands weak own ss vs fs q → (s : Option ExprType) (get : Option (Access × Option Identifier)) → AssignsResult q s x NewLocal get k → level ≡ length fs
+  set_level q fs now (Some ty.Ref) get (may, goes) =
       let shown = now.shows x _ may.known in
       let same : level ≡ q.regions.frames = cc in
       same ∙ sym now.depth
@@ -41,13 +41,13 @@ module _ (ss : Statics) (vs : Variables) (frames : List Frame) (p : Point) {weak
 
   free_level : (line : ℕ) (f : JniFunction) (operands : List Operand) → IsFree f → Runs (Invoke line (Assigned x) f operands) k p → (prototype f).result ≡ NewLocal → level ≡ length (frames_after f frames)
   free_level line f operands free runs e =
-      let goes = subst (λ (kind : ResultKind). AssignsResult (at p (after_call p.regions (call_seen f operands))) (sort_in p.names x) x kind (get_of (call_seen f operands)) k) e runs.2 in
-      let here = subst (λ (regions : RegionState). AssignsResult (at p regions) (sort_in p.names x) x NewLocal (get_of (call_seen f operands)) k) (free_call f p.regions _ free) goes in
-      set_level p frames stands (sort_in p.names x) (get_of (call_seen f operands)) here ∙ sym (ap (λ (fs : List Frame). length fs) (frames_stay f frames free))
+      let goes = subst (λ (kind : ResultKind). AssignsResult (at p (after_call p.regions (call_seen f operands))) (type_in p.names x) x kind (get_of (call_seen f operands)) k) e runs.2 in
+      let here = subst (λ (regions : RegionState). AssignsResult (at p regions) (type_in p.names x) x NewLocal (get_of (call_seen f operands)) k) (free_call f p.regions _ free) goes in
+      set_level p frames stands (type_in p.names x) (get_of (call_seen f operands)) here ∙ sym (ap (λ (fs : List Frame). length fs) (frames_stay f frames free))
 
   -- a call's reference that goes to a variable that is there comes into the frame of its level
   pub level_clause : (line : ℕ) (f : JniFunction) (operands : List Operand) → Runs (Invoke line (Assigned x) f operands) k p → (prototype f).result ≡ NewLocal → level ≡ length (frames_after f frames)
-  level_clause line PopLocalFrame operands runs e = set_level (at p (after_pop p.regions)) (drop 1 frames) (stands_popped ss vs frames p stands) (sort_in p.names x) (get_of (call_seen PopLocalFrame operands)) runs.2
+  level_clause line PopLocalFrame operands runs e = set_level (at p (after_pop p.regions)) (drop 1 frames) (stands_popped ss vs frames p stands) (type_in p.names x) (get_of (call_seen PopLocalFrame operands)) runs.2
   level_clause line (ReleaseBuffer access) operands runs e = absurd (no_local e)
   level_clause line DeleteLocalRef operands runs e = absurd (no_local e)
   level_clause line f operands runs e = free_level line f operands tt runs e

@@ -8,8 +8,8 @@ use Rattle.base.specs.Bytes.{Identifier, ByName, lookup}
 use Rattle.base.specs.Element.{ElementType}
 use Rattle.syntax.specs.Tree.{SourceUnit}
 use Rattle.class_rules.specs.Class.{Classes}
-use Rattle.type_rules.specs.Sorts.{Sort, sort_in}
-use Rattle.type_rules.specs.Sorts as sort
+use Rattle.type_rules.specs.ExprTypes.{ExprType, type_in}
+use Rattle.type_rules.specs.ExprTypes as ty
 use Rattle.semantics.specs.CallEffects.{NullResult}
 use Rattle.semantics.specs.CallStep.{put, put_assigned}
 use Rattle.region_rules.specs.RegionStates.{VariableState, Free, ReferenceAt, BufferIn, with_new, with_changed}
@@ -23,7 +23,7 @@ use Rattle.semantics_safety.specs.Stands.{VariableFits, Shows, Stands}
 use Rattle.semantics_safety.specs.Wanted.{Holds, IsNew, MaySet, revived, DeclaresNull, AssignsNull, SetsNullThere, GoesOn, at, named}
 use Rattle.semantics_safety.specs.WeakNames.{WeakNames}
 use Rattle.semantics_safety.proofs.NameLaws.{one_or_other, lookup_same, lookup_other, front_same, front_other, known_same, known_other}
-use Rattle.semantics_safety.proofs.SetLaws.{once_changed, stands_new, stands_kept, stands_at, owners_elsewhere, sorts_named, sorts_kept, kinds_named}
+use Rattle.semantics_safety.proofs.SetLaws.{once_changed, stands_new, stands_kept, stands_at, owners_elsewhere, types_named, types_kept, kinds_named}
 use Rattle.semantics_safety.proofs.StepLaws.{Lands, null_declared}
 
 module _ (unit : SourceUnit) (classes : Classes) (in_use : BuffersInUse) (k : ℕ) (s : Shared) (t : Thread) (rest : List Task) (p : Point) {weak : WeakNames} {own : Owners} (stands : Stands weak own s.statics t.variables t.frames p) where
@@ -43,7 +43,7 @@ module _ (unit : SourceUnit) (classes : Classes) (in_use : BuffersInUse) (k : �
   null_buffer v u b e = cc
 
   -- a new buffer that is NULL
-  buffer_declared : (x : Identifier) (u : ElementType) (w : Bool) → IsNew p x → Stands weak own s.statics (assign x (Elements u NoBuffer) t.variables) t.frames (at (named p x (sort.Buffer u w)) (with_new p.regions x (BufferIn Free)))
+  buffer_declared : (x : Identifier) (u : ElementType) (w : Bool) → IsNew p x → Stands weak own s.statics (assign x (Elements u NoBuffer) t.variables) t.frames (at (named p x (ty.Buffer u w)) (with_new p.regions x (BufferIn Free)))
   buffer_declared x u w new = stands_at s.statics t.variables t.frames p stands x (Elements u NoBuffer) t.frames _ (record {
     elsewhere = λ y other. front_other x y (BufferIn Free) p.regions.variables other;
     apart = λ y a access m level h at_a same. new.unused y access (subst (Holds p y access) same h);
@@ -51,9 +51,9 @@ module _ (unit : SourceUnit) (classes : Classes) (in_use : BuffersInUse) (k : �
         let both : Some (BufferIn Free) ≡ Some v = sym (front_same x (BufferIn Free) p.regions.variables) ∙ e in
         let one : BufferIn Free ≡ v = cc in
         subst (λ (v : VariableState). Shows (assign x (Elements u NoBuffer) t.variables) v (Some (Elements u NoBuffer))) one (u, NoBuffer, refl, refl);
-    sorts = sorts_named s.statics t.variables t.frames p stands x (Elements u NoBuffer) (sort.Buffer u w) (NoBuffer, refl);
+    types = types_named s.statics t.variables t.frames p stands x (Elements u NoBuffer) (ty.Buffer u w) (NoBuffer, refl);
     held = λ v b e. inl (null_buffer u v b e);
-    kinds = kinds_named weak x (sort.Buffer u w) p.names tt stands.kinds;
+    kinds = kinds_named weak x (ty.Buffer u w) p.names tt stands.kinds;
     known_once = (new.unknown, stands.known_once);
     depth = stands.depth;
     backed = λ level n.
@@ -66,12 +66,12 @@ module _ (unit : SourceUnit) (classes : Classes) (in_use : BuffersInUse) (k : �
 
   declared_lands : (kind : VariableKind) (x : Identifier) → DeclaresNull p kind x (GoesOn rest) → Lands weak own s.statics (put (Declared kind x) NullResult s (with_tasks t rest))
   declared_lands ScalarKind x h = absurd h
-  declared_lands ReferenceKind x (new, g) = ((at (named p x sort.Ref) (with_new p.regions x (ReferenceAt p.regions.frames true)), null_declared unit classes in_use k s t rest p stands x new, g), λ y r e. (r, e))
+  declared_lands ReferenceKind x (new, g) = ((at (named p x ty.Ref) (with_new p.regions x (ReferenceAt p.regions.frames true)), null_declared unit classes in_use k s t rest p stands x new, g), λ y r e. (r, e))
   declared_lands FieldKind x (new, g) =
-      ((named p x sort.FieldId, stands_new s.statics t.variables t.frames p stands x (FieldHandle None) sort.FieldId new tt (None, refl) (λ u b e. absurd (field_no_buffer None u b e)), g), λ y r e. (r, e))
+      ((named p x ty.FieldId, stands_new s.statics t.variables t.frames p stands x (FieldHandle None) ty.FieldId new tt (None, refl) (λ u b e. absurd (field_no_buffer None u b e)), g), λ y r e. (r, e))
   declared_lands MethodKind x (new, g) =
-      ((named p x sort.MethodId, stands_new s.statics t.variables t.frames p stands x (MethodHandle None) sort.MethodId new tt (None, refl) (λ u b e. absurd (method_no_buffer None u b e)), g), λ y r e. (r, e))
-  declared_lands (BufferKind u) x (new, (w, g)) = ((at (named p x (sort.Buffer u w)) (with_new p.regions x (BufferIn Free)), buffer_declared x u w new, g), λ y r e. (r, e))
+      ((named p x ty.MethodId, stands_new s.statics t.variables t.frames p stands x (MethodHandle None) ty.MethodId new tt (None, refl) (λ u b e. absurd (method_no_buffer None u b e)), g), λ y r e. (r, e))
+  declared_lands (BufferKind u) x (new, (w, g)) = ((at (named p x (ty.Buffer u w)) (with_new p.regions x (BufferIn Free)), buffer_declared x u w new, g), λ y r e. (r, e))
 
   no_empty : (n : ℕ) → Empty ≡ Weakly n → ⊥
   no_empty n e = cc
@@ -79,7 +79,7 @@ module _ (unit : SourceUnit) (classes : Classes) (in_use : BuffersInUse) (k : �
   -- a static that is set
   pub stands_static : (x : Identifier) (g : StaticReference) → ((n : ℕ) → g ≡ Weakly n → weak x ≡ true) → Stands weak own (assign x g s.statics) t.variables t.frames p
   stands_static x g right = record {
-    sorts = λ y r e. static_fits r y (stands.sorts y r e);
+    types = λ y r e. static_fits r y (stands.types y r e);
     shows = stands.shows;
     held = stands.held;
     once = stands.once;
@@ -100,18 +100,18 @@ module _ (unit : SourceUnit) (classes : Classes) (in_use : BuffersInUse) (k : �
       there : (y : Identifier) (r : StaticReference) → lookup y s.statics ≡ Some r → (q : StaticReference) × (lookup y (assign x g s.statics) ≡ Some q)
       there y r e = elim (one_or_other y x) [ inl same ↦ (g, ap (λ (z : Identifier). lookup z (assign x g s.statics)) same ∙ lookup_same x g s.statics) | inr other ↦ (r, lookup_other x y g s.statics other ∙ e) ]
 
-      static_fits : (r : Sort) (y : Identifier) → VariableFits r (lookup y t.variables) (lookup y s.statics) → VariableFits r (lookup y t.variables) (lookup y (assign x g s.statics))
-      static_fits sort.Global y (none, (q, e)) = (none, there y q e)
-      static_fits sort.Weak y (none, (q, e)) = (none, there y q e)
-      static_fits sort.Ref y h = h
-      static_fits sort.FieldId y h = h
-      static_fits sort.MethodId y h = h
-      static_fits (sort.Buffer u w) y h = h
-      static_fits (sort.Array u size) y h = h
-      static_fits sort.Truth y h = h
-      static_fits sort.Word y h = h
-      static_fits sort.Jint y h = h
-      static_fits sort.Flag y h = h
+      static_fits : (r : ExprType) (y : Identifier) → VariableFits r (lookup y t.variables) (lookup y s.statics) → VariableFits r (lookup y t.variables) (lookup y (assign x g s.statics))
+      static_fits ty.Global y (none, (q, e)) = (none, there y q e)
+      static_fits ty.Weak y (none, (q, e)) = (none, there y q e)
+      static_fits ty.Ref y h = h
+      static_fits ty.FieldId y h = h
+      static_fits ty.MethodId y h = h
+      static_fits (ty.Buffer u w) y h = h
+      static_fits (ty.Array u size) y h = h
+      static_fits ty.Truth y h = h
+      static_fits ty.Word y h = h
+      static_fits ty.Jint y h = h
+      static_fits ty.Flag y h = h
 
   pub statics_stay : (x : Identifier) (g : StaticReference) (y : Identifier) (r : StaticReference) → lookup y s.statics ≡ Some r → (q : StaticReference) × (lookup y (assign x g s.statics) ≡ Some q)
   statics_stay x g y r e = elim (one_or_other y x) [ inl same ↦ (g, ap (λ (z : Identifier). lookup z (assign x g s.statics)) same ∙ lookup_same x g s.statics) | inr other ↦ (r, lookup_other x y g s.statics other ∙ e) ]
@@ -157,7 +157,7 @@ module _ (unit : SourceUnit) (classes : Classes) (in_use : BuffersInUse) (k : �
   ref_no_buffer : (level : ℕ) (r : _) (u : ElementType) (b : Buffer) → LocalRef level r ≡ Elements u b → ⊥
   ref_no_buffer level r u b e = cc
 
-  pub nulled : (x : Identifier) → MaySet p x → sort_in p.names x ≡ Some sort.Ref → Stands weak own s.statics (assign x (LocalRef p.regions.frames None) t.variables) t.frames (at p (with_changed p.regions x revived))
+  pub nulled : (x : Identifier) → MaySet p x → type_in p.names x ≡ Some ty.Ref → Stands weak own s.statics (assign x (LocalRef p.regions.frames None) t.variables) t.frames (at p (with_changed p.regions x revived))
   nulled x may e = stands_at s.statics t.variables t.frames p stands x (LocalRef p.regions.frames None) t.frames (at p (with_changed p.regions x revived)) (record {
     elsewhere = λ y other. known_other p.regions x y revived other;
     apart = λ y a access m level h at_a same. may.unused y access (subst (Holds p y access) same h);
@@ -165,7 +165,7 @@ module _ (unit : SourceUnit) (classes : Classes) (in_use : BuffersInUse) (k : �
         let both : Some (ReferenceAt p.regions.frames true) ≡ Some v = sym (known_same p.regions x revived ∙ ap (option_map revived) may.known) ∙ h in
         let one : ReferenceAt p.regions.frames true ≡ v = cc in
         subst (λ (v : VariableState). Shows (assign x (LocalRef p.regions.frames None) t.variables) v (Some (LocalRef p.regions.frames None))) one (None, refl);
-    sorts = sorts_kept s.statics t.variables t.frames p stands x (LocalRef p.regions.frames None) sort.Ref e (p.regions.frames, None, refl);
+    types = types_kept s.statics t.variables t.frames p stands x (LocalRef p.regions.frames None) ty.Ref e (p.regions.frames, None, refl);
     held = λ u b h. absurd (ref_no_buffer p.regions.frames None u b h);
     kinds = stands.kinds;
     known_once = once_changed (λ (y : Identifier) (old : VariableState). if bytes_eq x y then revived old else old) p.regions.variables stands.known_once;
@@ -175,28 +175,28 @@ module _ (unit : SourceUnit) (classes : Classes) (in_use : BuffersInUse) (k : �
     owned_here = λ level l n known h. absurd (let c : LocalRef p.regions.frames None ≡ LocalRef l (Some n) = h in cc);
   })
 
-  pub assigned_lands : (x : Identifier) (o : Option Sort) → sort_in p.names x ≡ o → AssignsNull p o x (GoesOn rest) → Lands weak own s.statics (put_assigned x NullResult s (with_tasks t rest) (lookup x t.variables))
-  assigned_lands x (Some sort.Ref) e (may, g) =
+  pub assigned_lands : (x : Identifier) (o : Option ExprType) → type_in p.names x ≡ o → AssignsNull p o x (GoesOn rest) → Lands weak own s.statics (put_assigned x NullResult s (with_tasks t rest) (lookup x t.variables))
+  assigned_lands x (Some ty.Ref) e (may, g) =
       let shown = stands.shows x _ may.known in
       subst (λ (v : Option Variable). Lands weak own s.statics (put_assigned x NullResult s (with_tasks t rest) v)) (sym shown.1) ((at p (with_changed p.regions x revived), nulled x may e, g), λ y r h. (r, h))
-  assigned_lands x (Some sort.Global) e g =
-      let fits = stands.sorts x sort.Global e in
+  assigned_lands x (Some ty.Global) e g =
+      let fits = stands.types x ty.Global e in
       subst (λ (v : Option Variable). Lands weak own s.statics (put_assigned x NullResult s (with_tasks t rest) v)) (sym fits.0) ((p, stands_static x Empty (λ n c. absurd (no_empty n c)), g), statics_stay x Empty)
-  assigned_lands x (Some sort.Weak) e g =
-      let fits = stands.sorts x sort.Weak e in
+  assigned_lands x (Some ty.Weak) e g =
+      let fits = stands.types x ty.Weak e in
       subst (λ (v : Option Variable). Lands weak own s.statics (put_assigned x NullResult s (with_tasks t rest) v)) (sym fits.0) ((p, stands_static x Empty (λ n c. absurd (no_empty n c)), g), statics_stay x Empty)
-  assigned_lands x (Some sort.FieldId) e g =
-      let fits = stands.sorts x sort.FieldId e in
+  assigned_lands x (Some ty.FieldId) e g =
+      let fits = stands.types x ty.FieldId e in
       subst (λ (v : Option Variable). Lands weak own s.statics (put_assigned x NullResult s (with_tasks t rest) v)) (sym fits.1)
-      ((p, stands_kept s.statics t.variables t.frames p stands x (FieldHandle None) sort.FieldId (FieldHandle fits.0) e fits.1 (field_no_ref fits.0) (field_no_buffer fits.0) (None, refl) (λ u b c. absurd (field_no_buffer None u b c)), g), λ y r h. (r, h))
-  assigned_lands x (Some sort.MethodId) e g =
-      let fits = stands.sorts x sort.MethodId e in
+      ((p, stands_kept s.statics t.variables t.frames p stands x (FieldHandle None) ty.FieldId (FieldHandle fits.0) e fits.1 (field_no_ref fits.0) (field_no_buffer fits.0) (None, refl) (λ u b c. absurd (field_no_buffer None u b c)), g), λ y r h. (r, h))
+  assigned_lands x (Some ty.MethodId) e g =
+      let fits = stands.types x ty.MethodId e in
       subst (λ (v : Option Variable). Lands weak own s.statics (put_assigned x NullResult s (with_tasks t rest) v)) (sym fits.1)
-      ((p, stands_kept s.statics t.variables t.frames p stands x (MethodHandle None) sort.MethodId (MethodHandle fits.0) e fits.1 (method_no_ref fits.0) (method_no_buffer fits.0) (None, refl) (λ u b c. absurd (method_no_buffer None u b c)), g), λ y r h. (r, h))
+      ((p, stands_kept s.statics t.variables t.frames p stands x (MethodHandle None) ty.MethodId (MethodHandle fits.0) e fits.1 (method_no_ref fits.0) (method_no_buffer fits.0) (None, refl) (λ u b c. absurd (method_no_buffer None u b c)), g), λ y r h. (r, h))
   assigned_lands x o e h = absurd h
 
   -- NULL goes where it may
   pub null_lands : (target : Target) → SetsNullThere p target (GoesOn rest) → Lands weak own s.statics (put target NullResult s (with_tasks t rest))
   null_lands (Declared kind x) h = declared_lands kind x h
-  null_lands (Assigned x) h = assigned_lands x (sort_in p.names x) refl h
+  null_lands (Assigned x) h = assigned_lands x (type_in p.names x) refl h
   null_lands target h = absurd h

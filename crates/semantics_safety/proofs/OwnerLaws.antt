@@ -18,7 +18,7 @@ use Rattle.semantics_safety.proofs.StepLaws.{Lands}
 -- the thread at its point, with other owners
 pub stands_with : {weak : WeakNames} {own : Owners} (new : Owners) (ss : Statics) (vs : Variables) (frames : List Frame) (p : Point) → Stands weak own ss vs frames p → IsOwned new vs p → Stands weak new ss vs frames p
 stands_with new ss vs frames p stands owned = record {
-  sorts = stands.sorts;
+  types = stands.types;
   shows = stands.shows;
   held = stands.held;
   once = stands.once;

@@ -8,7 +8,7 @@ use Rattle.base.specs.Limits.{most_further}
 use Rattle.syntax.specs.Tree.{Argument}
 use Rattle.jni.specs.JniFunction.{JniFunction, calls_method, parameters_for, takes_count, prototype}
 use Rattle.jni.specs.Prototype.{ParameterKind, Passed}
-use Rattle.type_rules.specs.SortRules.{is_mode_parameter, is_mode, modes_fit}
+use Rattle.type_rules.specs.TypeRules.{is_mode_parameter, is_mode, modes_fit}
 
 -- a function that calls no method takes its own alone
 pub own_parameters : (f : JniFunction) (n : ℕ) → calls_method f ≡ false → parameters_for f n ≡ (prototype f).parameters

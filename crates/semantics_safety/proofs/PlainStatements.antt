@@ -13,24 +13,24 @@ use Rattle.syntax.specs.Tree.{ResultType, Void, IntResult, ReferenceResult, Null
 use Rattle.jni.specs.Access.{Access, is_critical}
 use Rattle.jni.specs.JniFunction.{prototype}
 use Rattle.jni.specs.Prototype.{ResultKind, NewGlobal, NewWeak, GivesBuffer}
-use Rattle.type_rules.specs.Sorts.{Sort, Jint, Array, sort_in, sort_of, is_jint, is_ref, is_index, has_elements, is_null, name_sort}
-use Rattle.type_rules.specs.SortRules as rules
-use Rattle.type_rules.specs.SortRules.{may_be_dropped, is_droppable, return_fits}
-use Rattle.type_rules.specs.SortGroups.{IsNumberSort}
-use Rattle.type_rules.proofs.SortCases.{indexed, index_is_value, number_is_value}
+use Rattle.type_rules.specs.ExprTypes.{ExprType, Jint, Array, type_in, type_of, is_jint, is_ref, is_index, has_elements, is_null, name_type}
+use Rattle.type_rules.specs.TypeRules as rules
+use Rattle.type_rules.specs.TypeRules.{may_be_dropped, is_droppable, return_fits}
+use Rattle.type_rules.specs.TypeGroups.{IsNumberType}
+use Rattle.type_rules.proofs.TypeCases.{indexed, index_is_value, number_is_value}
 use Rattle.region_rules.specs.RegionRules.{CallWhileCritical, ReturnWithBuffer, ReturnInFrame, UntestedBuffer, WrongBuffer, is_return, is_put_jint, is_critical_call, is_dead, is_held, is_free, is_untested, holds_buffer, Obeys}
 use Rattle.region_rules.specs.RegionStates.{VariableState, BufferState, Free, Untested, Usable, BufferIn, state_of, held_by, held_buffers, function_called, after_call}
 use Rattle.semantics.specs.Task.{Target, Dropped, set_task}
 use Rattle.semantics.specs.Term as term
 use Rattle.semantics.specs.Term.{Term, Read, term_of}
-use Rattle.semantics_safety.specs.Points.{Point, HasSort}
+use Rattle.semantics_safety.specs.Points.{Point, HasType}
 use Rattle.semantics_safety.specs.Wanted.{HasNoView, MayReturnFrom, ReturnedFits, ReturnFits, SetsNumber, MayDrop, RunsPlain, at}
 use Rattle.semantics_safety.proofs.ArgumentFits.{first_read, is_a_jint, is_a_ref}
 use Rattle.semantics_safety.proofs.CallFits.{neither, both_so, second_fails, some_any, unbroken, statement_reads, holds_any}
 use Rattle.semantics_safety.proofs.ExpressionFits.{MayRead, is_live, elements_fit, expression_fits}
 use Rattle.semantics_safety.proofs.KnownPoints.{IsKnown, known_more, held_of, is_new, known_named}
 use Rattle.semantics_safety.proofs.StatementCalls.{call_there, known_called, call_runs}
-use Rattle.semantics_safety.proofs.WaysGive.{Gives, covers_front}
+use Rattle.semantics_safety.proofs.PathsGive.{Gives, covers_front}
 
 -- ---- returns
 
@@ -67,28 +67,28 @@ may_return p taken s known obeys returns = record {
   frames = one_frame p.regions.frames known.framed (second_fails (is_return s) (nat_lt 1 p.regions.frames) (unbroken p.regions s ReturnInFrame obeys) returns);
 }
 
-jint_returns : (p : Point) (t : Term) → HasSort p t Jint → ReturnFits p t
+jint_returns : (p : Point) (t : Term) → HasType p t Jint → ReturnFits p t
 jint_returns p (term.Named Null) h = tt
 jint_returns p (Read x) h = subst (ReturnedFits p x) (sym h.0) tt
 jint_returns p t h = h
 
-reference_returns : (p : Point) (taken : List Identifier) (e : Expr) → IsKnown p taken → (is_null e || is_ref (name_sort p.names e)) ≡ true → MayRead p.regions e → ReturnFits p (term_of e)
+reference_returns : (p : Point) (taken : List Identifier) (e : Expr) → IsKnown p taken → (is_null e || is_ref (name_type p.names e)) ≡ true → MayRead p.regions e → ReturnFits p (term_of e)
 reference_returns p taken (tree.Named Null) known h read = tt
 reference_returns p taken (tree.Variable x) known h read =
-    let is = is_a_ref (sort_in p.names x) h in
+    let is = is_a_ref (type_in p.names x) h in
     subst (ReturnedFits p x) (sym is) (is_live p known.stated x is (neither (is_dead (state_of p.regions x)) false read.alive).0)
 reference_returns p taken e known h read = absurd (cc)
 
 value_returns : (p : Point) (taken : List Identifier) (returns : ResultType) (e : Expr) → IsKnown p taken → return_fits p.names returns e ≡ true → MayRead p.regions e → ReturnFits p (term_of e)
 value_returns p taken Void e known h read = absurd (cc)
-value_returns p taken IntResult e known h read = jint_returns p (term_of e) (expression_fits p known.stated e Jint read (is_a_jint (sort_of p.names e) h) tt)
+value_returns p taken IntResult e known h read = jint_returns p (term_of e) (expression_fits p known.stated e Jint read (is_a_jint (type_of p.names e) h) tt)
 value_returns p taken (ReferenceResult r) e known h read = reference_returns p taken e known h read
 
 pub return_gives : (line : ℕ) → Gives (tree.Return line)
-return_gives line p taken returns way k known kept (obeys, is) h = may_return p taken (tree.Return line) known obeys refl
+return_gives line p taken returns path k known kept (obeys, is) h = may_return p taken (tree.Return line) known obeys refl
 
 pub value_gives : (line : ℕ) (e : Expr) → Gives (tree.ReturnValue line e)
-value_gives line e p taken returns way k known kept (obeys, is) h =
+value_gives line e p taken returns path k known kept (obeys, is) h =
     let s = tree.ReturnValue line e in
     (value_returns p taken returns e known kept.fits (first_read p.regions e [] (statement_reads p.regions s obeys)).0, may_return p taken s known obeys refl)
 
@@ -102,32 +102,32 @@ no_view p s obeys prints x a access h critical =
     let c : true ≡ false = sym prints ∙ none in cc
 
 pub print_gives : (line : ℕ) (e : Expr) → Gives (tree.PutJint line e)
-print_gives line e p taken returns way k known kept (obeys, is) h =
+print_gives line e p taken returns path k known kept (obeys, is) h =
     let s = tree.PutJint line e in (
-      expression_fits p known.stated e Jint (first_read p.regions e [] (statement_reads p.regions s obeys)).0 (is_a_jint (sort_of p.names e) kept.fits) tt,
+      expression_fits p known.stated e Jint (first_read p.regions e [] (statement_reads p.regions s obeys)).0 (is_a_jint (type_of p.names e) kept.fits) tt,
       no_view p s obeys refl,
       h p.regions is (known_more p taken (taken ++ []) (covers_front taken []) known),
     )
 
 pub element_gives : (line : ℕ) (x : Identifier) (i e : Expr) → Gives (tree.AssignElement line x i e)
-element_gives line x i e p taken returns way k known kept (obeys, is) h =
+element_gives line x i e p taken returns path k known kept (obeys, is) h =
     let s = tree.AssignElement line x i e in
-    let all = both_so (has_elements (sort_in p.names x) && is_index (sort_of p.names i)) (is_jint (sort_of p.names e)) kept.fits in
-    let front = both_so (has_elements (sort_in p.names x)) (is_index (sort_of p.names i)) all.0 in
+    let all = both_so (has_elements (type_in p.names x) && is_index (type_of p.names i)) (is_jint (type_of p.names e)) kept.fits in
+    let front = both_so (has_elements (type_in p.names x)) (is_index (type_of p.names i)) all.0 in
     let reads = first_read p.regions i (e ∷ []) (statement_reads p.regions s obeys) in
-    let index = indexed (sort_of p.names i) front.1 in
+    let index = indexed (type_of p.names i) front.1 in
     let wrong = neither (list_any (λ y. is_free (state_of p.regions y)) (used_names s)) _ (unbroken p.regions s WrongBuffer obeys) in
     let free = neither (is_free (state_of p.regions x)) (list_any (λ y. is_free (state_of p.regions y)) (flat_map names_in (i ∷ e ∷ []) ++ [])) wrong.0 in
     let bare = neither (list_any (λ y. is_untested (state_of p.regions y)) (flat_map elements_in (i ∷ e ∷ []) ++ x ∷ [])) _ (unbroken p.regions s UntestedBuffer obeys) in
     let untested = neither (is_untested (state_of p.regions x)) false (some_any (λ y. is_untested (state_of p.regions y)) (flat_map elements_in (i ∷ e ∷ [])) (x ∷ []) bare.0).1 in (
-      elements_fit p known.stated x (sort_in p.names x) refl front.0 free.0 untested.0,
+      elements_fit p known.stated x (type_in p.names x) refl front.0 free.0 untested.0,
       (index.0, index.2, expression_fits p known.stated i index.0 reads.0 index.1 (index_is_value index.0 index.2)),
-      expression_fits p known.stated e Jint (first_read p.regions e [] reads.1).0 (is_a_jint (sort_of p.names e) all.1) tt,
+      expression_fits p known.stated e Jint (first_read p.regions e [] reads.1).0 (is_a_jint (type_of p.names e) all.1) tt,
       h p.regions is (known_more p taken (taken ++ []) (covers_front taken []) known),
     )
 
 pub array_gives : (line : ℕ) (t : ElementType) (x : Identifier) (size : ℕ) → Gives (tree.DeclareArray line t x size)
-array_gives line t x size p taken returns way k known kept (obeys, is) h = (is_new p taken x known kept.new, h p.regions is (known_named p taken known x kept.new (Array t size) tt))
+array_gives line t x size p taken returns path k known kept (obeys, is) h = (is_new p taken x known kept.new, h p.regions is (known_named p taken known x kept.new (Array t size) tt))
 
 -- ---- calls
 
@@ -138,7 +138,7 @@ may_drop (GivesBuffer access) h = absurd (cc)
 may_drop result h = tt
 
 pub perform_gives : (line : ℕ) (c : Call) → Gives (tree.Perform line c)
-perform_gives line c p taken returns way k known kept (obeys, is) h =
+perform_gives line c p taken returns path k known kept (obeys, is) h =
     let s = tree.Perform line c in
     let call = call_there p taken returns s c known kept obeys refl refl in
     let both = both_so (not (rules.is_push call.function)) (is_droppable (prototype call.function).result) (ap may_be_dropped (sym call.is_named) ∙ kept.fits) in
@@ -153,6 +153,6 @@ null_is (tree.Named Null) h = refl
 null_is e h = absurd (cc)
 
 -- a number is worked out for a variable
-pub scalar_runs : (p : Point) (taken : List Identifier) (line : ℕ) (target : Target) (x : Identifier) (e : Expr) (s : Sort) (k : Point → Type 0) → IsKnown p taken → IsNumberSort s → sort_of p.names e ≡ Some s → MayRead p.regions e → SetsNumber x s k p → RunsPlain (set_task line target x e) k p
+pub scalar_runs : (p : Point) (taken : List Identifier) (line : ℕ) (target : Target) (x : Identifier) (e : Expr) (s : ExprType) (k : Point → Type 0) → IsKnown p taken → IsNumberType s → type_of p.names e ≡ Some s → MayRead p.regions e → SetsNumber x s k p → RunsPlain (set_task line target x e) k p
 scalar_runs p taken line target x (tree.Named Null) s k known number h read sets = absurd (cc)
 scalar_runs p taken line target x e s k known number h read sets = (s, number, expression_fits p known.stated e s read h (number_is_value s number), sets)

@@ -20,7 +20,7 @@ use Rattle.semantics_safety.proofs.SetLaws.{once_changed}
 
 pub stands_after : {weak : WeakNames} {own : Owners} (ss : Statics) (vs : Variables) (frames : List Frame) (p q : Point) → Stands weak own ss vs frames p → Closes p q → Stands weak own ss vs frames q
 stands_after ss vs frames p q stands closes = record {
-  sorts = λ x s e. stands.sorts x s (closes.names x s e);
+  types = λ x s e. stands.types x s (closes.names x s e);
   kinds = λ x s e. stands.kinds x s (closes.names x s e);
   only = stands.only;
   shows = λ x v e. stands.shows x v (closes.known x v e);
@@ -145,7 +145,7 @@ module _ (ss : Statics) (vs : Variables) (frames : List Frame) (p : Point) {weak
   -- NULL was found
   pub stands_null : holds_null (lookup x vs) g ≡ Gives true → Stands weak own ss vs frames (at p (with_changed p.regions x made_free))
   stands_null e = record {
-    sorts = stands.sorts;
+    types = stands.types;
     kinds = stands.kinds;
     only = stands.only;
     shows = shows_changed made_free (λ w h. free_shows vs g (lookup x vs) w e h);
@@ -163,7 +163,7 @@ module _ (ss : Statics) (vs : Variables) (frames : List Frame) (p : Point) {weak
   -- a buffer was found
   pub stands_usable : holds_null (lookup x vs) g ≡ Gives false → Stands weak own ss vs frames (at p (with_changed p.regions x made_usable))
   stands_usable e = record {
-    sorts = stands.sorts;
+    types = stands.types;
     kinds = stands.kinds;
     only = stands.only;
     shows = shows_changed made_usable (λ w h. usable_shows vs g (lookup x vs) w e h);

@@ -151,7 +151,7 @@ module _ (ss : Statics) (vs : Variables) (frames : List Frame) (p : Point) {weak
   -- after the current frame
   pub stands_popped : Stands weak own ss vs (drop 1 frames) (at p (after_pop p.regions))
   stands_popped = record {
-    sorts = stands.sorts;
+    types = stands.types;
     kinds = stands.kinds;
     only = stands.only;
     shows = shows_left;
@@ -166,7 +166,7 @@ module _ (ss : Statics) (vs : Variables) (frames : List Frame) (p : Point) {weak
   -- in a new frame
   pub stands_pushed : (new : Frame) → Stands weak own ss vs (new ∷ frames) (at p (record p.regions { frames = p.regions.frames + 1 }))
   stands_pushed new = record {
-    sorts = stands.sorts;
+    types = stands.types;
     kinds = stands.kinds;
     only = stands.only;
     shows = stands.shows;

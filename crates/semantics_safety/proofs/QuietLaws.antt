@@ -175,7 +175,7 @@ module _ (unit : SourceUnit) (classes : Classes) (in_use : BuffersInUse) (k : �
   stands_again : (s' : Shared) (t' : Thread) → t'.variables ≡ t.variables → references_of t'.frames ≡ references_of t.frames → s'.statics ≡ s.statics → Stands weak own s'.statics t'.variables t'.frames p
   stands_again s' t' vs fs ss =
       subst (λ (statics : Statics). Stands weak own statics t'.variables t'.frames p) (sym ss) (subst (λ (variables : Variables). Stands weak own s.statics variables t'.frames p) (sym vs) (record {
-        sorts = stands.sorts;
+        types = stands.types;
         kinds = stands.kinds;
         only = stands.only;
         shows = stands.shows;

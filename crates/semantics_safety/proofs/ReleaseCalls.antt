@@ -11,7 +11,7 @@ use Rattle.class_rules.specs.Class.{Classes}
 use Rattle.jni.specs.Access.{Access, ElementsCopy, ArrayView, CharsCopy, CharsView, is_critical}
 use Rattle.jni.specs.JniFunction.{ReleaseBuffer, PushLocalFrame, parameters_for, prototype}
 use Rattle.jni.specs.Prototype.{ParameterKind, ResultKind, GivesNothing, release_mode, Mode}
-use Rattle.type_rules.specs.Sorts.{sort_in}
+use Rattle.type_rules.specs.ExprTypes.{type_in}
 use Rattle.region_rules.specs.RegionStates as states
 use Rattle.region_rules.specs.RegionStates.{VariableState, Free, Usable, BufferIn, state_of, with_changed, made_free, has_commit}
 use Rattle.semantics.specs.Answer.{Answer, effect_of, with_copied_back}
@@ -40,7 +40,7 @@ use Rattle.semantics_safety.proofs.PointLaws.{owners_kept, free_owns}
 use Rattle.semantics_safety.proofs.QuietLaws.{Plainly, IsNoTest, given_lands}
 use Rattle.semantics_safety.proofs.ResultLaws.{NoResultThere}
 use Rattle.semantics_safety.proofs.SetLaws.{once_changed, owners_same, stands_at}
-use Rattle.semantics_safety.proofs.StepLaws.{apart_buffer, sort_of_buffer, buffer_no_copy}
+use Rattle.semantics_safety.proofs.StepLaws.{apart_buffer, type_of_buffer, buffer_no_copy}
 
 null_buffer : (v u : _) (b : Buffer) → Elements v NoBuffer ≡ Elements u b → b ≡ NoBuffer
 null_buffer v u b e = cc
@@ -58,12 +58,12 @@ module _ (unit : SourceUnit) (classes : Classes) (in_use : BuffersInUse) (k : �
         let both : Some (BufferIn Free) ≡ Some v = sym (known_same p.regions x made_free ∙ ap (option_map made_free) e) ∙ h in
         let one : BufferIn Free ≡ v = cc in
         subst (λ (v : VariableState). Shows (assign x (Elements u NoBuffer) t.variables) v (Some (Elements u NoBuffer))) one (u, NoBuffer, refl, refl);
-    sorts = λ y r h. elim (one_or_other y x) [
+    types = λ y r h. elim (one_or_other y x) [
       | inl same ↦
           subst (λ (z : Identifier). VariableFits r (lookup z (assign x (Elements u NoBuffer) t.variables)) (lookup z s.statics)) (sym same)
           (subst (λ (o : Option Variable). VariableFits r o (lookup x s.statics)) (sym (lookup_same x (Elements u NoBuffer) t.variables))
-          (sort_of_buffer unit classes in_use k s t rest p stands r (lookup x t.variables) (lookup x s.statics) u b NoBuffer at_x (stands.sorts x r (subst (λ (z : Identifier). sort_in p.names z ≡ Some r) same h))))
-      | inr other ↦ subst (λ (o : Option Variable). VariableFits r o (lookup y s.statics)) (sym (lookup_other x y (Elements u NoBuffer) t.variables other)) (stands.sorts y r h)
+          (type_of_buffer unit classes in_use k s t rest p stands r (lookup x t.variables) (lookup x s.statics) u b NoBuffer at_x (stands.types x r (subst (λ (z : Identifier). type_in p.names z ≡ Some r) same h))))
+      | inr other ↦ subst (λ (o : Option Variable). VariableFits r o (lookup y s.statics)) (sym (lookup_other x y (Elements u NoBuffer) t.variables other)) (stands.types y r h)
     ];
     held = λ v c h. inl (null_buffer u v c h);
     kinds = stands.kinds;
@@ -170,8 +170,8 @@ module _ (unit : SourceUnit) (classes : Classes) (in_use : BuffersInUse) (k : �
   release_operands access target operands away rules fit goes = absurd rules
 
   -- no more arguments than its own
-  own_sorts : (access : Access) (operands : List Operand) → OperandsFit p (parameters_for (ReleaseBuffer access) (length operands)) operands → OperandsFit p (prototype (ReleaseBuffer access)).parameters operands
-  own_sorts access operands h = subst (λ (l : List ParameterKind). OperandsFit p l operands) (append-nil (prototype (ReleaseBuffer access)).parameters) h
+  own_types : (access : Access) (operands : List Operand) → OperandsFit p (parameters_for (ReleaseBuffer access) (length operands)) operands → OperandsFit p (prototype (ReleaseBuffer access)).parameters operands
+  own_types access operands h = subst (λ (l : List ParameterKind). OperandsFit p l operands) (append-nil (prototype (ReleaseBuffer access)).parameters) h
 
   no_push : (access : Access) → ReleaseBuffer access ≡ PushLocalFrame → ⊥
   no_push access e = cc
@@ -180,6 +180,6 @@ module _ (unit : SourceUnit) (classes : Classes) (in_use : BuffersInUse) (k : �
   pub release_lands : (access : Access) (target : Target) (operands : List Operand) → Runs (Invoke line target (ReleaseBuffer access) operands) (GoesOn rest) p
       → LandsBy weak (Calls line target (ReleaseBuffer access) (actuals (sight_of s t) (ReleaseBuffer access) operands)) (length t.frames) own s.statics (call_step unit classes in_use k s t line target (ReleaseBuffer access) (actuals (sight_of s t) (ReleaseBuffer access) operands) rest false)
   release_lands access (Tested a b) operands r = absurd (no_push access r.1)
-  release_lands access (Declared kind x) operands r = release_operands access (Declared kind x) operands tt r.0.rules (own_sorts access operands r.0.sorts) r.2
-  release_lands access (Assigned x) operands r = release_operands access (Assigned x) operands tt r.0.rules (own_sorts access operands r.0.sorts) r.2
-  release_lands access Dropped operands r = release_operands access Dropped operands tt r.0.rules (own_sorts access operands r.0.sorts) r.2
+  release_lands access (Declared kind x) operands r = release_operands access (Declared kind x) operands tt r.0.rules (own_types access operands r.0.types) r.2
+  release_lands access (Assigned x) operands r = release_operands access (Assigned x) operands tt r.0.rules (own_types access operands r.0.types) r.2
+  release_lands access Dropped operands r = release_operands access Dropped operands tt r.0.rules (own_types access operands r.0.types) r.2

@@ -10,8 +10,8 @@ use Rattle.base.specs.Options.{some_passes}
 use Rattle.class_rules.specs.Class.{Classes}
 use Rattle.syntax.specs.Parts.{functions_of, statics_of}
 use Rattle.syntax.specs.Tree.{Static, Function, SourceUnit}
-use Rattle.type_rules.specs.Sorts.{Sort, Word, Jint, Flag, Truth, Ref, Global, Weak, Buffer, Array, Scope}
-use Rattle.type_rules.specs.Sorts as sort
+use Rattle.type_rules.specs.ExprTypes.{ExprType, Word, Jint, Flag, Truth, Ref, Global, Weak, Buffer, Array, Scope}
+use Rattle.type_rules.specs.ExprTypes as ty
 use Rattle.semantics.specs.Activation.{function_at, class_of_function, entered, entered_function, enter, entry_advance}
 use Rattle.semantics.specs.Journal.{Entry, Step, Clearing, Journal}
 use Rattle.semantics.specs.Load.{fit_parameters, is_callable, call_loads, Loads}
@@ -44,7 +44,7 @@ use Rattle.semantics_safety.specs.Wanted.{GoesOn, Runs}
 use Rattle.semantics_safety.specs.Follows.{Follows}
 use Rattle.semantics_safety.proofs.EffectLaws.{effect_follows}
 use Rattle.semantics_safety.specs.WeakNames.{WeakNames, AreOfKind, HoldWeakly, weak_names}
-use Rattle.semantics_safety.proofs.CallLaws.{IsWithin, Way, Returning, Calling, Within, each_step_lands, way_of}
+use Rattle.semantics_safety.proofs.CallLaws.{IsWithin, Path, Returning, Calling, Within, each_step_lands, path_of}
 use Rattle.semantics_safety.proofs.EntryPoints.{entry_point, SeesStatics, HasNamesOnce, stands_at_entry}
 use Rattle.semantics_safety.proofs.FrameLaws.{both_true}
 use Rattle.semantics_safety.proofs.KeptCalls.{Held, held, KeepsCalls, calls_kept, put_keeps, received_calls}
@@ -101,12 +101,12 @@ held_left weak names ss only x n e = let old = from_cleared names n (lookup x ss
         by_test true h = absurd (cc)
         by_test false h = h
 
-fits_later : (s : Sort) (v : Option Variable) (g h : Option StaticReference) → ((r : StaticReference) → g ≡ Some r → (q : StaticReference) × (h ≡ Some q)) → VariableFits s v g → VariableFits s v h
+fits_later : (s : ExprType) (v : Option Variable) (g h : Option StaticReference) → ((r : StaticReference) → g ≡ Some r → (q : StaticReference) × (h ≡ Some q)) → VariableFits s v g → VariableFits s v h
 fits_later Global v g h stay (none, (r, e)) = (none, stay r e)
 fits_later Weak v g h stay (none, (r, e)) = (none, stay r e)
 fits_later Ref v g h stay fits = fits
-fits_later sort.FieldId v g h stay fits = fits
-fits_later sort.MethodId v g h stay fits = fits
+fits_later ty.FieldId v g h stay fits = fits
+fits_later ty.MethodId v g h stay fits = fits
 fits_later (Buffer t writable) v g h stay fits = fits
 fits_later (Array t size) v g h stay fits = fits
 fits_later Truth v g h stay fits = fits
@@ -121,7 +121,7 @@ module _ (ss us : Statics) (stay : NamesStay ss us) where
 module _ (weak : WeakNames) (ss us : Statics) (stay : NamesStay ss us) (only : HoldWeakly weak us) where
   stands_later : {own : Owners} (vs : Variables) (frames : List Frame) (p : Point) → Stands weak own ss vs frames p → Stands weak own us vs frames p
   stands_later vs frames p stands = record {
-    sorts = λ x s e. fits_later s (lookup x vs) (lookup x ss) (lookup x us) (stay x) (stands.sorts x s e);
+    types = λ x s e. fits_later s (lookup x vs) (lookup x ss) (lookup x us) (stay x) (stands.types x s e);
     shows = stands.shows;
     held = stands.held;
     once = stands.once;
@@ -376,7 +376,7 @@ module _ (unit : SourceUnit) (classes : Classes) (first : Statics) (enters : All
   module _ (room : BuffersInUse) (k : ℕ) (s : Shared) (t : Thread) (own : ThreadOwners) (stay : NamesStay first s.statics) (live : is_unfinished t.ending ≡ true) (sound : IsSound unit classes own s.statics t) where
     -- a step within the call, by its effect
     module _ (task : Task) (rest : List Task) (p : Point) (stands : Stands weak own.current s.statics t.variables t.frames p) (runs : Runs task (GoesOn rest) p) where
-      unmarked : Way (effect_of (sight_of s t) task) → PlacedOn false (after_tasks s t (Some (task ∷ rest)) own) s.statics (step_within unit classes room k s t false (Some (task ∷ rest)))
+      unmarked : Path (effect_of (sight_of s t) task) → PlacedOn false (after_tasks s t (Some (task ∷ rest)) own) s.statics (step_within unit classes room k s t false (Some (task ∷ rest)))
       unmarked (Returning given is) =
           subst (λ (e : Effect). PlacedOn false (λ event vs. after_step t own event e vs) s.statics (after_effect unit classes room k s t rest e)) (sym is)
           (returned room k s t own sound.loads stands.only given own.callers t.callers refl sound.callers)
@@ -388,7 +388,7 @@ module _ (unit : SourceUnit) (classes : Classes) (first : Statics) (enters : All
           lands_on s t task rest own away s.statics sound.callers sound.loads false (step_within unit classes room k s t false (Some (task ∷ rest)))
           (each_step_lands unit classes room k s t task rest p stands runs sound.goes away) (calls_kept unit classes room k s t false task rest away)
 
-      marked : Way (effect_of (sight_of s t) task) → PlacedOn true (after_tasks s t (Some (task ∷ rest)) own) s.statics (step_within unit classes room k s t true (Some (task ∷ rest)))
+      marked : Path (effect_of (sight_of s t) task) → PlacedOn true (after_tasks s t (Some (task ∷ rest)) own) s.statics (step_within unit classes room k s t true (Some (task ∷ rest)))
       marked (Returning given is) = subst (λ (e : Effect). PlacedOn true (λ event vs. after_step t own event e vs) s.statics (after_refused_effect unit classes room k s t rest e)) (sym is) refl
       marked (Calling line target f args is method) =
           subst (λ (e : Effect). PlacedOn true (λ event vs. after_step t own event e vs) s.statics (after_refused_effect unit classes room k s t rest e)) (sym is)
@@ -401,8 +401,8 @@ module _ (unit : SourceUnit) (classes : Classes) (first : Statics) (enters : All
     steps_at true None g = refl
     steps_at false None g = entry_steps s t own stay g.2 sound.callers t.calls (g.1 live) sound.loads
     steps_at refused (Some []) g = absurd (g.2)
-    steps_at false (Some (task ∷ rest)) (p, stands, runs) = unmarked task rest p stands runs (way_of (effect_of (sight_of s t) task))
-    steps_at true (Some (task ∷ rest)) (p, stands, runs) = marked task rest p stands runs (way_of (effect_of (sight_of s t) task))
+    steps_at false (Some (task ∷ rest)) (p, stands, runs) = unmarked task rest p stands runs (path_of (effect_of (sight_of s t) task))
+    steps_at true (Some (task ∷ rest)) (p, stands, runs) = marked task rest p stands runs (path_of (effect_of (sight_of s t) task))
 
     thread_steps : (refused : Bool) → StepsOn refused (after_tasks s t t.tasks own) s.statics (thread_step unit classes room k s t refused)
     thread_steps refused =

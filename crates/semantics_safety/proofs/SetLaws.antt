@@ -4,7 +4,7 @@ use Rattle.std.specs.Str.{bytes_eq}
 use Rattle.std.proofs.lemmas.Slice.Eq.{bytes_eq-Decides}
 use Rattle.base.specs.Bytes.{Identifier, ByName, lookup}
 use Rattle.jni.specs.Access.{Access}
-use Rattle.type_rules.specs.Sorts.{Sort, sort_in, Scope}
+use Rattle.type_rules.specs.ExprTypes.{ExprType, type_in, Scope}
 use Rattle.region_rules.specs.RegionStates.{VariableState, Free, Untested, Usable, ReferenceAt, BufferIn, state_of}
 use Rattle.semantics.specs.Thread.{Frame}
 use Rattle.semantics.specs.Variable.{Variable, Elements, LocalRef, Buffer, NoBuffer, Variables, Statics, assign}
@@ -88,10 +88,10 @@ known_held p y v access a e (inl h) = inl (e ∙ ap (λ (w : VariableState). Som
 known_held p y v access a e (inr h) = inr (e ∙ ap (λ (w : VariableState). Some w) h)
 
 -- a new name of this kind
-pub kinds_named : (weak : WeakNames) (x : Identifier) (s : Sort) (names : Scope) → IsOfKind (weak x) s → AreOfKind weak names → AreOfKind weak ((x, s) ∷ names)
+pub kinds_named : (weak : WeakNames) (x : Identifier) (s : ExprType) (names : Scope) → IsOfKind (weak x) s → AreOfKind weak names → AreOfKind weak ((x, s) ∷ names)
 kinds_named weak x s names kind kinds y r h = elim (one_or_other y x) [
   | inl same ↦
-      let there : sort_in ((x, s) ∷ names) x ≡ Some r = subst (λ (z : Identifier). sort_in ((x, s) ∷ names) z ≡ Some r) same h in
+      let there : type_in ((x, s) ∷ names) x ≡ Some r = subst (λ (z : Identifier). type_in ((x, s) ∷ names) z ≡ Some r) same h in
       let both : Some s ≡ Some r = sym (front_same x s names) ∙ there in
       let one : s ≡ r = cc in
       subst (λ (z : Identifier). IsOfKind (weak z) r) (sym same) (subst (IsOfKind (weak x)) one kind)
@@ -104,10 +104,10 @@ IsApart p vs x = (y a : Identifier) (access : Access) (n level : ℕ) → Holds 
 
 module _ (ss : Statics) (vs : Variables) (frames : List Frame) (p : Point) {weak : WeakNames} {own : Owners} (stands : Stands weak own ss vs frames p) (x : Identifier) (w : Variable) where
   -- a variable of which nothing is known, and which no buffer is of, is no held buffer
-  pub stands_set : (names : Scope) → state_of p.regions x ≡ None → IsApart p vs x → ((u : _) (b : Buffer) → w ≡ Elements u b → b ≡ NoBuffer) → ((y : Identifier) (s : Sort) → sort_in names y ≡ Some s → VariableFits s (lookup y (assign x w vs)) (lookup y ss))
+  pub stands_set : (names : Scope) → state_of p.regions x ≡ None → IsApart p vs x → ((u : _) (b : Buffer) → w ≡ Elements u b → b ≡ NoBuffer) → ((y : Identifier) (s : ExprType) → type_in names y ≡ Some s → VariableFits s (lookup y (assign x w vs)) (lookup y ss))
       → AreOfKind weak names → Stands weak own ss (assign x w vs) frames (record p { names = names })
-  stands_set names none apart plain sorts kinds = record {
-    sorts = sorts;
+  stands_set names none apart plain types kinds = record {
+    types = types;
     shows = λ y v e.
         let other : y ≢ x = λ same. none_some (state_of p.regions x) v none (subst (λ (z : Identifier). state_of p.regions z ≡ Some v) same e) in
         subst (Shows (assign x w vs) v) (sym (lookup_other x y w vs other))
@@ -130,44 +130,44 @@ module _ (ss : Statics) (vs : Variables) (frames : List Frame) (p : Point) {weak
         stands.owned y level l n e (sym (lookup_other x y w vs other) ∙ h);
   }
 
-  -- the sorts, where the variable keeps its own
-  pub sorts_kept : (s : Sort) → sort_in p.names x ≡ Some s → VariableFits s (Some w) (lookup x ss) → (y : Identifier) (r : Sort) → sort_in p.names y ≡ Some r → VariableFits r (lookup y (assign x w vs)) (lookup y ss)
-  sorts_kept s e fits y r h = elim (one_or_other y x) [
+  -- the types, where the variable keeps its own
+  pub types_kept : (s : ExprType) → type_in p.names x ≡ Some s → VariableFits s (Some w) (lookup x ss) → (y : Identifier) (r : ExprType) → type_in p.names y ≡ Some r → VariableFits r (lookup y (assign x w vs)) (lookup y ss)
+  types_kept s e fits y r h = elim (one_or_other y x) [
     | inl same ↦
-        let there : sort_in p.names x ≡ Some r = subst (λ (z : Identifier). sort_in p.names z ≡ Some r) same h in
+        let there : type_in p.names x ≡ Some r = subst (λ (z : Identifier). type_in p.names z ≡ Some r) same h in
         let both : Some s ≡ Some r = sym e ∙ there in
         let one : s ≡ r = cc in
         subst (λ (z : Identifier). VariableFits r (lookup z (assign x w vs)) (lookup z ss)) (sym same)
-        (subst (λ (o : Option Variable). VariableFits r o (lookup x ss)) (sym (lookup_same x w vs)) (subst (λ (q : Sort). VariableFits q (Some w) (lookup x ss)) one fits))
-    | inr other ↦ subst (λ (o : Option Variable). VariableFits r o (lookup y ss)) (sym (lookup_other x y w vs other)) (stands.sorts y r h)
+        (subst (λ (o : Option Variable). VariableFits r o (lookup x ss)) (sym (lookup_same x w vs)) (subst (λ (q : ExprType). VariableFits q (Some w) (lookup x ss)) one fits))
+    | inr other ↦ subst (λ (o : Option Variable). VariableFits r o (lookup y ss)) (sym (lookup_other x y w vs other)) (stands.types y r h)
   ]
 
-  -- the sorts, with a new name
-  pub sorts_named : (s : Sort) → VariableFits s (Some w) (lookup x ss) → (y : Identifier) (r : Sort) → sort_in ((x, s) ∷ p.names) y ≡ Some r → VariableFits r (lookup y (assign x w vs)) (lookup y ss)
-  sorts_named s fits y r h = elim (one_or_other y x) [
+  -- the types, with a new name
+  pub types_named : (s : ExprType) → VariableFits s (Some w) (lookup x ss) → (y : Identifier) (r : ExprType) → type_in ((x, s) ∷ p.names) y ≡ Some r → VariableFits r (lookup y (assign x w vs)) (lookup y ss)
+  types_named s fits y r h = elim (one_or_other y x) [
     | inl same ↦
-        let there : sort_in ((x, s) ∷ p.names) x ≡ Some r = subst (λ (z : Identifier). sort_in ((x, s) ∷ p.names) z ≡ Some r) same h in
+        let there : type_in ((x, s) ∷ p.names) x ≡ Some r = subst (λ (z : Identifier). type_in ((x, s) ∷ p.names) z ≡ Some r) same h in
         let both : Some s ≡ Some r = sym (front_same x s p.names) ∙ there in
         let one : s ≡ r = cc in
         subst (λ (z : Identifier). VariableFits r (lookup z (assign x w vs)) (lookup z ss)) (sym same)
-        (subst (λ (o : Option Variable). VariableFits r o (lookup x ss)) (sym (lookup_same x w vs)) (subst (λ (q : Sort). VariableFits q (Some w) (lookup x ss)) one fits))
-    | inr other ↦ subst (λ (o : Option Variable). VariableFits r o (lookup y ss)) (sym (lookup_other x y w vs other)) (stands.sorts y r (sym (front_other x y s p.names other) ∙ h))
+        (subst (λ (o : Option Variable). VariableFits r o (lookup x ss)) (sym (lookup_same x w vs)) (subst (λ (q : ExprType). VariableFits q (Some w) (lookup x ss)) one fits))
+    | inr other ↦ subst (λ (o : Option Variable). VariableFits r o (lookup y ss)) (sym (lookup_other x y w vs other)) (stands.types y r (sym (front_other x y s p.names other) ∙ h))
   ]
 
   -- a new variable
-  pub stands_new : (s : Sort) → IsNew p x → IsOfKind (weak x) s → VariableFits s (Some w) (lookup x ss) → ((u : _) (b : Buffer) → w ≡ Elements u b → b ≡ NoBuffer) → Stands weak own ss (assign x w vs) frames (named p x s)
+  pub stands_new : (s : ExprType) → IsNew p x → IsOfKind (weak x) s → VariableFits s (Some w) (lookup x ss) → ((u : _) (b : Buffer) → w ≡ Elements u b → b ≡ NoBuffer) → Stands weak own ss (assign x w vs) frames (named p x s)
   stands_new s new kind fits plain =
       stands_set ((x, s) ∷ p.names) new.unknown
       (λ y a access n level h e same. new.unused y access (subst (Holds p y access) same h))
-      plain (sorts_named s fits) (kinds_named weak x s p.names kind stands.kinds)
+      plain (types_named s fits) (kinds_named weak x s p.names kind stands.kinds)
 
   -- a variable that is neither reference nor buffer
-  pub stands_kept : (s : Sort) (old : Variable) → sort_in p.names x ≡ Some s → lookup x vs ≡ Some old → ((level : ℕ) (r : _) → old ≡ LocalRef level r → ⊥) → ((u : _) (b : Buffer) → old ≡ Elements u b → ⊥) → VariableFits s (Some w) (lookup x ss) → ((u : _) (b : Buffer) → w ≡ Elements u b → b ≡ NoBuffer)
+  pub stands_kept : (s : ExprType) (old : Variable) → type_in p.names x ≡ Some s → lookup x vs ≡ Some old → ((level : ℕ) (r : _) → old ≡ LocalRef level r → ⊥) → ((u : _) (b : Buffer) → old ≡ Elements u b → ⊥) → VariableFits s (Some w) (lookup x ss) → ((u : _) (b : Buffer) → w ≡ Elements u b → b ≡ NoBuffer)
       → Stands weak own ss (assign x w vs) frames p
   stands_kept s old e was no_ref no_buffer fits plain =
       stands_set p.names (unknown (state_of p.regions x) refl)
       (λ y a access n level h g same. no_ref level (Some n) (let there : lookup x vs ≡ Some (LocalRef level (Some n)) = subst (λ (z : Identifier). lookup z vs ≡ Some (LocalRef level (Some n))) same g in let both : Some old ≡ Some (LocalRef level (Some n)) = sym was ∙ there in cc))
-      plain (sorts_kept s e fits) stands.kinds
+      plain (types_kept s e fits) stands.kinds
     where
       shown : (v : VariableState) → Shows vs v (lookup x vs) → ⊥
       shown (ReferenceAt level live) h = no_ref level h.0 (let both : Some old ≡ Some (LocalRef level h.0) = sym was ∙ h.1 in cc)
@@ -193,7 +193,7 @@ pub record SetsOne (weak : WeakNames) (own new : Owners) (ss : Statics) (vs : Va
   pub elsewhere : (y : Identifier) → y ≢ x → state_of q.regions y ≡ state_of p.regions y
   pub apart : IsApart p vs x
   pub here : (v : VariableState) → state_of q.regions x ≡ Some v → Shows (assign x w vs) v (Some w)
-  pub sorts : (y : Identifier) (s : Sort) → sort_in q.names y ≡ Some s → VariableFits s (lookup y (assign x w vs)) (lookup y ss)
+  pub types : (y : Identifier) (s : ExprType) → type_in q.names y ≡ Some s → VariableFits s (lookup y (assign x w vs)) (lookup y ss)
   pub held : (u : _) (b : Buffer) → w ≡ Elements u b → (b ≡ NoBuffer) ⊎ ((access : Access) × (a : Identifier) × Holds q x access a)
   pub known_once : AreOnce q.regions.variables
   pub depth : length frames ≡ q.regions.frames
@@ -210,7 +210,7 @@ module _ (ss : Statics) (vs : Variables) (frames : List Frame) (p : Point) {weak
 
   pub stands_at : {new : Owners} (after : List Frame) (q : Point) → SetsOne weak own new ss vs p x w after q → Stands weak new ss (assign x w vs) after q
   stands_at {new} after q one = record {
-    sorts = one.sorts;
+    types = one.types;
     shows = λ y v e. elim (one_or_other y x) [
       | inl same ↦
           subst (λ (z : Identifier). Shows (assign x w vs) v (lookup z (assign x w vs))) (sym same)

@@ -3,9 +3,9 @@ use Rattle.std.proofs.Common.{◌≡◌, ℕ, Bool, true, false, List, Option, S
 use Rattle.std.specs.Prelude.{ℤ, slice_get}
 use Rattle.base.specs.Bytes.{Identifier, lookup}
 use Rattle.jni.specs.Access.{is_critical}
-use Rattle.type_rules.specs.Sorts.{Sort, sort_in}
-use Rattle.type_rules.specs.Sorts as sort
-use Rattle.type_rules.specs.SortGroups.{IsNumberSort}
+use Rattle.type_rules.specs.ExprTypes.{ExprType, type_in}
+use Rattle.type_rules.specs.ExprTypes as ty
+use Rattle.type_rules.specs.TypeGroups.{IsNumberType}
 use Rattle.semantics.specs.Heap.{Heap, numbers_of}
 use Rattle.semantics.specs.Sight.{seen, scalar, variable_is_null, static_is_null, holds_null, elements_of, in_range}
 use Rattle.semantics.specs.Thread.{Frame}
@@ -18,10 +18,10 @@ use Rattle.semantics_safety.specs.WeakNames.{WeakNames}
 use Rattle.semantics_safety.proofs.Values.{ValueFits}
 use Rattle.semantics_safety.proofs.TermLaws.{Answers, Sees}
 
-number_seen : (s : Sort) (v : Option Variable) (g : Option StaticReference) → IsNumberSort s → VariableFits s v g → ValueFits s (scalar v)
-number_seen sort.Word v g n (w, e, f) = subst (λ (o : Option Variable). ValueFits sort.Word (scalar o)) (sym e) f
-number_seen sort.Jint v g n (w, e, f) = subst (λ (o : Option Variable). ValueFits sort.Jint (scalar o)) (sym e) f
-number_seen sort.Flag v g n (w, e, f) = subst (λ (o : Option Variable). ValueFits sort.Flag (scalar o)) (sym e) f
+number_seen : (s : ExprType) (v : Option Variable) (g : Option StaticReference) → IsNumberType s → VariableFits s v g → ValueFits s (scalar v)
+number_seen ty.Word v g n (w, e, f) = subst (λ (o : Option Variable). ValueFits ty.Word (scalar o)) (sym e) f
+number_seen ty.Jint v g n (w, e, f) = subst (λ (o : Option Variable). ValueFits ty.Jint (scalar o)) (sym e) f
+number_seen ty.Flag v g n (w, e, f) = subst (λ (o : Option Variable). ValueFits ty.Flag (scalar o)) (sym e) f
 number_seen s v g n h = absurd n
 
 static_seen : (r : StaticReference) → Answers (static_is_null (Some r))
@@ -36,12 +36,12 @@ buffer_seen u NoBuffer = tt
 buffer_seen u (Copy n zs) = tt
 buffer_seen u (View n) = tt
 
-null_seen : (s : Sort) (v : Option Variable) (g : Option StaticReference) (p : Point) (x : Identifier) → NullTestFits p x (Some s) → VariableFits s v g → Answers (holds_null v g)
-null_seen sort.Ref v g p x n (level, r, e) = subst (λ (o : Option Variable). Answers (holds_null o g)) (sym e) tt
-null_seen sort.Global v g p x n (none, (r, e)) = subst (λ (o : Option Variable). Answers (holds_null o g)) (sym none) (subst (λ (o : Option StaticReference). Answers (static_is_null o)) (sym e) (static_seen r))
-null_seen sort.FieldId v g p x n (f, e) = subst (λ (o : Option Variable). Answers (holds_null o g)) (sym e) tt
-null_seen sort.MethodId v g p x n (f, e) = subst (λ (o : Option Variable). Answers (holds_null o g)) (sym e) tt
-null_seen (sort.Buffer t w) v g p x n (b, e) = subst (λ (o : Option Variable). Answers (holds_null o g)) (sym e) (buffer_seen t b)
+null_seen : (s : ExprType) (v : Option Variable) (g : Option StaticReference) (p : Point) (x : Identifier) → NullTestFits p x (Some s) → VariableFits s v g → Answers (holds_null v g)
+null_seen ty.Ref v g p x n (level, r, e) = subst (λ (o : Option Variable). Answers (holds_null o g)) (sym e) tt
+null_seen ty.Global v g p x n (none, (r, e)) = subst (λ (o : Option Variable). Answers (holds_null o g)) (sym none) (subst (λ (o : Option StaticReference). Answers (static_is_null o)) (sym e) (static_seen r))
+null_seen ty.FieldId v g p x n (f, e) = subst (λ (o : Option Variable). Answers (holds_null o g)) (sym e) tt
+null_seen ty.MethodId v g p x n (f, e) = subst (λ (o : Option Variable). Answers (holds_null o g)) (sym e) tt
+null_seen (ty.Buffer t w) v g p x n (b, e) = subst (λ (o : Option Variable). Answers (holds_null o g)) (sym e) (buffer_seen t b)
 null_seen s v g p x n h = absurd n
 
 at_range : (o : Option ℤ) → Answers (in_range o)
@@ -66,22 +66,22 @@ module _ (ss : Statics) (vs : Variables) (frames : List Frame) (p : Point) (heap
       let lends = shown.3 in
       subst (HasElements heap) (sym shown.2) (lent_elements heap shown.0 (is_critical access) lends.0 shown.1 lends.3)
 
-  elements_seen : (x : Identifier) (s : Sort) → sort_in p.names x ≡ Some s → ElementsFit p x (Some s) → HasElements heap (lookup x vs)
-  elements_seen x (sort.Buffer t w) e h = usable_elements x h
-  elements_seen x (sort.Array t n) e h = let there = stands.sorts x (sort.Array t n) e in subst (HasElements heap) (sym there.1) (there.0, refl)
+  elements_seen : (x : Identifier) (s : ExprType) → type_in p.names x ≡ Some s → ElementsFit p x (Some s) → HasElements heap (lookup x vs)
+  elements_seen x (ty.Buffer t w) e h = usable_elements x h
+  elements_seen x (ty.Array t n) e h = let there = stands.types x (ty.Array t n) e in subst (HasElements heap) (sym there.1) (there.0, refl)
   elements_seen x s e h = absurd h
 
   -- a name that fits is known
-  sorted : (x : Identifier) (Fits : Option Sort → Type 0) (o : Option Sort) → sort_in p.names x ≡ o → Fits o → (Fits None → ⊥) → (s : Sort) × (sort_in p.names x ≡ Some s) × Fits (Some s)
-  sorted x Fits None e h none = absurd (none h)
-  sorted x Fits (Some s) e h none = (s, e, h)
+  well_typed : (x : Identifier) (Fits : Option ExprType → Type 0) (o : Option ExprType) → type_in p.names x ≡ o → Fits o → (Fits None → ⊥) → (s : ExprType) × (type_in p.names x ≡ Some s) × Fits (Some s)
+  well_typed x Fits None e h none = absurd (none h)
+  well_typed x Fits (Some s) e h none = (s, e, h)
 
-  pub elements_there : (x : Identifier) → ElementsFit p x (sort_in p.names x) → HasElements heap (lookup x vs)
-  elements_there x h = let known = sorted x (ElementsFit p x) (sort_in p.names x) refl h (λ b. b) in elements_seen x known.0 known.1 known.2
+  pub elements_there : (x : Identifier) → ElementsFit p x (type_in p.names x) → HasElements heap (lookup x vs)
+  elements_there x h = let known = well_typed x (ElementsFit p x) (type_in p.names x) refl h (λ b. b) in elements_seen x known.0 known.1 known.2
 
   pub sees : Sees p (seen vs ss heap)
   sees = record {
-    number = λ x s e n. number_seen s (lookup x vs) (lookup x ss) n (stands.sorts x s e);
-    is_null = λ x h. let known = sorted x (NullTestFits p x) (sort_in p.names x) refl h (λ b. b) in null_seen known.0 (lookup x vs) (lookup x ss) p x known.2 (stands.sorts x known.0 known.1);
+    number = λ x s e n. number_seen s (lookup x vs) (lookup x ss) n (stands.types x s e);
+    is_null = λ x h. let known = well_typed x (NullTestFits p x) (type_in p.names x) refl h (λ b. b) in null_seen known.0 (lookup x vs) (lookup x ss) p x known.2 (stands.types x known.0 known.1);
     element = λ x i h. element_seen heap (lookup x vs) i (elements_there x h);
   }

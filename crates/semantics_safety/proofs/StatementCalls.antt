@@ -8,9 +8,9 @@ use Rattle.base.specs.Options.{some_passes}
 use Rattle.syntax.specs.Parts.{argument_expressions, own_expressions, own_call}
 use Rattle.syntax.specs.Tree.{ResultType, Call, TestCall, Stmt, If, IfElse, End}
 use Rattle.jni.specs.JniFunction.{JniFunction, PushLocalFrame, function_named, parameters_for, takes_count, prototype}
-use Rattle.type_rules.specs.Sorts.{call_arguments_fit, arguments_fit}
-use Rattle.type_rules.specs.SortRules as rules
-use Rattle.type_rules.specs.SortRules.{has_wrong_count, has_wrong_mode, modes_fit, may_be_tested}
+use Rattle.type_rules.specs.ExprTypes.{call_arguments_fit, arguments_fit}
+use Rattle.type_rules.specs.TypeRules as rules
+use Rattle.type_rules.specs.TypeRules.{has_wrong_count, has_wrong_mode, modes_fit, may_be_tested}
 use Rattle.region_rules.specs.RegionRules.{PopLastFrame, Obeys}
 use Rattle.region_rules.specs.RegionStates.{VariableState, ReferenceAt, BufferIn, RegionState, FunctionCall, function_called, Release, release_of, deleted_name, pops, made_free, killed, killed_from, with_some_changed, after_release, after_pop, after_call, get_of}
 use Rattle.semantics.specs.Task.{Target, Tested, invocation, task_of}
@@ -20,7 +20,7 @@ use Rattle.semantics_safety.proofs.CallFits.{not_so, operands_of, after_same, ge
 use Rattle.type_rules.proofs.KeptPlaces.{IsKept}
 use Rattle.semantics_safety.proofs.Parameters.{counted}
 use Rattle.semantics_safety.proofs.KnownPoints.{IsKnown, Kin, kin_same, known_changed}
-use Rattle.semantics_safety.proofs.WaysGive.{Pushes, free_kin, known_one}
+use Rattle.semantics_safety.proofs.PathsGive.{Pushes, free_kin, known_one}
 
 -- a statement's call
 pub record IsCalled (p : Point) (s : Stmt) (c : Call) : Type 0 where

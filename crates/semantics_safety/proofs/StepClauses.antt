@@ -7,7 +7,7 @@ use Rattle.jni.specs.JniFunction.{JniFunction, ReleaseBuffer, calls_method, prot
 use Rattle.base.specs.Limits.{most_further}
 use Rattle.class_rules.specs.Class.{Classes}
 use Rattle.syntax.specs.Tree.{SourceUnit}
-use Rattle.type_rules.specs.Sorts.{sort_in}
+use Rattle.type_rules.specs.ExprTypes.{type_in}
 use Rattle.semantics.specs.Method.{MethodId}
 use Rattle.jni.specs.Prototype.{ResultKind, NewLocal}
 use Rattle.semantics.specs.Arguments.{Actual, method_given, object_given, variable_given}
@@ -52,8 +52,8 @@ caller_resumes weak ss own c h = record {
   free = λ x is. result_holds ss c.variables c.frames h.point h.stands c.target c.result None (GoesOn c.tasks) x is h.goes;
   declared = λ x level r target kind there.
       let goes = subst (λ (target : Target). ResultGoes target c.result None (GoesOn c.tasks) h.point) target h.goes in
-      set_level ss c.variables c.frames h.point h.stands (GoesOn c.tasks) x level r there h.point c.frames h.stands (sort_in h.point.names x) None
-      (subst (λ (kind : ResultKind). AssignsResult h.point (sort_in h.point.names x) x kind None (GoesOn c.tasks)) kind goes);
+      set_level ss c.variables c.frames h.point h.stands (GoesOn c.tasks) x level r there h.point c.frames h.stands (type_in h.point.names x) None
+      (subst (λ (kind : ResultKind). AssignsResult h.point (type_in h.point.names x) x kind None (GoesOn c.tasks)) kind goes);
 }
 
 pub resumable : (weak : WeakNames) (ss : Statics) (owners : List Owners) (callers : List Caller) → AllZip (CallerStands weak ss) owners callers → (c : Caller) (below : List Caller) → callers ≡ c ∷ below → IsResumable c

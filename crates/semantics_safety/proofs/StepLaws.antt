@@ -4,9 +4,9 @@ use Rattle.std.specs.Prelude.{ℤ, pos, slice_set}
 use Rattle.base.specs.Bytes.{Identifier, lookup}
 use Rattle.base.specs.Element.{ElementType}
 use Rattle.class_rules.specs.Class.{Classes}
-use Rattle.type_rules.specs.Sorts.{Sort, sort_in}
-use Rattle.type_rules.specs.Sorts as sort
-use Rattle.type_rules.specs.SortGroups.{IsNumberSort}
+use Rattle.type_rules.specs.ExprTypes.{ExprType, type_in}
+use Rattle.type_rules.specs.ExprTypes as ty
+use Rattle.type_rules.specs.TypeGroups.{IsNumberType}
 use Rattle.semantics.specs.Effect.{Effect, Becomes, Sets, SetsNull, SetsElement, MakesArray, Prints, Calls, Returns, TrapsAt, NoEffect}
 use Rattle.semantics.specs.Task.{Task}
 use Rattle.semantics.specs.Thread.{Thread, Shared, BuffersInUse, Frame, Advance, Advances, NoAdvance}
@@ -14,7 +14,7 @@ use Rattle.semantics.specs.ThreadStep.{set_element, with_tasks, after_effect}
 use Rattle.semantics.specs.Value.{Value, Word, Int, Flag, Truth, convert}
 use Rattle.semantics.specs.Variable.{Variable, Scalar, LocalRef, FieldHandle, MethodHandle, Elements, LocalArray, Buffer, NoBuffer, Copy, View, StaticReference, Variables, Statics, assign}
 use Rattle.semantics_safety.specs.Owners.{Owners}
-use Rattle.semantics_safety.specs.Points.{Point, value_sort, ElementsFit, is_copy, owns}
+use Rattle.semantics_safety.specs.Points.{Point, value_type, ElementsFit, is_copy, owns}
 use Rattle.semantics_safety.specs.Stands.{VariableFits, IsOf, Shows, Goes, Stands}
 use Rattle.region_rules.specs.RegionStates.{VariableState, Free, Untested, Usable, ReferenceAt, BufferIn, with_new}
 use Rattle.jni.specs.Access.{is_critical}
@@ -25,7 +25,7 @@ use Rattle.semantics_safety.proofs.NameLaws.{one_or_other, lookup_same, lookup_o
 use Rattle.semantics.specs.Sight.{Sight}
 use Rattle.std.specs.Prelude.{length, filter, ◌&&◌}
 use Rattle.syntax.specs.Tree.{SourceUnit}
-use Rattle.semantics_safety.proofs.SetLaws.{stands_new, stands_kept, none_some, stands_at, owners_same, owners_elsewhere, sorts_named, kinds_named}
+use Rattle.semantics_safety.proofs.SetLaws.{stands_new, stands_kept, none_some, stands_at, owners_same, owners_elsewhere, types_named, kinds_named}
 
 -- the thread is at a point from which its tasks go on
 abbrev pub GoesFrom : WeakNames → Owners → Statics → Variables → List Frame → List Task → Type 0
@@ -42,19 +42,19 @@ same_statics ss x r e = (r, e)
 module _ (unit : SourceUnit) (classes : Classes) (in_use : BuffersInUse) (k : ℕ) (s : Shared) (t : Thread) (rest : List Task) (p : Point) {weak : WeakNames} {own : Owners} (stands : Stands weak own s.statics t.variables t.frames p) where
   -- ---- numbers
 
-  number_old : (sort : Sort) (o : Option Variable) (g : Option StaticReference) → IsNumberSort sort → VariableFits sort o g → (v : Value) × (o ≡ Some (Scalar v))
-  number_old sort.Word o g n (v, e, f) = (v, e)
-  number_old sort.Jint o g n (v, e, f) = (v, e)
-  number_old sort.Flag o g n (v, e, f) = (v, e)
+  number_old : (ty : ExprType) (o : Option Variable) (g : Option StaticReference) → IsNumberType ty → VariableFits ty o g → (v : Value) × (o ≡ Some (Scalar v))
+  number_old ty.Word o g n (v, e, f) = (v, e)
+  number_old ty.Jint o g n (v, e, f) = (v, e)
+  number_old ty.Flag o g n (v, e, f) = (v, e)
   number_old r o g n h = absurd n
 
-  number_fits : (v : Value) (g : Option StaticReference) → IsNumberSort (value_sort v) → VariableFits (value_sort v) (Some (Scalar v)) g
+  number_fits : (v : Value) (g : Option StaticReference) → IsNumberType (value_type v) → VariableFits (value_type v) (Some (Scalar v)) g
   number_fits (Word n) g h = (Word n, refl, refl)
   number_fits (Int z) g h = (Int z, refl, refl)
   number_fits (Flag b) g h = (Flag b, refl, refl)
   number_fits (Truth b) g h = absurd h
 
-  number_kind : (b : Bool) (v : Value) → IsNumberSort (value_sort v) → IsOfKind b (value_sort v)
+  number_kind : (b : Bool) (v : Value) → IsNumberType (value_type v) → IsOfKind b (value_type v)
   number_kind b (Word n) h = tt
   number_kind b (Int z) h = tt
   number_kind b (Flag c) h = tt
@@ -66,15 +66,15 @@ module _ (unit : SourceUnit) (classes : Classes) (in_use : BuffersInUse) (k : �
   scalar_no_buffer : (v : Value) (u : ElementType) (b : Buffer) → Scalar v ≡ Elements u b → ⊥
   scalar_no_buffer v u b e = cc
 
-  sets_lands : (x : Identifier) (v : Value) → SetsNumber x (value_sort v) (GoesOn rest) p → IsNumberSort (value_sort v) → GoesFrom weak own s.statics (assign x (Scalar v) t.variables) t.frames rest
+  sets_lands : (x : Identifier) (v : Value) → SetsNumber x (value_type v) (GoesOn rest) p → IsNumberType (value_type v) → GoesFrom weak own s.statics (assign x (Scalar v) t.variables) t.frames rest
   sets_lands x v (inl (e, g)) n =
-      let old = number_old (value_sort v) (lookup x t.variables) (lookup x s.statics) n (stands.sorts x (value_sort v) e) in (
+      let old = number_old (value_type v) (lookup x t.variables) (lookup x s.statics) n (stands.types x (value_type v) e) in (
         p,
-        stands_kept s.statics t.variables t.frames p stands x (Scalar v) (value_sort v) (Scalar old.0) e old.1 (scalar_no_ref old.0) (scalar_no_buffer old.0) (number_fits v (lookup x s.statics) n) (λ u b c. absurd (scalar_no_buffer v u b c)),
+        stands_kept s.statics t.variables t.frames p stands x (Scalar v) (value_type v) (Scalar old.0) e old.1 (scalar_no_ref old.0) (scalar_no_buffer old.0) (number_fits v (lookup x s.statics) n) (λ u b c. absurd (scalar_no_buffer v u b c)),
         g,
       )
   sets_lands x v (inr (new, g)) n =
-      (named p x (value_sort v), stands_new s.statics t.variables t.frames p stands x (Scalar v) (value_sort v) new (number_kind (weak x) v n) (number_fits v (lookup x s.statics) n) (λ u b c. absurd (scalar_no_buffer v u b c)), g)
+      (named p x (value_type v), stands_new s.statics t.variables t.frames p stands x (Scalar v) (value_type v) new (number_kind (weak x) v n) (number_fits v (lookup x s.statics) n) (λ u b c. absurd (scalar_no_buffer v u b c)), g)
 
   -- ---- arrays
 
@@ -84,10 +84,10 @@ module _ (unit : SourceUnit) (classes : Classes) (in_use : BuffersInUse) (k : �
   array_no_buffer : (v : ElementType) (zs : List ℤ) (u : ElementType) (b : Buffer) → LocalArray v zs ≡ Elements u b → ⊥
   array_no_buffer v zs u b e = cc
 
-  makes_lands : (u : ElementType) (x : Identifier) (size : ℕ) → IsNew p x → GoesOn rest (named p x (sort.Array u size)) → GoesFrom weak own s.statics (assign x (LocalArray u (replicate size (pos 0))) t.variables) t.frames rest
+  makes_lands : (u : ElementType) (x : Identifier) (size : ℕ) → IsNew p x → GoesOn rest (named p x (ty.Array u size)) → GoesFrom weak own s.statics (assign x (LocalArray u (replicate size (pos 0))) t.variables) t.frames rest
   makes_lands u x size new g = (
-    named p x (sort.Array u size),
-    stands_new s.statics t.variables t.frames p stands x (LocalArray u (replicate size (pos 0))) (sort.Array u size) new tt (replicate size (pos 0), refl) (λ v b c. absurd (array_no_buffer u (replicate size (pos 0)) v b c)),
+    named p x (ty.Array u size),
+    stands_new s.statics t.variables t.frames p stands x (LocalArray u (replicate size (pos 0))) (ty.Array u size) new tt (replicate size (pos 0), refl) (λ v b c. absurd (array_no_buffer u (replicate size (pos 0)) v b c)),
     g,
   )
 
@@ -120,21 +120,21 @@ module _ (unit : SourceUnit) (classes : Classes) (in_use : BuffersInUse) (k : �
       let c : lookup x t.variables ≡ Some (LocalRef level (Some m)) = subst (λ (z : Identifier). lookup z t.variables ≡ Some (LocalRef level (Some m))) same h in
       let d : Some (Elements u b) ≡ Some (LocalRef level (Some m)) = sym e ∙ c in cc
 
-  pub sort_of_buffer : (r : Sort) (o : Option Variable) (g : Option StaticReference) (u : ElementType) (b c : Buffer) → o ≡ Some (Elements u b) → VariableFits r o g → VariableFits r (Some (Elements u c)) g
-  sort_of_buffer sort.Ref o g u b c e (level, q, h) = absurd (let d : Some (Elements u b) ≡ Some (LocalRef level q) = sym e ∙ h in cc)
-  sort_of_buffer sort.Global o g u b c e (none, h) = absurd (none_some o (Elements u b) none e)
-  sort_of_buffer sort.Weak o g u b c e (none, h) = absurd (none_some o (Elements u b) none e)
-  sort_of_buffer sort.FieldId o g u b c e (f, h) = absurd (let d : Some (Elements u b) ≡ Some (FieldHandle f) = sym e ∙ h in cc)
-  sort_of_buffer sort.MethodId o g u b c e (f, h) = absurd (let d : Some (Elements u b) ≡ Some (MethodHandle f) = sym e ∙ h in cc)
-  sort_of_buffer (sort.Buffer v w) o g u b c e (d, h) =
+  pub type_of_buffer : (r : ExprType) (o : Option Variable) (g : Option StaticReference) (u : ElementType) (b c : Buffer) → o ≡ Some (Elements u b) → VariableFits r o g → VariableFits r (Some (Elements u c)) g
+  type_of_buffer ty.Ref o g u b c e (level, q, h) = absurd (let d : Some (Elements u b) ≡ Some (LocalRef level q) = sym e ∙ h in cc)
+  type_of_buffer ty.Global o g u b c e (none, h) = absurd (none_some o (Elements u b) none e)
+  type_of_buffer ty.Weak o g u b c e (none, h) = absurd (none_some o (Elements u b) none e)
+  type_of_buffer ty.FieldId o g u b c e (f, h) = absurd (let d : Some (Elements u b) ≡ Some (FieldHandle f) = sym e ∙ h in cc)
+  type_of_buffer ty.MethodId o g u b c e (f, h) = absurd (let d : Some (Elements u b) ≡ Some (MethodHandle f) = sym e ∙ h in cc)
+  type_of_buffer (ty.Buffer v w) o g u b c e (d, h) =
       let both : Some (Elements u b) ≡ Some (Elements v d) = sym e ∙ h in
       let same : u ≡ v = cc in
       (c, ap (λ (x : ElementType). Some (Elements x c)) same)
-  sort_of_buffer (sort.Array v size) o g u b c e (zs, h) = absurd (let d : Some (Elements u b) ≡ Some (LocalArray v zs) = sym e ∙ h in cc)
-  sort_of_buffer sort.Truth o g u b c e h = absurd h
-  sort_of_buffer sort.Word o g u b c e (v, h, f) = absurd (let d : Some (Elements u b) ≡ Some (Scalar v) = sym e ∙ h in cc)
-  sort_of_buffer sort.Jint o g u b c e (v, h, f) = absurd (let d : Some (Elements u b) ≡ Some (Scalar v) = sym e ∙ h in cc)
-  sort_of_buffer sort.Flag o g u b c e (v, h, f) = absurd (let d : Some (Elements u b) ≡ Some (Scalar v) = sym e ∙ h in cc)
+  type_of_buffer (ty.Array v size) o g u b c e (zs, h) = absurd (let d : Some (Elements u b) ≡ Some (LocalArray v zs) = sym e ∙ h in cc)
+  type_of_buffer ty.Truth o g u b c e h = absurd h
+  type_of_buffer ty.Word o g u b c e (v, h, f) = absurd (let d : Some (Elements u b) ≡ Some (Scalar v) = sym e ∙ h in cc)
+  type_of_buffer ty.Jint o g u b c e (v, h, f) = absurd (let d : Some (Elements u b) ≡ Some (Scalar v) = sym e ∙ h in cc)
+  type_of_buffer ty.Flag o g u b c e (v, h, f) = absurd (let d : Some (Elements u b) ≡ Some (Scalar v) = sym e ∙ h in cc)
 
   pub buffer_no_copy : (level n : ℕ) (u : ElementType) (b c : Buffer) (o : Option Variable) → o ≡ Some (Elements u b) → is_copy level n (Some (Elements u c)) ≡ is_copy level n o
   buffer_no_copy level n u b c o e = subst (λ (v : Option Variable). false ≡ is_copy level n v) (sym e) refl
@@ -145,12 +145,12 @@ module _ (unit : SourceUnit) (classes : Classes) (in_use : BuffersInUse) (k : �
     apart = λ y a access m level h at_a. apart_buffer x u (Copy n zs) e a m level at_a;
     here = λ v h. copy_shows t.variables (assign x (Elements u (Copy n ys)) t.variables) v u n zs ys (lookup x t.variables) e (stands.shows x v h)
         (λ a m level at_a. lookup_other x a (Elements u (Copy n ys)) t.variables (apart_buffer x u (Copy n zs) e a m level at_a));
-    sorts = λ y r h. elim (one_or_other y x) [
+    types = λ y r h. elim (one_or_other y x) [
       | inl same ↦
           subst (λ (z : Identifier). VariableFits r (lookup z (assign x (Elements u (Copy n ys)) t.variables)) (lookup z s.statics)) (sym same)
           (subst (λ (o : Option Variable). VariableFits r o (lookup x s.statics)) (sym (lookup_same x (Elements u (Copy n ys)) t.variables))
-          (sort_of_buffer r (lookup x t.variables) (lookup x s.statics) u (Copy n zs) (Copy n ys) e (stands.sorts x r (subst (λ (z : Identifier). sort_in p.names z ≡ Some r) same h))))
-      | inr other ↦ subst (λ (o : Option Variable). VariableFits r o (lookup y s.statics)) (sym (lookup_other x y (Elements u (Copy n ys)) t.variables other)) (stands.sorts y r h)
+          (type_of_buffer r (lookup x t.variables) (lookup x s.statics) u (Copy n zs) (Copy n ys) e (stands.types x r (subst (λ (z : Identifier). type_in p.names z ≡ Some r) same h))))
+      | inr other ↦ subst (λ (o : Option Variable). VariableFits r o (lookup y s.statics)) (sym (lookup_other x y (Elements u (Copy n ys)) t.variables other)) (stands.types y r h)
     ];
     held = λ v b h. elim (stands.held x u (Copy n zs) e) [ inl none ↦ absurd (copy_is n zs none) | inr k ↦ inr k ];
     kinds = stands.kinds;
@@ -183,29 +183,29 @@ module _ (unit : SourceUnit) (classes : Classes) (in_use : BuffersInUse) (k : �
   lent_store u true n b e = subst (λ (c : Buffer). Store (Some (Elements u c))) (sym e) (InView u n)
   lent_store u false n b (zs, e) = subst (λ (c : Buffer). Store (Some (Elements u c))) (sym e) (InCopy u n zs)
 
-  stores : (x : Identifier) (r : Option Sort) → sort_in p.names x ≡ r → ElementsFit p x r → Store (lookup x t.variables)
-  stores x (Some (sort.Buffer v w)) e (access, a, known) =
+  stores : (x : Identifier) (r : Option ExprType) → type_in p.names x ≡ r → ElementsFit p x r → Store (lookup x t.variables)
+  stores x (Some (ty.Buffer v w)) e (access, a, known) =
       let shown = stands.shows x _ known in
       subst Store (sym shown.2) (lent_store shown.0 (is_critical access) shown.3.0 shown.1 shown.3.3)
-  stores x (Some (sort.Array v size)) e h = let there = stands.sorts x (sort.Array v size) e in subst Store (sym there.1) (InArray v there.0)
+  stores x (Some (ty.Array v size)) e h = let there = stands.types x (ty.Array v size) e in subst Store (sym there.1) (InArray v there.0)
   stores x r e h = absurd h
 
-  array_sort : (x : Identifier) (r : Sort) (o : Option Variable) (g : Option StaticReference) (u : ElementType) (zs ys : List ℤ) → ElementsFit p x (Some r) → o ≡ Some (LocalArray u zs) → VariableFits r o g → VariableFits r (Some (LocalArray u ys)) g
-  array_sort x (sort.Array v size) o g u zs ys fit e (xs, h) =
+  array_type : (x : Identifier) (r : ExprType) (o : Option Variable) (g : Option StaticReference) (u : ElementType) (zs ys : List ℤ) → ElementsFit p x (Some r) → o ≡ Some (LocalArray u zs) → VariableFits r o g → VariableFits r (Some (LocalArray u ys)) g
+  array_type x (ty.Array v size) o g u zs ys fit e (xs, h) =
       let c : Some (LocalArray v xs) ≡ Some (LocalArray u zs) = sym h ∙ e in
       let d : v ≡ u = cc in
       (ys, ap (λ (w : ElementType). Some (LocalArray w ys)) (sym d))
-  array_sort x (sort.Buffer v w) o g u zs ys fit e (b, h) = absurd (let c : Some (Elements v b) ≡ Some (LocalArray u zs) = sym h ∙ e in cc)
-  array_sort x r o g u zs ys fit e h = absurd fit
+  array_type x (ty.Buffer v w) o g u zs ys fit e (b, h) = absurd (let c : Some (Elements v b) ≡ Some (LocalArray u zs) = sym h ∙ e in cc)
+  array_type x r o g u zs ys fit e h = absurd fit
 
-  array_set : (x : Identifier) (u : ElementType) (zs ys : List ℤ) (r : Option Sort) → sort_in p.names x ≡ r → ElementsFit p x r → lookup x t.variables ≡ Some (LocalArray u zs) → Stands weak own s.statics (assign x (LocalArray u ys) t.variables) t.frames p
+  array_set : (x : Identifier) (u : ElementType) (zs ys : List ℤ) (r : Option ExprType) → type_in p.names x ≡ r → ElementsFit p x r → lookup x t.variables ≡ Some (LocalArray u zs) → Stands weak own s.statics (assign x (LocalArray u ys) t.variables) t.frames p
   array_set x u zs ys None e fit at_x = absurd fit
   array_set x u zs ys (Some r) e fit at_x =
       stands_kept s.statics t.variables t.frames p stands x (LocalArray u ys) r (LocalArray u zs) e at_x (array_no_ref u zs) (array_no_buffer u zs)
-      (array_sort x r (lookup x t.variables) (lookup x s.statics) u zs ys fit at_x (stands.sorts x r e)) (λ v b c. absurd (array_no_buffer u ys v b c))
+      (array_type x r (lookup x t.variables) (lookup x s.statics) u zs ys fit at_x (stands.types x r e)) (λ v b c. absurd (array_no_buffer u ys v b c))
 
-  element_lands : (x : Identifier) (i : ℕ) (z : ℤ) (o : Option Variable) → lookup x t.variables ≡ o → Store o → ElementsFit p x (sort_in p.names x) → GoesOn rest p → Lands weak own s.statics (set_element s (with_tasks t rest) x i z o)
-  element_lands x i z o e (InArray u zs) fit g = ((p, array_set x u zs (slice_set zs i (convert u z)) (sort_in p.names x) refl fit e, g), same_statics s.statics)
+  element_lands : (x : Identifier) (i : ℕ) (z : ℤ) (o : Option Variable) → lookup x t.variables ≡ o → Store o → ElementsFit p x (type_in p.names x) → GoesOn rest p → Lands weak own s.statics (set_element s (with_tasks t rest) x i z o)
+  element_lands x i z o e (InArray u zs) fit g = ((p, array_set x u zs (slice_set zs i (convert u z)) (type_in p.names x) refl fit e, g), same_statics s.statics)
   element_lands x i z o e (InCopy u n zs) fit g = ((p, copy_set x u n zs (slice_set zs i (convert u z)) e, g), same_statics s.statics)
   element_lands x i z o e (InView u n) fit g = ((p, stands, g), same_statics s.statics)
 
@@ -229,7 +229,7 @@ module _ (unit : SourceUnit) (classes : Classes) (in_use : BuffersInUse) (k : �
   null_owns x level l n (BufferIn b) = refl
 
   -- a new reference that is NULL
-  pub null_declared : (x : Identifier) → IsNew p x → Stands weak own s.statics (assign x (LocalRef (length t.frames) None) t.variables) t.frames (at (named p x sort.Ref) (with_new p.regions x (ReferenceAt p.regions.frames true)))
+  pub null_declared : (x : Identifier) → IsNew p x → Stands weak own s.statics (assign x (LocalRef (length t.frames) None) t.variables) t.frames (at (named p x ty.Ref) (with_new p.regions x (ReferenceAt p.regions.frames true)))
   null_declared x new = stands_at s.statics t.variables t.frames p stands x (LocalRef (length t.frames) None) t.frames _ (record {
     elsewhere = λ y other. front_other x y (ReferenceAt p.regions.frames true) p.regions.variables other;
     apart = λ y a access m level h at_a same. new.unused y access (subst (Holds p y access) same h);
@@ -238,9 +238,9 @@ module _ (unit : SourceUnit) (classes : Classes) (in_use : BuffersInUse) (k : �
         let one : ReferenceAt p.regions.frames true ≡ v = cc in
         subst (λ (v : VariableState). Shows (assign x (LocalRef (length t.frames) None) t.variables) v (Some (LocalRef (length t.frames) None))) one
         (None, ap (λ (n : ℕ). Some (LocalRef n None)) stands.depth);
-    sorts = sorts_named s.statics t.variables t.frames p stands x (LocalRef (length t.frames) None) sort.Ref (length t.frames, None, refl);
+    types = types_named s.statics t.variables t.frames p stands x (LocalRef (length t.frames) None) ty.Ref (length t.frames, None, refl);
     held = λ u b e. absurd (ref_no_buffer (length t.frames) None u b e);
-    kinds = kinds_named weak x sort.Ref p.names tt stands.kinds;
+    kinds = kinds_named weak x ty.Ref p.names tt stands.kinds;
     known_once = (new.unknown, stands.known_once);
     depth = stands.depth;
     backed = λ level n.
@@ -268,7 +268,7 @@ module _ (unit : SourceUnit) (classes : Classes) (in_use : BuffersInUse) (k : �
   plain_lands sight (Becomes tasks) plain whole (q, there, g) = ((q, there, g), same_statics s.statics)
   plain_lands sight (Sets x v) plain whole h = (sets_lands x v h.0 h.1, same_statics s.statics)
   plain_lands sight (SetsNull target) plain whole h = absurd plain
-  plain_lands sight (SetsElement x i z) plain whole h = element_lands x i z (lookup x t.variables) refl (stores x (sort_in p.names x) refl h.0) h.0 h.1
+  plain_lands sight (SetsElement x i z) plain whole h = element_lands x i z (lookup x t.variables) refl (stores x (type_in p.names x) refl h.0) h.0 h.1
   plain_lands sight (MakesArray u x size) plain whole h = (makes_lands u x size h.0 h.1, same_statics s.statics)
   plain_lands sight (Prints z) plain whole h = ((p, stands, h.1), same_statics s.statics)
   plain_lands sight (Calls line target f args) plain whole h = absurd plain

@@ -1,22 +1,22 @@
--- Operators on values of their sorts give a value of theirs, or a trap.
+-- Operators on values of their types give a value of theirs, or a trap.
 use Rattle.std.proofs.Common.{◌≡◌, ℕ, Bool, sym, subst}
 use Rattle.std.specs.Prelude.{◌==◌, nat_lt, ℤ, pos, negsuc}
 use Rattle.std.proofs.lemmas.Bool.{cond_both}
 use Rattle.syntax.specs.Tree.{PrefixOp, LogicalNot, Complement, ToWord, ToInt, BinaryOp, LogicalOr, LogicalAnd, BitOr, BitXor, BitAnd, Equal, NotEqual, Less, LessEqual, Greater, GreaterEqual, ShiftLeft, ShiftRight, Add, Subtract, Multiply, Divide, Remainder}
-use Rattle.type_rules.specs.Sorts.{Sort, OperatorGroup, Logic, Equality, Order, OnWords, group}
-use Rattle.type_rules.specs.Sorts as sort
-use Rattle.type_rules.specs.SortGroups.{IsIndexSort, IsNumberSort, OperatorFits}
+use Rattle.type_rules.specs.ExprTypes.{ExprType, OperatorGroup, Logic, Equality, Order, OnWords, group}
+use Rattle.type_rules.specs.ExprTypes as ty
+use Rattle.type_rules.specs.TypeGroups.{IsIndexType, IsNumberType, OperatorFits}
 use Rattle.semantics.specs.Term.{index_of}
 use Rattle.semantics.specs.Value.{Value, Word, Int, Flag, Truth, Outcome, Gives, Traps, Stuck, on_words, on_ints, on_flags, binary_value, prefix_value, DivisionByZero, ShiftTooFar}
-use Rattle.semantics_safety.specs.Points.{value_sort, PrefixFits}
+use Rattle.semantics_safety.specs.Points.{value_type, PrefixFits}
 
--- a value of this sort, or a trap
-abbrev pub ValueFits : Sort → Outcome Value → Type 0
-ValueFits s (Gives v) = value_sort v ≡ s
+-- a value of this type, or a trap
+abbrev pub ValueFits : ExprType → Outcome Value → Type 0
+ValueFits s (Gives v) = value_type v ≡ s
 ValueFits s (Traps trap) = Unit {0}
 ValueFits s Stuck = ⊥
 
-words_fit : (op : BinaryOp) (a b : ℕ) (s : Sort) → OperatorFits (group op) sort.Word s → ValueFits s (on_words op a b)
+words_fit : (op : BinaryOp) (a b : ℕ) (s : ExprType) → OperatorFits (group op) ty.Word s → ValueFits s (on_words op a b)
 words_fit Add a b s h = sym h.1
 words_fit Subtract a b s h = sym h.1
 words_fit Multiply a b s h = sym h.1
@@ -36,10 +36,10 @@ words_fit GreaterEqual a b s h = sym h.1
 words_fit LogicalOr a b s h = h
 words_fit LogicalAnd a b s h = h
 
-no_words : (s : Sort) → OperatorFits OnWords sort.Jint s → ⊥
+no_words : (s : ExprType) → OperatorFits OnWords ty.Jint s → ⊥
 no_words s h = let e = h.0 in cc
 
-ints_fit : (op : BinaryOp) (a b : ℤ) (s : Sort) → OperatorFits (group op) sort.Jint s → ValueFits s (on_ints op a b)
+ints_fit : (op : BinaryOp) (a b : ℤ) (s : ExprType) → OperatorFits (group op) ty.Jint s → ValueFits s (on_ints op a b)
 ints_fit Equal a b s h = sym h.1
 ints_fit NotEqual a b s h = sym h.1
 ints_fit Less a b s h = sym h.1
@@ -50,10 +50,10 @@ ints_fit LogicalOr a b s h = h
 ints_fit LogicalAnd a b s h = h
 ints_fit op a b s h = no_words s h
 
-no_flags : (s : Sort) → OperatorFits OnWords sort.Flag s → ⊥
+no_flags : (s : ExprType) → OperatorFits OnWords ty.Flag s → ⊥
 no_flags s h = let e = h.0 in cc
 
-flags_fit : (op : BinaryOp) (a b : Bool) (s : Sort) → OperatorFits (group op) sort.Flag s → ValueFits s (on_flags op a b)
+flags_fit : (op : BinaryOp) (a b : Bool) (s : ExprType) → OperatorFits (group op) ty.Flag s → ValueFits s (on_flags op a b)
 flags_fit Equal a b s h = sym h.1
 flags_fit NotEqual a b s h = sym h.1
 flags_fit LogicalOr a b s h = h
@@ -64,20 +64,20 @@ flags_fit Greater a b s h = h.0
 flags_fit GreaterEqual a b s h = h.0
 flags_fit op a b s h = no_flags s h
 
-no_truths : (g : OperatorGroup) (s : Sort) → OperatorFits g sort.Truth s → ⊥
+no_truths : (g : OperatorGroup) (s : ExprType) → OperatorFits g ty.Truth s → ⊥
 no_truths Logic s h = h
 no_truths Equality s h = h.0
 no_truths Order s h = h.0
 no_truths OnWords s h = let e = h.0 in cc
 
-pub binary_fits : (op : BinaryOp) (v w : Value) (r s : Sort) → OperatorFits (group op) r s → value_sort v ≡ r → value_sort w ≡ r → ValueFits s (binary_value op v w)
-binary_fits op (Word a) (Word b) r s h e f = words_fit op a b s (subst (λ (q : Sort). OperatorFits (group op) q s) (sym e) h)
-binary_fits op (Int a) (Int b) r s h e f = ints_fit op a b s (subst (λ (q : Sort). OperatorFits (group op) q s) (sym e) h)
-binary_fits op (Flag a) (Flag b) r s h e f = flags_fit op a b s (subst (λ (q : Sort). OperatorFits (group op) q s) (sym e) h)
-binary_fits op (Truth a) (Truth b) r s h e f = absurd (no_truths (group op) s (subst (λ (q : Sort). OperatorFits (group op) q s) (sym e) h))
+pub binary_fits : (op : BinaryOp) (v w : Value) (r s : ExprType) → OperatorFits (group op) r s → value_type v ≡ r → value_type w ≡ r → ValueFits s (binary_value op v w)
+binary_fits op (Word a) (Word b) r s h e f = words_fit op a b s (subst (λ (q : ExprType). OperatorFits (group op) q s) (sym e) h)
+binary_fits op (Int a) (Int b) r s h e f = ints_fit op a b s (subst (λ (q : ExprType). OperatorFits (group op) q s) (sym e) h)
+binary_fits op (Flag a) (Flag b) r s h e f = flags_fit op a b s (subst (λ (q : ExprType). OperatorFits (group op) q s) (sym e) h)
+binary_fits op (Truth a) (Truth b) r s h e f = absurd (no_truths (group op) s (subst (λ (q : ExprType). OperatorFits (group op) q s) (sym e) h))
 binary_fits op v w r s h e f = absurd (cc)
 
-pub prefix_fits : (op : PrefixOp) (v : Value) (r s : Sort) → PrefixFits op r s → value_sort v ≡ r → ValueFits s (prefix_value op v)
+pub prefix_fits : (op : PrefixOp) (v : Value) (r s : ExprType) → PrefixFits op r s → value_type v ≡ r → ValueFits s (prefix_value op v)
 prefix_fits LogicalNot (Truth b) r s h e = sym h.1
 prefix_fits LogicalNot (Word n) r s h e = absurd (let f = h.0 in cc)
 prefix_fits LogicalNot (Int n) r s h e = absurd (let f = h.0 in cc)
@@ -89,11 +89,11 @@ prefix_fits Complement (Flag n) r s h e = absurd (let f = h.0 in cc)
 prefix_fits ToWord (Word n) r s h e = sym h.1
 prefix_fits ToWord (Int n) r s h e = sym h.1
 prefix_fits ToWord (Flag n) r s h e = sym h.1
-prefix_fits ToWord (Truth n) r s h e = subst IsNumberSort (sym e) h.0
+prefix_fits ToWord (Truth n) r s h e = subst IsNumberType (sym e) h.0
 prefix_fits ToInt (Word n) r s h e = sym h.1
 prefix_fits ToInt (Int n) r s h e = sym h.1
 prefix_fits ToInt (Flag n) r s h e = sym h.1
-prefix_fits ToInt (Truth n) r s h e = subst IsNumberSort (sym e) h.0
+prefix_fits ToInt (Truth n) r s h e = subst IsNumberType (sym e) h.0
 
 -- an index, or a trap
 abbrev pub IndexFits : Outcome ℕ → Type 0
@@ -101,9 +101,9 @@ IndexFits (Gives n) = Unit {0}
 IndexFits (Traps trap) = Unit {0}
 IndexFits Stuck = ⊥
 
-pub index_fits : (v : Value) (r : Sort) → IsIndexSort r → value_sort v ≡ r → IndexFits (index_of v)
+pub index_fits : (v : Value) (r : ExprType) → IsIndexType r → value_type v ≡ r → IndexFits (index_of v)
 index_fits (Word n) r h e = tt
 index_fits (Int (pos n)) r h e = tt
 index_fits (Int (negsuc n)) r h e = tt
-index_fits (Flag b) r h e = subst IsIndexSort (sym e) h
-index_fits (Truth b) r h e = subst IsIndexSort (sym e) h
+index_fits (Flag b) r h e = subst IsIndexType (sym e) h
+index_fits (Truth b) r h e = subst IsIndexType (sym e) h

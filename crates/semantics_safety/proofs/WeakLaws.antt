@@ -5,8 +5,8 @@ use Rattle.base.specs.Bytes.{Identifier, lookup}
 use Rattle.jni.specs.Access.{ElementsCopy, ArrayView, CharsCopy, CharsView}
 use Rattle.jni.specs.JniFunction.{JniFunction, GetBuffer, ReleaseBuffer, prototype, parameters_for}
 use Rattle.jni.specs.Prototype.{ParameterKind, FieldID, IntNumber, TextBytes, AnyReference, LocalVariable, StaticVariable, WeakVariable, ArrayVariable, BufferVariable, Mode, IsCopy, MethodID, Passed}
-use Rattle.type_rules.specs.Sorts.{Sort, sort_in}
-use Rattle.type_rules.specs.Sorts as sort
+use Rattle.type_rules.specs.ExprTypes.{ExprType, type_in}
+use Rattle.type_rules.specs.ExprTypes as ty
 use Rattle.semantics.specs.Task.{Task, Invoke, Target, Declared, Assigned, Tested, Dropped, Operand, NumberOperand, Given, PassedName}
 use Rattle.semantics.specs.Thread.{Frame}
 use Rattle.semantics.specs.Variable.{Variable, LocalRef, FieldHandle, Elements, LocalArray, Weakly, Variables, Statics, MethodHandle, Scalar}
@@ -51,8 +51,8 @@ module _ (ss : Statics) (vs : Variables) (frames : List Frame) (p : Point) {weak
   variable_strong : (x : Identifier) (v : Variable) → lookup x vs ≡ Some v → IsStrong x
   variable_strong x v is none n e = none_some (lookup x vs) v none is
 
-  static_strong : (x : Identifier) → sort_in p.names x ≡ Some sort.Global → IsStrong x
-  static_strong x is none n e = let c : true ≡ false = sym (stands.only x n e) ∙ stands.kinds x sort.Global is in no_kind c
+  static_strong : (x : Identifier) → type_in p.names x ≡ Some ty.Global → IsStrong x
+  static_strong x is none n e = let c : true ≡ false = sym (stands.only x n e) ∙ stands.kinds x ty.Global is in no_kind c
 
   live_strong : (x : Identifier) → IsLive p x → IsStrong x
   live_strong x (level, known) = let shown = stands.shows x _ known in variable_strong x (LocalRef level shown.0) shown.1
@@ -60,27 +60,27 @@ module _ (ss : Statics) (vs : Variables) (frames : List Frame) (p : Point) {weak
   usable_strong : (x : Identifier) → IsUsable p x → IsStrong x
   usable_strong x (access, a, known) = let shown = stands.shows x _ known in variable_strong x (Elements shown.0 shown.1) shown.2
 
-  field_strong : (x : Identifier) → sort_in p.names x ≡ Some sort.FieldId → IsStrong x
-  field_strong x is = let there = stands.sorts x sort.FieldId is in variable_strong x (FieldHandle there.0) there.1
+  field_strong : (x : Identifier) → type_in p.names x ≡ Some ty.FieldId → IsStrong x
+  field_strong x is = let there = stands.types x ty.FieldId is in variable_strong x (FieldHandle there.0) there.1
 
-  array_strong : (t : _) (x : Identifier) → (size : ℕ) × (sort_in p.names x ≡ Some (sort.Array t size)) → IsStrong x
-  array_strong t x (size, is) = let there = stands.sorts x (sort.Array t size) is in variable_strong x (LocalArray t there.0) there.1
+  array_strong : (t : _) (x : Identifier) → (size : ℕ) × (type_in p.names x ≡ Some (ty.Array t size)) → IsStrong x
+  array_strong t x (size, is) = let there = stands.types x (ty.Array t size) is in variable_strong x (LocalArray t there.0) there.1
 
-  reference_strong : (x : Identifier) (o : Option Sort) → sort_in p.names x ≡ o → ReferenceFits p x o → IsStrong x
-  reference_strong x (Some sort.Ref) e h = live_strong x h
-  reference_strong x (Some sort.Global) e h = static_strong x e
+  reference_strong : (x : Identifier) (o : Option ExprType) → type_in p.names x ≡ o → ReferenceFits p x o → IsStrong x
+  reference_strong x (Some ty.Ref) e h = live_strong x h
+  reference_strong x (Some ty.Global) e h = static_strong x e
   reference_strong x o e h = absurd h
 
-  method_strong : (x : Identifier) → sort_in p.names x ≡ Some sort.MethodId → IsStrong x
-  method_strong x is = let there = stands.sorts x sort.MethodId is in variable_strong x (MethodHandle there.0) there.1
+  method_strong : (x : Identifier) → type_in p.names x ≡ Some ty.MethodId → IsStrong x
+  method_strong x is = let there = stands.types x ty.MethodId is in variable_strong x (MethodHandle there.0) there.1
 
-  number_strong : (x : Identifier) → sort_in p.names x ≡ Some sort.Jint → IsStrong x
-  number_strong x is = let there = stands.sorts x sort.Jint is in variable_strong x (Scalar there.0) there.1
+  number_strong : (x : Identifier) → type_in p.names x ≡ Some ty.Jint → IsStrong x
+  number_strong x is = let there = stands.types x ty.Jint is in variable_strong x (Scalar there.0) there.1
 
-  passed_strong : (x : Identifier) (o : Option Sort) → sort_in p.names x ≡ o → PassedFits p x o → IsStrong x
-  passed_strong x (Some sort.Jint) e h = number_strong x e
-  passed_strong x (Some sort.Ref) e h = live_strong x h
-  passed_strong x (Some sort.Global) e h = static_strong x e
+  passed_strong : (x : Identifier) (o : Option ExprType) → type_in p.names x ≡ o → PassedFits p x o → IsStrong x
+  passed_strong x (Some ty.Jint) e h = number_strong x e
+  passed_strong x (Some ty.Ref) e h = live_strong x h
+  passed_strong x (Some ty.Global) e h = static_strong x e
   passed_strong x o e h = absurd h
 
   -- ---- arguments
@@ -91,7 +91,7 @@ module _ (ss : Statics) (vs : Variables) (frames : List Frame) (p : Point) {weak
 
   reference_argument_strong : (a : Argument) → ReferenceArgumentFits p a → NamesNoWeak vs ss (Given a)
   reference_argument_strong (tree.Value (tree.Named tree.Null)) h = tt
-  reference_argument_strong (tree.Value (tree.Variable x)) h = reference_strong x (sort_in p.names x) refl h
+  reference_argument_strong (tree.Value (tree.Variable x)) h = reference_strong x (type_in p.names x) refl h
   reference_argument_strong a h = absurd h
 
   field_argument_strong : (a : Argument) → FieldArgumentFits p a → NamesNoWeak vs ss (Given a)
@@ -126,13 +126,13 @@ module _ (ss : Statics) (vs : Variables) (frames : List Frame) (p : Point) {weak
   given_strong IntNumber a strong h = absurd h
   given_strong TextBytes a strong h = text_strong a h
   given_strong LocalVariable a strong h = named_strong (IsLive p) a live_strong h
-  given_strong StaticVariable a strong h = named_strong (λ x. sort_in p.names x ≡ Some sort.Global) a static_strong h
+  given_strong StaticVariable a strong h = named_strong (λ x. type_in p.names x ≡ Some ty.Global) a static_strong h
   given_strong WeakVariable a strong h = absurd (no_kind strong)
   given_strong AnyReference a strong h = absurd (no_kind strong)
   given_strong FieldID a strong h = field_argument_strong a h
   given_strong MethodID a strong h = method_argument_strong a h
   given_strong Passed a strong h = null_argument_strong a h
-  given_strong (ArrayVariable t) a strong h = named_strong (λ x. (size : ℕ) × (sort_in p.names x ≡ Some (sort.Array t size))) a (array_strong t) h
+  given_strong (ArrayVariable t) a strong h = named_strong (λ x. (size : ℕ) × (type_in p.names x ≡ Some (ty.Array t size))) a (array_strong t) h
   given_strong (BufferVariable access) a strong h = named_strong (IsUsable p) a usable_strong h
   given_strong Mode a strong h = mode_strong a h
   given_strong IsCopy a strong h = copy_strong a h
@@ -141,7 +141,7 @@ module _ (ss : Statics) (vs : Variables) (frames : List Frame) (p : Point) {weak
   operand_strong : (parameter : ParameterKind) (o : Operand) → may_be_weak parameter ≡ false → OperandFits p parameter o → NamesNoWeak vs ss o
   operand_strong IntNumber (NumberOperand t) strong h = tt
   operand_strong parameter (NumberOperand t) strong h = tt
-  operand_strong Passed (PassedName x) strong h = passed_strong x (sort_in p.names x) refl h
+  operand_strong Passed (PassedName x) strong h = passed_strong x (type_in p.names x) refl h
   operand_strong parameter (PassedName x) strong h = absurd h
   operand_strong parameter (Given a) strong h = given_strong parameter a strong h
 
@@ -162,7 +162,7 @@ module _ (ss : Statics) (vs : Variables) (frames : List Frame) (p : Point) {weak
     where
       by_test : (b : Bool) → takes_weak f ≡ b → WeakAreTaken vs ss (Invoke line target f operands)
       by_test true is = inl is
-      by_test false is = inr (operands_strong (parameters_for f (length operands)) operands (none_among may_be_weak refl f (length operands) (weak_parameters f ∙ is)) fits.sorts)
+      by_test false is = inr (operands_strong (parameters_for f (length operands)) operands (none_among may_be_weak refl f (length operands) (weak_parameters f ∙ is)) fits.types)
 
   invoke_taken : (line : ℕ) (target : Target) (f : JniFunction) (operands : List Operand) (k : Point → Type 0) → Runs (Invoke line target f operands) k p
       → WeakAreTaken vs ss (Invoke line target f operands)

@@ -8,9 +8,9 @@ use Rattle.syntax.specs.Tree as tree
 use Rattle.jni.specs.JniFunction.{JniFunction, GetBuffer, ReleaseBuffer, DeleteLocalRef, PopLocalFrame, parameters_for, prototype}
 use Rattle.jni.specs.Prototype.{ResultKind, NewLocal, NewGlobal, NewWeak, GivesFlag, GivesInt, GivesField, GivesMethod, GivesNothing, GivesBuffer, IsCopy}
 use Rattle.region_rules.specs.RegionStates.{RegionState, Free, BufferIn, state_of, get_of, after_call, after_pop}
-use Rattle.type_rules.specs.Sorts.{Sort, sort_in}
-use Rattle.type_rules.specs.Sorts as sort
-use Rattle.type_rules.specs.SortGroups.{IsNumberSort}
+use Rattle.type_rules.specs.ExprTypes.{ExprType, type_in}
+use Rattle.type_rules.specs.ExprTypes as ty
+use Rattle.type_rules.specs.TypeGroups.{IsNumberType}
 use Rattle.semantics.specs.Arguments.{Actual, look_up, actuals, address_in_actual}
 use Rattle.semantics.specs.Effect.{Effect, Sets, SetsNull, MakesArray, Calls}
 use Rattle.semantics.specs.Sight.{Sight}
@@ -20,7 +20,7 @@ use Rattle.semantics.specs.Value.{Value}
 use Rattle.semantics.specs.Variable.{Variable, Scalar, LocalRef, FieldHandle, MethodHandle, Elements, StaticReference, Variables, Statics}
 use Rattle.semantics_safety.specs.Owners.{Owners, is_target}
 use Rattle.semantics_safety.specs.Follows.{Follows}
-use Rattle.semantics_safety.specs.Points.{Point, value_sort, OperandFits, OperandsFit}
+use Rattle.semantics_safety.specs.Points.{Point, value_type, OperandFits, OperandsFit}
 use Rattle.semantics_safety.specs.Stands.{VariableFits, Stands}
 use Rattle.semantics_safety.specs.StepSafe.{HoldsNoBuffer, IsTold, SetsWhole}
 use Rattle.semantics_safety.specs.Wanted.{IsNew, at, DeclaresNull, AssignsNull, SetsNumber, SetsNullThere, DeclaresResult, AssignsResult, ResultGoes, CallFits, Runs, GoesOn, call_seen, operand_argument}
@@ -47,10 +47,10 @@ method_holds o f e u b h = absurd (let c : Some (MethodHandle f) ≡ Some (Eleme
 none_holds : (o : Option Variable) → o ≡ None → HoldsNoBuffer o
 none_holds o e u b h = absurd (none_some o (Elements u b) e h)
 
-number_holds : (s : Sort) (o : Option Variable) (g : Option StaticReference) → IsNumberSort s → VariableFits s o g → HoldsNoBuffer o
-number_holds sort.Word o g n (v, e, f) = scalar_holds o v e
-number_holds sort.Jint o g n (v, e, f) = scalar_holds o v e
-number_holds sort.Flag o g n (v, e, f) = scalar_holds o v e
+number_holds : (s : ExprType) (o : Option Variable) (g : Option StaticReference) → IsNumberType s → VariableFits s o g → HoldsNoBuffer o
+number_holds ty.Word o g n (v, e, f) = scalar_holds o v e
+number_holds ty.Jint o g n (v, e, f) = scalar_holds o v e
+number_holds ty.Flag o g n (v, e, f) = scalar_holds o v e
 number_holds s o g n h = absurd n
 
 module _ (ss : Statics) (vs : Variables) (frames : List Frame) (p : Point) {weak : WeakNames} {own : Owners} (stands : Stands weak own ss vs frames p) where
@@ -71,23 +71,23 @@ module _ (ss : Statics) (vs : Variables) (frames : List Frame) (p : Point) {weak
       let same : b ≡ shown.1 = cc in
       same ∙ shown.3
 
-  sorted_holds : (x : Identifier) (s : Sort) → IsNumberSort s → sort_in p.names x ≡ Some s → Nothing x
-  sorted_holds x s n e = number_holds s (lookup x vs) (lookup x ss) n (stands.sorts x s e)
+  typed_holds : (x : Identifier) (s : ExprType) → IsNumberType s → type_in p.names x ≡ Some s → Nothing x
+  typed_holds x s n e = number_holds s (lookup x vs) (lookup x ss) n (stands.types x s e)
 
-  reference_there : (x : Identifier) → sort_in p.names x ≡ Some sort.Ref → Nothing x
-  reference_there x e = let h = stands.sorts x sort.Ref e in reference_holds (lookup x vs) h.0 h.1 h.2
+  reference_there : (x : Identifier) → type_in p.names x ≡ Some ty.Ref → Nothing x
+  reference_there x e = let h = stands.types x ty.Ref e in reference_holds (lookup x vs) h.0 h.1 h.2
 
-  static_there : (x : Identifier) → sort_in p.names x ≡ Some sort.Global → Nothing x
-  static_there x e = none_holds (lookup x vs) (stands.sorts x sort.Global e).0
+  static_there : (x : Identifier) → type_in p.names x ≡ Some ty.Global → Nothing x
+  static_there x e = none_holds (lookup x vs) (stands.types x ty.Global e).0
 
-  weak_there : (x : Identifier) → sort_in p.names x ≡ Some sort.Weak → Nothing x
-  weak_there x e = none_holds (lookup x vs) (stands.sorts x sort.Weak e).0
+  weak_there : (x : Identifier) → type_in p.names x ≡ Some ty.Weak → Nothing x
+  weak_there x e = none_holds (lookup x vs) (stands.types x ty.Weak e).0
 
-  field_there : (x : Identifier) → sort_in p.names x ≡ Some sort.FieldId → Nothing x
-  field_there x e = let h = stands.sorts x sort.FieldId e in field_holds (lookup x vs) h.0 h.1
+  field_there : (x : Identifier) → type_in p.names x ≡ Some ty.FieldId → Nothing x
+  field_there x e = let h = stands.types x ty.FieldId e in field_holds (lookup x vs) h.0 h.1
 
-  method_there : (x : Identifier) → sort_in p.names x ≡ Some sort.MethodId → Nothing x
-  method_there x e = let h = stands.sorts x sort.MethodId e in method_holds (lookup x vs) h.0 h.1
+  method_there : (x : Identifier) → type_in p.names x ≡ Some ty.MethodId → Nothing x
+  method_there x e = let h = stands.types x ty.MethodId e in method_holds (lookup x vs) h.0 h.1
 
   -- ---- NULL
 
@@ -98,17 +98,17 @@ module _ (ss : Statics) (vs : Variables) (frames : List Frame) (p : Point) {weak
   null_declared MethodKind x k h = new_holds x h.0
   null_declared (BufferKind t) x k h = new_holds x h.0
 
-  null_assigned : (o : Option Sort) (x : Identifier) (k : Point → Type 0) → sort_in p.names x ≡ o → AssignsNull p o x k → Nothing x
-  null_assigned (Some sort.Ref) x k e h = reference_there x e
-  null_assigned (Some sort.Global) x k e h = static_there x e
-  null_assigned (Some sort.Weak) x k e h = weak_there x e
-  null_assigned (Some sort.FieldId) x k e h = field_there x e
-  null_assigned (Some sort.MethodId) x k e h = method_there x e
+  null_assigned : (o : Option ExprType) (x : Identifier) (k : Point → Type 0) → type_in p.names x ≡ o → AssignsNull p o x k → Nothing x
+  null_assigned (Some ty.Ref) x k e h = reference_there x e
+  null_assigned (Some ty.Global) x k e h = static_there x e
+  null_assigned (Some ty.Weak) x k e h = weak_there x e
+  null_assigned (Some ty.FieldId) x k e h = field_there x e
+  null_assigned (Some ty.MethodId) x k e h = method_there x e
   null_assigned o x k e h = absurd h
 
   null_holds : (target : Target) (k : Point → Type 0) (x : Identifier) → is_target target x ≡ true → SetsNullThere p target k → Nothing x
   null_holds (Declared kind y) k x is h = subst Nothing (sym (same_name x y is)) (null_declared kind y k h)
-  null_holds (Assigned y) k x is h = subst Nothing (sym (same_name x y is)) (null_assigned (sort_in p.names y) y k refl h)
+  null_holds (Assigned y) k x is h = subst Nothing (sym (same_name x y is)) (null_assigned (type_in p.names y) y k refl h)
   null_holds (Tested a b) k x is h = absurd h
   null_holds Dropped k x is h = absurd h
 
@@ -123,20 +123,20 @@ module _ (ss : Statics) (vs : Variables) (frames : List Frame) (p : Point) {weak
   result_declared (BufferKind t) x (GivesBuffer access) get k h = new_holds x h.0
   result_declared kind x result get k h = absurd h
 
-  result_assigned : (o : Option Sort) (x : Identifier) (result : ResultKind) (get : _) (k : Point → Type 0) → sort_in p.names x ≡ o → AssignsResult p o x result get k → Nothing x
-  result_assigned (Some sort.Jint) x GivesInt get k e h = sorted_holds x sort.Jint tt e
-  result_assigned (Some sort.Flag) x GivesFlag get k e h = sorted_holds x sort.Flag tt e
-  result_assigned (Some sort.Ref) x NewLocal get k e h = reference_there x e
-  result_assigned (Some sort.Global) x NewGlobal get k e h = static_there x e
-  result_assigned (Some sort.Weak) x NewWeak get k e h = weak_there x e
-  result_assigned (Some sort.FieldId) x GivesField get k e h = field_there x e
-  result_assigned (Some sort.MethodId) x GivesMethod get k e h = method_there x e
-  result_assigned (Some (sort.Buffer t w)) x (GivesBuffer access) get k e h = free_holds x h.0
+  result_assigned : (o : Option ExprType) (x : Identifier) (result : ResultKind) (get : _) (k : Point → Type 0) → type_in p.names x ≡ o → AssignsResult p o x result get k → Nothing x
+  result_assigned (Some ty.Jint) x GivesInt get k e h = typed_holds x ty.Jint tt e
+  result_assigned (Some ty.Flag) x GivesFlag get k e h = typed_holds x ty.Flag tt e
+  result_assigned (Some ty.Ref) x NewLocal get k e h = reference_there x e
+  result_assigned (Some ty.Global) x NewGlobal get k e h = static_there x e
+  result_assigned (Some ty.Weak) x NewWeak get k e h = weak_there x e
+  result_assigned (Some ty.FieldId) x GivesField get k e h = field_there x e
+  result_assigned (Some ty.MethodId) x GivesMethod get k e h = method_there x e
+  result_assigned (Some (ty.Buffer t w)) x (GivesBuffer access) get k e h = free_holds x h.0
   result_assigned o x result get k e h = absurd h
 
   pub result_holds : (target : Target) (result : ResultKind) (get : _) (k : Point → Type 0) (x : Identifier) → is_target target x ≡ true → ResultGoes target result get k p → Nothing x
   result_holds (Declared kind y) result get k x is h = subst Nothing (sym (same_name x y is)) (result_declared kind y result get k h)
-  result_holds (Assigned y) result get k x is h = subst Nothing (sym (same_name x y is)) (result_assigned (sort_in p.names y) y result get k refl h)
+  result_holds (Assigned y) result get k x is h = subst Nothing (sym (same_name x y is)) (result_assigned (type_in p.names y) y result get k refl h)
   result_holds (Tested a b) result get k x is h = absurd h
   result_holds Dropped result get k x is h = absurd (let no : false ≡ true = is in cc)
 
@@ -148,19 +148,19 @@ no_result q (Declared ReferenceKind y) get k x is h = h
 no_result q (Declared FieldKind y) get k x is h = h
 no_result q (Declared MethodKind y) get k x is h = h
 no_result q (Declared (BufferKind t) y) get k x is h = h
-no_result q (Assigned y) get k x is h = by_sort (sort_in q.names y) h
+no_result q (Assigned y) get k x is h = on_type (type_in q.names y) h
   where
-    by_sort : (o : Option Sort) → AssignsResult q o y GivesNothing get k → ⊥
-    by_sort None h = h
-    by_sort (Some sort.Jint) h = h
-    by_sort (Some sort.Flag) h = h
-    by_sort (Some sort.Ref) h = h
-    by_sort (Some sort.Global) h = h
-    by_sort (Some sort.Weak) h = h
-    by_sort (Some sort.FieldId) h = h
-    by_sort (Some sort.MethodId) h = h
-    by_sort (Some (sort.Buffer t w)) h = h
-    by_sort (Some s) h = h
+    on_type : (o : Option ExprType) → AssignsResult q o y GivesNothing get k → ⊥
+    on_type None h = h
+    on_type (Some ty.Jint) h = h
+    on_type (Some ty.Flag) h = h
+    on_type (Some ty.Ref) h = h
+    on_type (Some ty.Global) h = h
+    on_type (Some ty.Weak) h = h
+    on_type (Some ty.FieldId) h = h
+    on_type (Some ty.MethodId) h = h
+    on_type (Some (ty.Buffer t w)) h = h
+    on_type (Some s) h = h
 no_result q (Tested a b) get k x is h = h
 no_result q Dropped get k x is h = let no : false ≡ true = is in cc
 
@@ -191,7 +191,7 @@ module _ (ss : Statics) (vs : Variables) (frames : List Frame) (p : Point) {weak
   -- the variable of `isCopy` holds a flag
   told_operand : (sight : Sight) (c : Operand) (x : Identifier) → OperandFits p IsCopy c → address_in_actual (Some (look_up sight (IsCopy, c))) ≡ Some x → HoldsNoBuffer (lookup x vs)
   told_operand sight (Given (tree.Value (tree.Named n))) x fit e = absurd (cc (e))
-  told_operand sight (Given (tree.AddressOf y)) x fit e = let same : y ≡ x = cc in subst (λ (z : Identifier). HoldsNoBuffer (lookup z vs)) same (sorted_holds ss vs frames p stands y sort.Flag tt fit)
+  told_operand sight (Given (tree.AddressOf y)) x fit e = let same : y ≡ x = cc in subst (λ (z : Identifier). HoldsNoBuffer (lookup z vs)) same (typed_holds ss vs frames p stands y ty.Flag tt fit)
   told_operand sight c x fit e = absurd fit
 
   told_holds : (sight : Sight) (f : JniFunction) (operands : List Operand) (x : Identifier) → OperandsFit p (parameters_for f (length operands)) operands → IsTold f (actuals sight f operands) x → HoldsNoBuffer (lookup x vs)
@@ -204,8 +204,8 @@ module _ (ss : Statics) (vs : Variables) (frames : List Frame) (p : Point) {weak
 -- ---- effects
 
 module _ (sight : Sight) (ss : Statics) (vs : Variables) (frames : List Frame) (p : Point) {weak : WeakNames} {own : Owners} (stands : Stands weak own ss vs frames p) (rest : List Task) where
-  number_set : (x : Identifier) (v : Value) → SetsNumber x (value_sort v) (GoesOn rest) p → IsNumberSort (value_sort v) → HoldsNoBuffer (lookup x vs)
-  number_set x v (inl h) n = sorted_holds ss vs frames p stands x (value_sort v) n h.0
+  number_set : (x : Identifier) (v : Value) → SetsNumber x (value_type v) (GoesOn rest) p → IsNumberType (value_type v) → HoldsNoBuffer (lookup x vs)
+  number_set x v (inl h) n = typed_holds ss vs frames p stands x (value_type v) n h.0
   number_set x v (inr h) n = new_holds ss vs frames p stands x h.0
 
   pub whole_clause : (x : Identifier) (e : Effect) → SetsWhole x e → Follows weak own sight ss vs frames p rest e → HoldsNoBuffer (lookup x vs)
@@ -214,5 +214,5 @@ module _ (sight : Sight) (ss : Statics) (vs : Variables) (frames : List Frame) (
   whole_clause x (MakesArray t y size) is h = subst (λ (z : Identifier). HoldsNoBuffer (lookup z vs)) is (new_holds ss vs frames p stands y h.0)
   whole_clause x (Calls line target f args) (inl is) h = target_holds ss vs frames p stands (GoesOn rest) line target f h.0 x is h.3
   whole_clause x (Calls line target f args) (inr told) h =
-      told_holds ss vs frames p stands (GoesOn rest) sight f h.0 x ((fits_call ss vs frames p stands (GoesOn rest) line target f h.0 h.3).sorts) (subst (λ (l : List Actual). IsTold f l x) h.1 told)
+      told_holds ss vs frames p stands (GoesOn rest) sight f h.0 x ((fits_call ss vs frames p stands (GoesOn rest) line target f h.0 h.3).types) (subst (λ (l : List Actual). IsTold f l x) h.1 told)
   whole_clause x e is h = absurd is

@@ -1,4 +1,4 @@
--- What it is for a thread to be at a point: its variables are of their sorts, and hold what is known of them.
+-- What it is for a thread to be at a point: its variables are of their types, and hold what is known of them.
 use Rattle.std.specs.Prelude.{◌≡◌, ℕ, ◌≤◌, ◌==◌, Bool, true, false, ◌⊎◌, ℤ, List, [], length, Option, Some, None, IsTrue, filter, slice_get}
 use Rattle.std.specs.List.{list_all, AllByRecursion, AllZip}
 use Rattle.base.specs.Bytes.{Identifier, lookup}
@@ -7,8 +7,8 @@ use Rattle.syntax.specs.Tree.{SourceUnit}
 use Rattle.class_rules.specs.Class.{Classes}
 use Rattle.class_rules.specs.Fields.{FieldId}
 use Rattle.jni.specs.Access.{Access, is_critical}
-use Rattle.type_rules.specs.Sorts.{Sort, Truth, Ref, Global, Weak, Buffer, Array, sort_in}
-use Rattle.type_rules.specs.Sorts as sort
+use Rattle.type_rules.specs.ExprTypes.{ExprType, Truth, Ref, Global, Weak, Buffer, Array, type_in}
+use Rattle.type_rules.specs.ExprTypes as ty
 use Rattle.jni.specs.Prototype.{NewLocal}
 use Rattle.semantics.specs.Checks.{is_full}
 use Rattle.semantics.specs.Method.{MethodId}
@@ -21,24 +21,24 @@ use Rattle.semantics.specs.Thread.{Thread, Caller, Frame}
 use Rattle.semantics.specs.Value.{Value}
 use Rattle.semantics.specs.Variable.{Variable, Scalar, LocalRef, FieldHandle, MethodHandle, Elements, LocalArray, Buffer as Buffer_, NoBuffer, Copy, View, StaticReference, Variables, Statics}
 use Rattle.semantics_safety.specs.Owners.{Owners, ThreadOwners}
-use Rattle.semantics_safety.specs.Points.{Point, AreOnce, value_sort, owners}
+use Rattle.semantics_safety.specs.Points.{Point, AreOnce, value_type, owners}
 use Rattle.semantics_safety.specs.StepSafe.{IsCallable, IsMethodResult, references_at, has_calls}
 use Rattle.semantics_safety.specs.Wanted.{Holds, HasNoView, ResultGoes, GoesOn}
 use Rattle.semantics_safety.specs.WeakNames.{WeakNames, AreOfKind, HoldWeakly, weak_names}
 
--- ---- sorts
+-- ---- types
 
--- a variable of a sort; a static is no variable
-abbrev pub VariableFits : Sort → Option Variable → Option StaticReference → Type 0
+-- a variable of a type; a static is no variable
+abbrev pub VariableFits : ExprType → Option Variable → Option StaticReference → Type 0
 VariableFits Ref v g = (level : ℕ) × (r : Reference) × (v ≡ Some (LocalRef level r))
 VariableFits Global v g = (v ≡ None) × ((r : StaticReference) × (g ≡ Some r))
 VariableFits Weak v g = (v ≡ None) × ((r : StaticReference) × (g ≡ Some r))
-VariableFits sort.FieldId v g = (f : Option FieldId) × (v ≡ Some (FieldHandle f))
-VariableFits sort.MethodId v g = (m : Option MethodId) × (v ≡ Some (MethodHandle m))
+VariableFits ty.FieldId v g = (f : Option FieldId) × (v ≡ Some (FieldHandle f))
+VariableFits ty.MethodId v g = (m : Option MethodId) × (v ≡ Some (MethodHandle m))
 VariableFits (Buffer t writable) v g = (b : Buffer_) × (v ≡ Some (Elements t b))
 VariableFits (Array t size) v g = (zs : List ℤ) × (v ≡ Some (LocalArray t zs))
 VariableFits Truth v g = ⊥
-VariableFits s v g = (n : Value) × (v ≡ Some (Scalar n)) × (value_sort n ≡ s)
+VariableFits s v g = (n : Value) × (v ≡ Some (Scalar n)) × (value_type n ≡ s)
 
 -- ---- references and buffers
 
@@ -77,7 +77,7 @@ IsOwned own vs p = (x : Identifier) (level l n : ℕ) → state_of p.regions x �
 
 -- the thread is at this point, where these names are those of weak statics
 pub record Stands (weak : WeakNames) (own : Owners) (statics : Statics) (vs : Variables) (frames : List Frame) (p : Point) : Type 0 where
-  pub sorts : (x : Identifier) (s : Sort) → sort_in p.names x ≡ Some s → VariableFits s (lookup x vs) (lookup x statics)
+  pub types : (x : Identifier) (s : ExprType) → type_in p.names x ≡ Some s → VariableFits s (lookup x vs) (lookup x statics)
   pub shows : (x : Identifier) (v : VariableState) → state_of p.regions x ≡ Some v → Shows vs v (lookup x vs)
   -- no other buffer is held
   pub held : (x : Identifier) (u : ElementType) (b : Buffer_) → lookup x vs ≡ Some (Elements u b) → (b ≡ NoBuffer)
@@ -89,7 +89,7 @@ pub record Stands (weak : WeakNames) (own : Owners) (statics : Statics) (vs : Va
   pub backed : (level n : ℕ) → owners p.regions vs level n ≤ copies (references_at level frames) n
   -- and is its variable's own
   pub owned : IsOwned own vs p
-  -- statics are weak as their sorts say, and only weak ones hold weak references
+  -- statics are weak as their types say, and only weak ones hold weak references
   pub kinds : AreOfKind weak p.names
   pub only : HoldWeakly weak statics
 

@@ -8,7 +8,7 @@ use Rattle.class_rules.specs.Class.{Classes}
 use Rattle.syntax.specs.Tree.{SourceUnit, Block}
 use Rattle.jni.specs.JniFunction.{JniFunction, GetBuffer, ReleaseBuffer, prototype, calls_method}
 use Rattle.jni.specs.Prototype.{ResultKind, NewLocal, GivesInt, GivesNothing}
-use Rattle.type_rules.specs.SortRules.{IsSorted}
+use Rattle.type_rules.specs.TypeRules.{IsWellTyped}
 use Rattle.semantics.specs.Journal.{Journal}
 use Rattle.semantics.specs.World.{Invocation, World}
 use Rattle.semantics.specs.Activation.{function_at, class_of_function}
@@ -173,4 +173,4 @@ IsSafe unit w = (journal : Journal) (s : State) (k : ℕ) (t : Thread) → repla
 
 -- an accepted unit is safe in each world that goes with it
 abbrev pub AcceptedIsSafe : Type 0
-AcceptedIsSafe = (unit : SourceUnit) (w : World) → IsSorted unit → HasRegions unit → Loads unit w → HasCalls w → IsSafe unit w
+AcceptedIsSafe = (unit : SourceUnit) (w : World) → IsWellTyped unit → HasRegions unit → Loads unit w → HasCalls w → IsSafe unit w

@@ -6,9 +6,9 @@ use Rattle.syntax.specs.Tree.{Stmt, If, IfElse, While, Block, End, Next, Argumen
 use Rattle.jni.specs.Access.{Access, is_critical}
 use Rattle.jni.specs.JniFunction.{JniFunction, GetBuffer, ReleaseBuffer, DeleteLocalRef, PushLocalFrame, PopLocalFrame, parameters_for, takes_count, prototype}
 use Rattle.jni.specs.Prototype.{ResultKind, NewLocal, NewGlobal, NewWeak, GivesFlag, GivesInt, GivesField, GivesMethod, GivesBuffer}
-use Rattle.type_rules.specs.Sorts.{Sort, Jint, Flag, Truth, Ref, Global, Weak, Buffer, Array, sort_in, is_buffer_for}
-use Rattle.type_rules.specs.Sorts as sort
-use Rattle.type_rules.specs.SortGroups.{IsIndexSort, IsNumberSort}
+use Rattle.type_rules.specs.ExprTypes.{ExprType, Jint, Flag, Truth, Ref, Global, Weak, Buffer, Array, type_in, is_buffer_for}
+use Rattle.type_rules.specs.ExprTypes as ty
+use Rattle.type_rules.specs.TypeGroups.{IsIndexType, IsNumberType}
 use Rattle.region_rules.specs.RegionRules.{is_critical_call}
 use Rattle.region_rules.specs.RegionStates.{RegionState, VariableState, Free, Untested, Usable, ReferenceAt, BufferIn, state_of, with_new, with_changed, made_free, after_call, get_of, buffer_from, has_commit, FunctionCall}
 use Rattle.region_rules.specs.Regions.{made_usable}
@@ -19,7 +19,7 @@ use Rattle.semantics.specs.Term as term
 use Rattle.semantics.specs.Value.{Value}
 use Rattle.semantics.specs.Value as value
 use Rattle.semantics.specs.Variable.{Variables}
-use Rattle.semantics_safety.specs.Points.{Point, AreOnce, IsLive, ElementsFit, HasSort, OperandsFit, owners}
+use Rattle.semantics_safety.specs.Points.{Point, AreOnce, IsLive, ElementsFit, HasType, OperandsFit, owners}
 
 -- ---- points that follow
 
@@ -28,7 +28,7 @@ abbrev pub at : Point → RegionState → Point
 at p regions = record p { regions = regions }
 
 -- with one more name
-abbrev pub named : Point → Identifier → Sort → Point
+abbrev pub named : Point → Identifier → ExprType → Point
 named p x s = record p { names = (x, s) ∷ p.names }
 
 -- a buffer that is not free, with its access and the variable of its array or string
@@ -41,13 +41,13 @@ IsUnused p a = (x : Identifier) (access : Access) → Holds p x access a → ⊥
 
 -- a name that a declaration may take: nothing is known of it, and no buffer is of it
 pub record IsNew (p : Point) (x : Identifier) : Type 0 where
-  pub unnamed : sort_in p.names x ≡ None
+  pub unnamed : type_in p.names x ≡ None
   pub unknown : state_of p.regions x ≡ None
   pub unused : IsUnused p x
 
 -- from the end of a block to the point after it: what is known there was known here, and what is forgotten holds nothing
 pub record Closes (inner outer : Point) : Type 0 where
-  pub names : (x : Identifier) (s : Sort) → sort_in outer.names x ≡ Some s → sort_in inner.names x ≡ Some s
+  pub names : (x : Identifier) (s : ExprType) → type_in outer.names x ≡ Some s → type_in inner.names x ≡ Some s
   pub known : (x : Identifier) (v : VariableState) → state_of outer.regions x ≡ Some v → state_of inner.regions x ≡ Some v
   pub held : (x : Identifier) (access : Access) (a : Identifier) → Holds inner x access a → Holds outer x access a
   pub frames : inner.regions.frames ≡ outer.regions.frames
@@ -60,7 +60,7 @@ Outside k inner = (outer : Point) × Closes inner outer × k outer
 
 -- ---- tests
 
--- what a test teaches on its two ways: nothing, or whether a buffer is NULL; a value has chosen its way
+-- what a test teaches on its two paths: nothing, or whether a buffer is NULL; a value has chosen its path
 pub data Teaches (p : Point) : Term → Point → Point → Type 0 where
   Nothing : (t : Term) → Teaches p t p p
   ForNull : (x : Identifier) → Teaches p (IsNull true x) (at p (with_changed p.regions x made_free)) (at p (with_changed p.regions x made_usable))
@@ -84,8 +84,8 @@ call_seen f operands = Some (f, map operand_argument operands)
 abbrev pub DeclaresNull : Point → VariableKind → Identifier → (Point → Type 0) → Type 0
 DeclaresNull p ScalarKind x k = ⊥
 DeclaresNull p ReferenceKind x k = IsNew p x × k (at (named p x Ref) (with_new p.regions x (ReferenceAt p.regions.frames true)))
-DeclaresNull p FieldKind x k = IsNew p x × k (named p x sort.FieldId)
-DeclaresNull p MethodKind x k = IsNew p x × k (named p x sort.MethodId)
+DeclaresNull p FieldKind x k = IsNew p x × k (named p x ty.FieldId)
+DeclaresNull p MethodKind x k = IsNew p x × k (named p x ty.MethodId)
 DeclaresNull p (BufferKind t) x k = IsNew p x × ((writable : Bool) × k (at (named p x (Buffer t writable)) (with_new p.regions x (BufferIn Free))))
 
 -- a reference is set where the frames are those of its declaration, and no buffer is of it
@@ -99,19 +99,19 @@ abbrev pub revived : VariableState → VariableState
 revived (ReferenceAt level live) = ReferenceAt level true
 revived (BufferIn b) = BufferIn b
 
--- a variable of this sort gets NULL
-abbrev pub AssignsNull : Point → Option Sort → Identifier → (Point → Type 0) → Type 0
+-- a variable of this type gets NULL
+abbrev pub AssignsNull : Point → Option ExprType → Identifier → (Point → Type 0) → Type 0
 AssignsNull p (Some Ref) x k = MaySet p x × k (at p (with_changed p.regions x revived))
 AssignsNull p (Some Global) x k = k p
 AssignsNull p (Some Weak) x k = k p
-AssignsNull p (Some sort.FieldId) x k = k p
-AssignsNull p (Some sort.MethodId) x k = k p
+AssignsNull p (Some ty.FieldId) x k = k p
+AssignsNull p (Some ty.MethodId) x k = k p
 AssignsNull p s x k = ⊥
 
 -- NULL goes to a target
 abbrev pub SetsNullThere : Point → Target → (Point → Type 0) → Type 0
 SetsNullThere p (Declared kind x) k = DeclaresNull p kind x k
-SetsNullThere p (Assigned x) k = AssignsNull p (sort_in p.names x) x k
+SetsNullThere p (Assigned x) k = AssignsNull p (type_in p.names x) x k
 SetsNullThere p target k = ⊥
 
 -- a declared variable of this kind gets a call's result
@@ -119,22 +119,22 @@ abbrev pub DeclaresResult : Point → VariableKind → Identifier → ResultKind
 DeclaresResult p ScalarKind x GivesInt get k = IsNew p x × k (named p x Jint)
 DeclaresResult p ScalarKind x GivesFlag get k = IsNew p x × k (named p x Flag)
 DeclaresResult p ReferenceKind x NewLocal get k = IsNew p x × k (at (named p x Ref) (with_new p.regions x (ReferenceAt p.regions.frames true)))
-DeclaresResult p FieldKind x GivesField get k = IsNew p x × k (named p x sort.FieldId)
-DeclaresResult p MethodKind x GivesMethod get k = IsNew p x × k (named p x sort.MethodId)
+DeclaresResult p FieldKind x GivesField get k = IsNew p x × k (named p x ty.FieldId)
+DeclaresResult p MethodKind x GivesMethod get k = IsNew p x × k (named p x ty.MethodId)
 DeclaresResult p (BufferKind t) x (GivesBuffer access) get k =
     IsNew p x × ((writable : Bool) × (is_buffer_for access (Some (Buffer t writable)) ≡ true)
     × k (at (named p x (Buffer t writable)) (with_new p.regions x (BufferIn (buffer_from get)))))
 DeclaresResult p kind x result get k = ⊥
 
--- a variable of this sort gets a call's result
-abbrev pub AssignsResult : Point → Option Sort → Identifier → ResultKind → Option (Access × Option Identifier) → (Point → Type 0) → Type 0
+-- a variable of this type gets a call's result
+abbrev pub AssignsResult : Point → Option ExprType → Identifier → ResultKind → Option (Access × Option Identifier) → (Point → Type 0) → Type 0
 AssignsResult p (Some Jint) x GivesInt get k = k p
 AssignsResult p (Some Flag) x GivesFlag get k = k p
 AssignsResult p (Some Ref) x NewLocal get k = MaySet p x × k (at p (with_changed p.regions x revived))
 AssignsResult p (Some Global) x NewGlobal get k = k p
 AssignsResult p (Some Weak) x NewWeak get k = k p
-AssignsResult p (Some sort.FieldId) x GivesField get k = k p
-AssignsResult p (Some sort.MethodId) x GivesMethod get k = k p
+AssignsResult p (Some ty.FieldId) x GivesField get k = k p
+AssignsResult p (Some ty.MethodId) x GivesMethod get k = k p
 AssignsResult p (Some (Buffer t writable)) x (GivesBuffer access) get k =
     (state_of p.regions x ≡ Some (BufferIn Free)) × (is_buffer_for access (Some (Buffer t writable)) ≡ true)
     × k (at p (with_changed p.regions x (λ old. BufferIn (buffer_from get))))
@@ -149,7 +149,7 @@ MayDrop result = Unit {0}
 
 -- ---- calls
 
--- what a call asks of its point, beside the sorts of its arguments
+-- what a call asks of its point, beside the types of its arguments
 abbrev pub CallKeeps : Point → JniFunction → List Argument → Type 0
 CallKeeps p (GetBuffer access) (tree.Value (tree.Variable a) ∷ rest) = IsLive p a
 CallKeeps p (GetBuffer access) arguments = ⊥
@@ -182,7 +182,7 @@ is_push PushLocalFrame = true
 is_push f = false
 
 -- a bare name that is returned
-abbrev pub ReturnedFits : Point → Identifier → Option Sort → Type 0
+abbrev pub ReturnedFits : Point → Identifier → Option ExprType → Type 0
 ReturnedFits p x (Some Ref) = IsLive p x
 ReturnedFits p x (Some Jint) = Unit {0}
 ReturnedFits p x s = ⊥
@@ -190,37 +190,37 @@ ReturnedFits p x s = ⊥
 -- what is returned: NULL, a live reference or a number
 abbrev pub ReturnFits : Point → Term → Type 0
 ReturnFits p (term.Named tree.Null) = Unit {0}
-ReturnFits p (Read x) = ReturnedFits p x (sort_in p.names x)
-ReturnFits p t = HasSort p t Jint
+ReturnFits p (Read x) = ReturnedFits p x (type_in p.names x)
+ReturnFits p t = HasType p t Jint
 
 -- a number variable that is there, or a new one
-abbrev pub SetsNumber : Identifier → Sort → (Point → Type 0) → Point → Type 0
-SetsNumber x s k p = (sort_in p.names x ≡ Some s) × k p ⊎ IsNew p x × k (named p x s)
+abbrev pub SetsNumber : Identifier → ExprType → (Point → Type 0) → Point → Type 0
+SetsNumber x s k p = (type_in p.names x ≡ Some s) × k p ⊎ IsNew p x × k (named p x s)
 
 -- a result goes to a target that isn't a test
 abbrev pub ResultGoes : Target → ResultKind → Option (Access × Option Identifier) → (Point → Type 0) → Point → Type 0
 ResultGoes (Declared kind x) result get k p = DeclaresResult p kind x result get k
-ResultGoes (Assigned x) result get k p = AssignsResult p (sort_in p.names x) x result get k
+ResultGoes (Assigned x) result get k p = AssignsResult p (type_in p.names x) x result get k
 ResultGoes (Tested then' else') result get k p = ⊥
 ResultGoes Dropped result get k p = MayDrop result × k p
 
 -- a call, its result aside
 pub record CallFits (p : Point) (f : JniFunction) (operands : List Operand) : Type 0 where
-  pub sorts : OperandsFit p (parameters_for f (length operands)) operands
+  pub types : OperandsFit p (parameters_for f (length operands)) operands
   pub count : IsTrue (takes_count f (length operands))
   pub views : MeetsViews p f
   pub rules : CallKeeps p f (map operand_argument operands)
 
 -- a task without blocks
 abbrev pub RunsPlain : Task → (Point → Type 0) → Point → Type 0
-RunsPlain (SetScalar line x t) k p = (s : Sort) × IsNumberSort s × HasSort p t s × SetsNumber x s k p
-RunsPlain (SetElement line x i t) k p = ElementsFit p x (sort_in p.names x) × ((r : Sort) × IsIndexSort r × HasSort p i r) × HasSort p t Jint × k p
+RunsPlain (SetScalar line x t) k p = (s : ExprType) × IsNumberType s × HasType p t s × SetsNumber x s k p
+RunsPlain (SetElement line x i t) k p = ElementsFit p x (type_in p.names x) × ((r : ExprType) × IsIndexType r × HasType p i r) × HasType p t Jint × k p
 RunsPlain (SetNull target) k p = SetsNullThere p target k
 RunsPlain (MakeArray t x size) k p = IsNew p x × k (named p x (Array t size))
 RunsPlain (Invoke line target f operands) k p =
     CallFits p f operands × (is_push f ≡ false) × ResultGoes target (prototype f).result
     (get_of (call_seen f operands)) k (at p (after_call p.regions (call_seen f operands)))
-RunsPlain (Print line t) k p = HasSort p t Jint × HasNoView p × k p
+RunsPlain (Print line t) k p = HasType p t Jint × HasNoView p × k p
 RunsPlain task.Return k p = MayReturnFrom p
 RunsPlain (task.ReturnValue line t) k p = ReturnFits p t × MayReturnFrom p
 RunsPlain task k p = ⊥
@@ -233,9 +233,9 @@ RunsPush task on_true on_false p = ⊥
 
 -- ---- statements and blocks
 
--- a test of an expression, with what is wanted on its two ways
+-- a test of an expression, with what is wanted on its two paths
 abbrev pub RunsTest : Term → (on_true on_false : Point → Type 0) → Point → Type 0
-RunsTest t on_true on_false p = HasSort p t Truth × ((a b : Point) × Teaches p t a b × on_true a × on_false b)
+RunsTest t on_true on_false p = HasType p t Truth × ((a b : Point) × Teaches p t a b × on_true a × on_false b)
 
 abbrev mutual
   -- from this point on the block's statements break no rule, and what is wanted after it holds
@@ -250,20 +250,20 @@ abbrev mutual
   RunsStmt (IfElse line (TestExpr e) then' else') k p = RunsTest (term_of e) (RunsBlock then' (Outside k)) (RunsBlock else' (Outside k)) p
   RunsStmt (IfElse line (TestCall c) then' else') k p = RunsPush (task_of (IfElse line (TestCall c) then' else'))
       (RunsBlock then' (Outside k)) (RunsBlock else' (Outside k)) p
-  RunsStmt (While line e body) k p = HasSort p (term_of e) Truth × RunsBlock body (λ q. Closes q p) p × k p
+  RunsStmt (While line e body) k p = HasType p (term_of e) Truth × RunsBlock body (λ q. Closes q p) p × k p
   RunsStmt s k p = RunsPlain (task_of s) k p
 
 -- ---- tasks
 
 -- a turn of a loop leads back to its beginning
 abbrev pub Turns : Expr → Block → Point → Type 0
-Turns e body p = HasSort p (term_of e) Truth × RunsBlock body (λ q. Closes q p) p
+Turns e body p = HasType p (term_of e) Truth × RunsBlock body (λ q. Closes q p) p
 
 -- from this point on the task breaks no rule, and what is wanted after it holds
 abbrev pub Runs : Task → (Point → Type 0) → Point → Type 0
 Runs (Branch line t then' else') k p = RunsTest t (RunsBlock then' (Outside k)) (RunsBlock else' (Outside k)) p
 Runs EndIf k p = Outside k p
-Runs (Loop line e t body) k p = HasSort p t Truth × Turns e body p × k p
+Runs (Loop line e t body) k p = HasType p t Truth × Turns e body p × k p
 Runs (EndTurn line e body) k p = (q : Point) × Closes p q × Turns e body q × k q
 Runs (Invoke line (Tested then' else') f operands) k p = RunsPush (Invoke line (Tested then' else') f operands)
     (RunsBlock then' (Outside k)) (RunsBlock else' (Outside k)) p

@@ -13,8 +13,8 @@ use Rattle.class_rules.specs.Class.{Classes, class_kind, is_object_array}
 use Rattle.class_rules.specs.Fields.{FieldId}
 use Rattle.jni.specs.JniFunction.{JniFunction, parameters_for, is_allowed_pending}
 use Rattle.jni.specs.Prototype.{ParameterKind, Nullable, NonNull, AnyReference, ClassObject, AnyArray, ObjectArray, StringObject, NumberArray, LocalVariable, StaticVariable, WeakVariable, FieldID, MethodID, Passed, IntNumber, TextBytes, ArrayVariable, BufferVariable, Mode, IsCopy}
-use Rattle.type_rules.specs.Sorts as sort
-use Rattle.type_rules.specs.Sorts.{Sort, sort_in}
+use Rattle.type_rules.specs.ExprTypes as ty
+use Rattle.type_rules.specs.ExprTypes.{ExprType, type_in}
 use Rattle.semantics.specs.Arguments.{Actual, ReferenceActual, FieldActual, look_up, reference_in_actual, name_or_zero, field_in_actual, text_in_actual, variable_in_actual}
 use Rattle.semantics.specs.CallTable.{go_together}
 use Rattle.semantics.specs.Checks.{call_trap, first_trap, is_deleted, is_missing, is_misfit}
@@ -208,7 +208,7 @@ module _ (classes : Classes) (heap : Heap) (ss : Statics) (vs : Variables) (fram
   one_known FieldID o fit text d m f = absurd fit
   one_known MethodID o fit text d m f = tt
   one_known Passed o fit text d m f = tt
-  one_known (ArrayVariable t) (Given (tree.Value (tree.Variable x))) fit text d m f = let h = stands.sorts x (sort.Array t fit.0) fit.1 in (h.0, h.1)
+  one_known (ArrayVariable t) (Given (tree.Value (tree.Variable x))) fit text d m f = let h = stands.types x (ty.Array t fit.0) fit.1 in (h.0, h.1)
   one_known (ArrayVariable t) o fit text d m f = absurd fit
   one_known Nullable o fit text d m f = tt
   one_known NonNull o fit text d m f = tt

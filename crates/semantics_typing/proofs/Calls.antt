@@ -20,7 +20,7 @@ use Rattle.jni.specs.Access.{Access, ElementsCopy, ArrayView, CharsCopy, CharsVi
 use Rattle.jni.specs.JniFunction as jni
 use Rattle.jni.specs.JniFunction.{JniFunction, parameters_for, prototype}
 use Rattle.jni.specs.Prototype.{ParameterKind, ClassObject, ObjectArray, StringObject, NumberArray, FieldID, TextBytes, ArrayVariable, ResultKind}
-use Rattle.type_rules.specs.Sorts.{Buffer, is_buffer_for}
+use Rattle.type_rules.specs.ExprTypes.{Buffer, is_buffer_for}
 use Rattle.semantics.specs.Answer.{Answer, Region, with_region_got, with_region_set}
 use Rattle.semantics.specs.Answer as answer
 use Rattle.semantics.specs.Arguments.{Actual, reference_given, object_given, text_given, field_given, variable_given}

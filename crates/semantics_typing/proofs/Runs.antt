@@ -11,7 +11,7 @@ use Rattle.class_rules.specs.Mangling.{IsInverse}
 use Rattle.jni.specs.JniFunction.{GetStaticMethodID}
 use Rattle.syntax.specs.Tree.{SourceUnit}
 use Rattle.region_rules.specs.Regions.{HasRegions}
-use Rattle.type_rules.specs.SortRules.{IsSorted}
+use Rattle.type_rules.specs.TypeRules.{IsWellTyped}
 use Rattle.semantics.specs.Arguments.{Actual}
 use Rattle.semantics.specs.Effect.{Calls, effect_of}
 use Rattle.semantics.specs.Heap.{Heap}
@@ -121,7 +121,7 @@ calls_there [] h = refl
 calls_there ([] ∷ threads) h = absurd (cc)
 calls_there ((call ∷ calls) ∷ threads) h = calls_there threads h
 
-module _ (unit : SourceUnit) (w : World) (sorted : IsSorted unit) (regions : HasRegions unit) (all : HasTexts unit) (loads : Loads unit w) (sound : IsSound w) (inverse : IsInverse) where
+module _ (unit : SourceUnit) (w : World) (well_typed : IsWellTyped unit) (regions : HasRegions unit) (all : HasTexts unit) (loads : Loads unit w) (sound : IsSound w) (inverse : IsInverse) where
   has : HasCalls w
   has = calls_there w.threads sound.calls
 
@@ -153,7 +153,7 @@ module _ (unit : SourceUnit) (w : World) (sorted : IsSorted unit) (regions : Has
     thread_next : (o : Option Thread) → thread_at s k ≡ o → step_of unit w.classes s k refused o ≡ Some next → IsNext w.methods w.classes s next
     thread_next None there e = absurd (cc)
     thread_next (Some t) there e =
-        let stands = unit_is_sound inverse unit w sorted regions loads has journal s k t replayed there in
+        let stands = unit_is_sound inverse unit w well_typed regions loads has journal s k t replayed there in
         let typed = thread_in (IsTypedThread w.classes s.shared.heap) s k t h.typed.variables there in
         let texts = thread_in (λ (t : Thread). AllByRecursion (λ (c : Caller). HaveTexts w.methods c.tasks) t.callers) s k t h.below there in
         let below = all_both (λ (c : Caller). AreTypedVariables w.classes s.shared.heap c.variables) (λ (c : Caller). HaveTexts w.methods c.tasks) t.callers typed.1 texts in
@@ -225,4 +225,4 @@ module _ (unit : SourceUnit) (w : World) (sorted : IsSorted unit) (regions : Has
 
 -- an accepted unit's runs are typed
 pub unit_is_typed : IsInverse → AcceptedIsTyped
-unit_is_typed inverse unit w sorted regions all loads sound = runs unit w sorted regions all loads sound inverse
+unit_is_typed inverse unit w well_typed regions all loads sound = runs unit w well_typed regions all loads sound inverse

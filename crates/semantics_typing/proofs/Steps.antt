@@ -16,8 +16,8 @@ use Rattle.class_rules.specs.Grown.{IsGrown}
 use Rattle.jni.specs.Access.{Access, ElementsCopy, ArrayView, CharsCopy, CharsView}
 use Rattle.jni.specs.JniFunction.{JniFunction, GetBuffer, ReleaseBuffer, PushLocalFrame, GetStaticMethodID, parameters_for}
 use Rattle.jni.specs.Prototype.{ResultKind, NewLocal, NewGlobal, NewWeak, GivesFlag, GivesInt, GivesField, GivesMethod, GivesNothing, GivesBuffer}
-use Rattle.type_rules.specs.Sorts.{Sort, Buffer, is_buffer_for, sort_in}
-use Rattle.type_rules.specs.Sorts as sort
+use Rattle.type_rules.specs.ExprTypes.{ExprType, Buffer, is_buffer_for, type_in}
+use Rattle.type_rules.specs.ExprTypes as ty
 use Rattle.semantics.specs.Activation.{function_at, class_of_function, parameter_variables, entered, entered_function, enter, entry_advance}
 use Rattle.semantics.specs.Arguments.{Actual, ReferenceActual, actuals, object_given, variable_given, reference_in_actual, name_or_zero}
 use Rattle.semantics.specs.CallEffects.{CallResult, NoResult, NullResult, ScalarResult, ReferenceResult, WeakResult, FieldResult, MethodResult, BufferResult}
@@ -75,9 +75,9 @@ module _ (heap : Heap) (ss : Statics) (vs : Variables) (frames : List Frame) (p 
   got_declared FieldKind q x access get h = absurd h
   got_declared MethodKind q x access get h = absurd h
 
-  got_assigned : (o : Option Sort) (q : Point) (x : Identifier) (access : Access) (get : _) → sort_in p.names x ≡ o → AssignsResult q o x (GivesBuffer access) get k → (writable : Bool) × (is_buffer_for access (Some (Buffer (element_type (lookup x vs)) writable)) ≡ true)
-  got_assigned (Some (sort.Buffer t w)) q x access get e h =
-      let there = stands.sorts x (sort.Buffer t w) e in
+  got_assigned : (o : Option ExprType) (q : Point) (x : Identifier) (access : Access) (get : _) → type_in p.names x ≡ o → AssignsResult q o x (GivesBuffer access) get k → (writable : Bool) × (is_buffer_for access (Some (Buffer (element_type (lookup x vs)) writable)) ≡ true)
+  got_assigned (Some (ty.Buffer t w)) q x access get e h =
+      let there = stands.types x (ty.Buffer t w) e in
       (w, ap (λ (o : Option Variable). is_buffer_for access (Some (Buffer (element_type o) w))) there.1 ∙ h.1)
   got_assigned o q x access get e h = absurd h
 
@@ -86,7 +86,7 @@ module _ (heap : Heap) (ss : Statics) (vs : Variables) (frames : List Frame) (p 
 
   got : (line : ℕ) (target : Target) (access : Access) (operands : List Operand) → Runs (Invoke line target (GetBuffer access) operands) k p → (writable : Bool) × (is_buffer_for access (Some (Buffer (target_element vs target) writable)) ≡ true)
   got line (Declared kind x) access operands r = got_declared kind _ x access _ r.2
-  got line (Assigned x) access operands r = got_assigned (sort_in p.names x) _ x access _ refl r.2
+  got line (Assigned x) access operands r = got_assigned (type_in p.names x) _ x access _ refl r.2
   got line (Tested a b) access operands r = absurd (no_push access r.1)
   got line Dropped access operands r = absurd r.2.0
 
@@ -232,11 +232,11 @@ module _ (methods : Bool) (unit : SourceUnit) (classes : Classes) (well : Declar
         let checks = passed classes s.heap t (target_element t.variables target) f args none in
         let fits = call_fits s.heap s.statics t.variables t.frames p stands rest line target f operands runs in
         let with_args = subst (λ (l : List Actual). AllByRecursion HasActualText l × ArePassed classes s.heap (target_element t.variables target) f l) is (arg_texts, checks) in
-        let many = looked_up p (sight_of s t) (parameters_for f (length operands)) operands fits.sorts in
+        let many = looked_up p (sight_of s t) (parameters_for f (length operands)) operands fits.types in
         let asked : List Actual → ℕ → Type 0 = λ l n. (list_any is_missing (zip (parameters_for f n) l) ≡ false) × (list_any (is_misfit classes s.heap) (zip (parameters_for f n) l) ≡ false) in
         let checked = subst (asked (actuals (sight_of s t) f operands)) many (with_args.1.given, with_args.1.kinds) in
         let known = subst (λ (n : ℕ). AreKnownAs classes s.heap t.variables (parameters_for f n) (actuals (sight_of s t) f operands)) (sym many)
-        (all_known classes s.heap s.statics t.variables t.frames p stands vars (parameters_for f (length operands)) operands fits.sorts with_args.0 with_args.1.present checked.0 checked.1) in
+        (all_known classes s.heap s.statics t.variables t.frames p stands vars (parameters_for f (length operands)) operands fits.types with_args.0 with_args.1.present checked.0 checked.1) in
         subst (λ (l : List Actual). EffectFits classes (target_element t.variables target) s.heap t.variables (call_effect unit classes in_use k s t l f)) (sym is)
         (effect_fits unit classes well g in_use k s t typed vars (target_element t.variables target) (actuals (sight_of s t) f operands) f known with_args.1.together
         (ready s.heap s.statics t.variables t.frames p stands (GoesOn rest) classes line target f operands (can_throw f may) runs fits))))

@@ -228,16 +228,16 @@ module _ (methods : Bool) (sight : Sight) where
   print_texts (Int z) = tt
   print_texts v = tt
 
-  way_texts : (b : Block) (last : Task) → BlockFits methods b → TaskHasTexts methods last → HaveTexts methods (tasks_of b ++ last ∷ [])
-  way_texts b last h g = all_append (TaskHasTexts methods) (tasks_of b) (last ∷ []) (block_texts methods b h) (g, tt)
+  path_texts : (b : Block) (last : Task) → BlockFits methods b → TaskHasTexts methods last → HaveTexts methods (tasks_of b ++ last ∷ [])
+  path_texts b last h g = all_append (TaskHasTexts methods) (tasks_of b) (last ∷ []) (block_texts methods b h) (g, tt)
 
   branch_texts : (a b : Block) (v : Value) → BlockFits methods a → BlockFits methods b → EffectHasTexts methods (branch_effect a b v)
-  branch_texts a b (Truth true) x y = way_texts a EndIf x tt
-  branch_texts a b (Truth false) x y = way_texts b EndIf y tt
+  branch_texts a b (Truth true) x y = path_texts a EndIf x tt
+  branch_texts a b (Truth false) x y = path_texts b EndIf y tt
   branch_texts a b v x y = tt
 
   loop_texts : (line : ℕ) (test : Expr) (body : Block) (v : Value) → BlockFits methods body → EffectHasTexts methods (loop_effect line test body v)
-  loop_texts line test body (Truth true) h = way_texts body (EndTurn line test body) h h
+  loop_texts line test body (Truth true) h = path_texts body (EndTurn line test body) h h
   loop_texts line test body (Truth false) h = tt
   loop_texts line test body v h = tt
 

@@ -3,7 +3,7 @@ use Rattle.std.specs.Prelude.{◌≡◌, ℕ, true, List, Some}
 use Rattle.syntax.specs.Tree.{SourceUnit}
 use Rattle.jni.specs.JniFunction.{GetStaticMethodID}
 use Rattle.region_rules.specs.Regions.{HasRegions}
-use Rattle.type_rules.specs.SortRules.{IsSorted}
+use Rattle.type_rules.specs.TypeRules.{IsWellTyped}
 use Rattle.semantics.specs.Arguments.{Actual}
 use Rattle.semantics.specs.Effect.{Calls}
 use Rattle.semantics.specs.Journal.{Entry, Journal}
@@ -30,4 +30,4 @@ pub record RunsTyped (unit : SourceUnit) (w : World) : Type 0 where
 
 -- an accepted unit's runs are typed, in each world that goes with it; its texts are of bytes, as in memory
 abbrev pub AcceptedIsTyped : Type 0
-AcceptedIsTyped = (unit : SourceUnit) (w : World) → IsSorted unit → HasRegions unit → HasTexts unit → Loads unit w → IsSound w → RunsTyped unit w
+AcceptedIsTyped = (unit : SourceUnit) (w : World) → IsWellTyped unit → HasRegions unit → HasTexts unit → Loads unit w → IsSound w → RunsTyped unit w

@@ -153,7 +153,7 @@ fn after_right(left: usize, ints: &IntNames<'_>, right: &RightSide) -> Option<us
     }
 }
 
-/// What is left of `left` after the steps of a test and the choice of a way.
+/// What is left of `left` after the steps of a test and the choice of a path.
 fn after_test(left: usize, ints: &IntNames<'_>, test: &Test) -> Option<usize>
     ensures some { IfSome result (λ rest. rest + test_steps ints.now (test_tree test.now) ≡ left) }
     ensures none { IfNone result (left < test_steps ints.now (test_tree test.now)) }
@@ -184,19 +184,19 @@ fn after_form(left: usize, ints: &IntNames<'_>, returns: ResultType, form: &Form
     match form {
         Form::If(test, block) => after_one(after_first(left, ints, returns, test, block)?),
         Form::IfElse(test, block, other) => {
-            after_way(
+            after_path(
                 after_first(left, ints, returns, test, block)?,
                 ints,
                 returns,
                 other,
             )
         }
-        Form::While(test, body) => after_way(after_number(left, test)?, ints, returns, body),
+        Form::While(test, body) => after_path(after_number(left, test)?, ints, returns, body),
         _ => after_plain(left, ints, returns, form),
     }
 }
 
-/// What is left of `left` after the steps of a test and of the way that is taken where it holds.
+/// What is left of `left` after the steps of a test and of the path that is taken where it holds.
 #[cycle(statements)]
 fn after_first(
     left: usize,
@@ -209,7 +209,7 @@ fn after_first(
         + (test_steps ints.now (test_tree test.now) + (block_steps ints.now (result_tree returns) (block_tree block.now) + 1)) ≡ left) }
     ensures none { IfNone result (left < test_steps ints.now (test_tree test.now) + (block_steps ints.now (result_tree returns) (block_tree block.now) + 1)) }
 {
-    after_way(after_test(left, ints, test)?, ints, returns, block)
+    after_path(after_test(left, ints, test)?, ints, returns, block)
 }
 
 /// What is left of `left` after the steps of a statement without blocks.
@@ -235,7 +235,7 @@ fn after_plain(left: usize, ints: &IntNames<'_>, returns: ResultType, form: &For
 
 /// What is left of `left` after the steps of a block and the one at its end.
 #[cycle(statements)]
-fn after_way(left: usize, ints: &IntNames<'_>, returns: ResultType, block: &Block) -> Option<usize>
+fn after_path(left: usize, ints: &IntNames<'_>, returns: ResultType, block: &Block) -> Option<usize>
     ensures some { IfSome result (λ rest. rest + (block_steps ints.now (result_tree returns) (block_tree block.now) + 1) ≡ left) }
     ensures none { IfNone result (left < block_steps ints.now (result_tree returns) (block_tree block.now) + 1) }
 {

@@ -2,10 +2,10 @@
 use Rattle.std.specs.Prelude.{◌∷◌, true, false, [], codes, refl}
 use Rattle.base.specs.Element.{JInt}
 use Rattle.syntax.specs.Tree.{AssignElement, Binary, Declare, DeclareBuffer, Equal, FromCall, If, JIntArray, JIntVariable, JObject, Named, NotEqual, Null, Number, Perform, ReferenceVariable, Return, SourceUnit, TestCall, TestExpr, Value, Variable, Void}
-use Rattle.region_rules.specs.RegionRules.{CallWhileCritical, ReturnWithBuffer, UntestedBuffer, ReturnInFrame, DeadReference, WaysDiffer, NoReturn}
+use Rattle.region_rules.specs.RegionRules.{CallWhileCritical, ReturnWithBuffer, UntestedBuffer, ReturnInFrame, DeadReference, PathsDiffer, NoReturn}
 use Rattle.test_equations.specs.Claims.{IsRefused}
 use Rattle.test_equations.proofs.Programs.{unit_of, native, block, reference_parameter, call, given}
-use Rattle.test_equations.proofs.Computed.{opened, bad_way}
+use Rattle.test_equations.proofs.Computed.{opened, bad_path}
 
 -- length while critical
 -- JNIEXPORT void JNICALL Java_A_f(JNIEnv *env, jclass cls, jintArray a) {
@@ -32,7 +32,7 @@ length_while_critical =
 
 length_while_critical-refused : IsRefused length_while_critical 31 4
 unfolding opened
-length_while_critical-refused = bad_way length_while_critical CallWhileCritical 4 refl refl refl
+length_while_critical-refused = bad_path length_while_critical CallWhileCritical 4 refl refl refl
 
 -- returned with buffer
 -- JNIEXPORT void JNICALL Java_A_f(JNIEnv *env, jclass cls, jintArray a) {
@@ -57,7 +57,7 @@ returned_with_buffer =
 
 returned_with_buffer-refused : IsRefused returned_with_buffer 32 4
 unfolding opened
-returned_with_buffer-refused = bad_way returned_with_buffer ReturnWithBuffer 4 refl refl refl
+returned_with_buffer-refused = bad_path returned_with_buffer ReturnWithBuffer 4 refl refl refl
 
 -- set untested
 -- JNIEXPORT void JNICALL Java_A_f(JNIEnv *env, jclass cls, jintArray a) {
@@ -77,7 +77,7 @@ set_untested =
 
 set_untested-refused : IsRefused set_untested 34 3
 unfolding opened
-set_untested-refused = bad_way set_untested UntestedBuffer 3 refl refl refl
+set_untested-refused = bad_path set_untested UntestedBuffer 3 refl refl refl
 
 -- returned between frames
 -- JNIEXPORT void JNICALL Java_A_f(JNIEnv *env, jclass cls) {
@@ -100,7 +100,7 @@ returned_between_frames =
 
 returned_between_frames-refused : IsRefused returned_between_frames 36 3
 unfolding opened
-returned_between_frames-refused = bad_way returned_between_frames ReturnInFrame 3 refl refl refl
+returned_between_frames-refused = bad_path returned_between_frames ReturnInFrame 3 refl refl refl
 
 -- used after delete
 -- JNIEXPORT void JNICALL Java_A_f(JNIEnv *env, jclass cls) {
@@ -122,15 +122,15 @@ used_after_delete =
 
 used_after_delete-refused : IsRefused used_after_delete 38 4
 unfolding opened
-used_after_delete-refused = bad_way used_after_delete DeadReference 4 refl refl refl
+used_after_delete-refused = bad_path used_after_delete DeadReference 4 refl refl refl
 
--- deleted on one way
+-- deleted on one path
 -- JNIEXPORT void JNICALL Java_A_f(JNIEnv *env, jclass cls) {
 -- jobject x = (*env)->NewLocalRef(env, cls);
 -- if (1u == 1u) { (*env)->DeleteLocalRef(env, x); }
 -- return; }
-abbrev pub deleted_on_one_way : SourceUnit
-deleted_on_one_way =
+abbrev pub deleted_on_one_path : SourceUnit
+deleted_on_one_path =
     unit_of
     (native 1 Void (codes "Java_A_f") []
     (Declare 2 (ReferenceVariable JObject) (codes "x") (FromCall (call (codes "NewLocalRef") (given (codes "cls") ∷ [])))
@@ -144,9 +144,9 @@ deleted_on_one_way =
     4
     ∷ [])
 
-deleted_on_one_way-refused : IsRefused deleted_on_one_way 40 3
+deleted_on_one_path-refused : IsRefused deleted_on_one_path 40 3
 unfolding opened
-deleted_on_one_way-refused = bad_way deleted_on_one_way WaysDiffer 3 refl refl refl
+deleted_on_one_path-refused = bad_path deleted_on_one_path PathsDiffer 3 refl refl refl
 
 -- empty body
 -- JNIEXPORT void JNICALL Java_A_f(JNIEnv *env, jclass cls) { }
@@ -160,4 +160,4 @@ empty_body =
 
 empty_body-refused : IsRefused empty_body 42 1
 unfolding opened
-empty_body-refused = bad_way empty_body NoReturn 1 refl refl refl
+empty_body-refused = bad_path empty_body NoReturn 1 refl refl refl

@@ -5,7 +5,7 @@ use Rattle.syntax.specs.Tree.{Assign, AssignElement, Binary, Commit, Declare, De
 use Rattle.region_rules.specs.RegionRules.{CallWhileCritical, HeldBuffer, UntestedBuffer, WrongBuffer, ArrayInUse}
 use Rattle.test_equations.specs.Claims.{IsRefused}
 use Rattle.test_equations.proofs.Programs.{unit_of, native, block, static_reference, reference_parameter, call, given}
-use Rattle.test_equations.proofs.Computed.{opened, bad_way}
+use Rattle.test_equations.proofs.Computed.{opened, bad_path}
 
 -- got twice
 -- JNIEXPORT void JNICALL Java_A_f(JNIEnv *env, jclass cls, jintArray a) {
@@ -25,7 +25,7 @@ got_twice =
 
 got_twice-refused : IsRefused got_twice 33 3
 unfolding opened
-got_twice-refused = bad_way got_twice HeldBuffer 3 refl refl refl
+got_twice-refused = bad_path got_twice HeldBuffer 3 refl refl refl
 
 -- held at the end
 -- JNIEXPORT void JNICALL Java_A_f(JNIEnv *env, jclass cls, jintArray a) {
@@ -48,7 +48,7 @@ held_at_the_end =
 
 held_at_the_end-refused : IsRefused held_at_the_end 33 3
 unfolding opened
-held_at_the_end-refused = bad_way held_at_the_end HeldBuffer 3 refl refl refl
+held_at_the_end-refused = bad_path held_at_the_end HeldBuffer 3 refl refl refl
 
 -- read untested
 -- JNIEXPORT void JNICALL Java_A_f(JNIEnv *env, jclass cls, jintArray a) {
@@ -68,7 +68,7 @@ read_untested =
 
 read_untested-refused : IsRefused read_untested 34 3
 unfolding opened
-read_untested-refused = bad_way read_untested UntestedBuffer 3 refl refl refl
+read_untested-refused = bad_path read_untested UntestedBuffer 3 refl refl refl
 
 -- released untested
 -- JNIEXPORT void JNICALL Java_A_f(JNIEnv *env, jclass cls, jintArray a) {
@@ -88,7 +88,7 @@ released_untested =
 
 released_untested-refused : IsRefused released_untested 34 3
 unfolding opened
-released_untested-refused = bad_way released_untested UntestedBuffer 3 refl refl refl
+released_untested-refused = bad_path released_untested UntestedBuffer 3 refl refl refl
 
 -- never got
 -- JNIEXPORT void JNICALL Java_A_f(JNIEnv *env, jclass cls, jintArray a) {
@@ -111,7 +111,7 @@ never_got =
 
 never_got-refused : IsRefused never_got 35 3
 unfolding opened
-never_got-refused = bad_way never_got WrongBuffer 3 refl refl refl
+never_got-refused = bad_path never_got WrongBuffer 3 refl refl refl
 
 -- released for another
 -- JNIEXPORT void JNICALL Java_A_f(JNIEnv *env, jclass cls, jintArray a, jintArray b) {
@@ -136,7 +136,7 @@ released_for_another =
 
 released_for_another-refused : IsRefused released_for_another 35 4
 unfolding opened
-released_for_another-refused = bad_way released_for_another WrongBuffer 4 refl refl refl
+released_for_another-refused = bad_path released_for_another WrongBuffer 4 refl refl refl
 
 -- released as critical
 -- JNIEXPORT void JNICALL Java_A_f(JNIEnv *env, jclass cls, jintArray a) {
@@ -161,7 +161,7 @@ released_as_critical =
 
 released_as_critical-refused : IsRefused released_as_critical 35 4
 unfolding opened
-released_as_critical-refused = bad_way released_as_critical WrongBuffer 4 refl refl refl
+released_as_critical-refused = bad_path released_as_critical WrongBuffer 4 refl refl refl
 
 -- committed critical
 -- JNIEXPORT void JNICALL Java_A_f(JNIEnv *env, jclass cls, jintArray a) {
@@ -186,7 +186,7 @@ committed_critical =
 
 committed_critical-refused : IsRefused committed_critical 35 4
 unfolding opened
-committed_critical-refused = bad_way committed_critical WrongBuffer 4 refl refl refl
+committed_critical-refused = bad_path committed_critical WrongBuffer 4 refl refl refl
 
 -- used after release
 -- JNIEXPORT void JNICALL Java_A_f(JNIEnv *env, jclass cls, jintArray a) {
@@ -212,7 +212,7 @@ used_after_release =
 
 used_after_release-refused : IsRefused used_after_release 35 4
 unfolding opened
-used_after_release-refused = bad_way used_after_release WrongBuffer 4 refl refl refl
+used_after_release-refused = bad_path used_after_release WrongBuffer 4 refl refl refl
 
 -- printed while critical
 -- JNIEXPORT void JNICALL Java_A_f(JNIEnv *env, jclass cls, jintArray a) {
@@ -232,7 +232,7 @@ printed_while_critical =
 
 printed_while_critical-refused : IsRefused printed_while_critical 31 3
 unfolding opened
-printed_while_critical-refused = bad_way printed_while_critical CallWhileCritical 3 refl refl refl
+printed_while_critical-refused = bad_path printed_while_critical CallWhileCritical 3 refl refl refl
 
 -- released as copy
 -- JNIEXPORT void JNICALL Java_A_f(JNIEnv *env, jclass cls, jintArray a) {
@@ -257,7 +257,7 @@ released_as_copy =
 
 released_as_copy-refused : IsRefused released_as_copy 31 4
 unfolding opened
-released_as_copy-refused = bad_way released_as_copy CallWhileCritical 4 refl refl refl
+released_as_copy-refused = bad_path released_as_copy CallWhileCritical 4 refl refl refl
 
 -- array set
 -- JNIEXPORT void JNICALL Java_A_f(JNIEnv *env, jclass cls, jintArray a) {
@@ -277,7 +277,7 @@ array_set =
 
 array_set-refused : IsRefused array_set 39 3
 unfolding opened
-array_set-refused = bad_way array_set ArrayInUse 3 refl refl refl
+array_set-refused = bad_path array_set ArrayInUse 3 refl refl refl
 
 -- array deleted
 -- JNIEXPORT void JNICALL Java_A_f(JNIEnv *env, jclass cls, jintArray a) {
@@ -297,7 +297,7 @@ array_deleted =
 
 array_deleted-refused : IsRefused array_deleted 39 3
 unfolding opened
-array_deleted-refused = bad_way array_deleted ArrayInUse 3 refl refl refl
+array_deleted-refused = bad_path array_deleted ArrayInUse 3 refl refl refl
 
 -- array of a static
 -- static jobject g = NULL;
@@ -317,7 +317,7 @@ array_of_a_static =
 
 array_of_a_static-refused : IsRefused array_of_a_static 39 3
 unfolding opened
-array_of_a_static-refused = bad_way array_of_a_static ArrayInUse 3 refl refl refl
+array_of_a_static-refused = bad_path array_of_a_static ArrayInUse 3 refl refl refl
 
 -- array popped
 -- JNIEXPORT void JNICALL Java_A_f(JNIEnv *env, jclass cls) {
@@ -345,7 +345,7 @@ array_popped =
 
 array_popped-refused : IsRefused array_popped 39 5
 unfolding opened
-array_popped-refused = bad_way array_popped ArrayInUse 5 refl refl refl
+array_popped-refused = bad_path array_popped ArrayInUse 5 refl refl refl
 
 -- array null
 -- JNIEXPORT void JNICALL Java_A_f(JNIEnv *env, jclass cls) {
@@ -363,4 +363,4 @@ array_null =
 
 array_null-refused : IsRefused array_null 39 2
 unfolding opened
-array_null-refused = bad_way array_null ArrayInUse 2 refl refl refl
+array_null-refused = bad_path array_null ArrayInUse 2 refl refl refl

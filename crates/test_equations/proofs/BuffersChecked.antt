@@ -7,10 +7,10 @@ use Rattle.semantics.specs.World.{World}
 use Rattle.world_values.specs.WorldLines.{NumberValue, NullValue, NamedObject, ClassLine, ArrayLine, ThreadLine, Lines}
 use Rattle.world_values.specs.WorldMeaning.{world_of}
 use Rattle.world_values.specs.WorldRules.{IsWorldText}
-use Rattle.region_rules.specs.RegionRules.{CallWhileCritical, ReturnWithBuffer, HeldBuffer, UntestedBuffer, WrongBuffer, WaysDiffer}
+use Rattle.region_rules.specs.RegionRules.{CallWhileCritical, ReturnWithBuffer, HeldBuffer, UntestedBuffer, WrongBuffer, PathsDiffer}
 use Rattle.test_equations.specs.Claims.{IsAccepted, IsRefused, IsWorkedRun}
 use Rattle.test_equations.proofs.Programs.{unit_of, native, block, reference_parameter, call, given}
-use Rattle.test_equations.proofs.Computed.{opened, accepted, bad_way, world-text, worked-run}
+use Rattle.test_equations.proofs.Computed.{opened, accepted, bad_path, world-text, worked-run}
 
 -- GetIntArrayElements of an array of another kind
 -- JNIEXPORT void JNICALL Java_A_f(JNIEnv *env, jclass cls, jobject a) {
@@ -276,9 +276,9 @@ a_copy_is_made_while_a_buffer_is_critical =
 
 a_copy_is_made_while_a_buffer_is_critical-refused : IsRefused a_copy_is_made_while_a_buffer_is_critical 31 4
 unfolding opened
-a_copy_is_made_while_a_buffer_is_critical-refused = bad_way a_copy_is_made_while_a_buffer_is_critical CallWhileCritical 4 refl refl refl
+a_copy_is_made_while_a_buffer_is_critical-refused = bad_path a_copy_is_made_while_a_buffer_is_critical CallWhileCritical 4 refl refl refl
 
--- a return on the way where the second buffer is NULL
+-- a return on the path where the second buffer is NULL
 -- JNIEXPORT void JNICALL Java_A_f(JNIEnv *env, jclass cls, jintArray a) {
 -- jint *p = (*env)->GetIntArrayElements(env, a, NULL);
 -- if (p == NULL) {
@@ -290,8 +290,8 @@ a_copy_is_made_while_a_buffer_is_critical-refused = bad_way a_copy_is_made_while
 -- }
 -- return;
 -- }
-abbrev pub a_return_on_the_way_where_the_second_buffer_is_null : SourceUnit
-a_return_on_the_way_where_the_second_buffer_is_null =
+abbrev pub a_return_on_the_path_where_the_second_buffer_is_null : SourceUnit
+a_return_on_the_path_where_the_second_buffer_is_null =
     unit_of
     (native 1 Void (codes "Java_A_f") (reference_parameter JIntArray (codes "a") ∷ [])
     (DeclareBuffer 2 JInt (codes "p") (FromCall (call (codes "GetIntArrayElements") (given (codes "a") ∷ Value (Named Null) ∷ [])))
@@ -311,9 +311,9 @@ a_return_on_the_way_where_the_second_buffer_is_null =
     11
     ∷ [])
 
-a_return_on_the_way_where_the_second_buffer_is_null-refused : IsRefused a_return_on_the_way_where_the_second_buffer_is_null 32 8
+a_return_on_the_path_where_the_second_buffer_is_null-refused : IsRefused a_return_on_the_path_where_the_second_buffer_is_null 32 8
 unfolding opened
-a_return_on_the_way_where_the_second_buffer_is_null-refused = bad_way a_return_on_the_way_where_the_second_buffer_is_null ReturnWithBuffer 8 refl refl refl
+a_return_on_the_path_where_the_second_buffer_is_null-refused = bad_path a_return_on_the_path_where_the_second_buffer_is_null ReturnWithBuffer 8 refl refl refl
 
 -- a loop's body ends with a buffer that it declares
 -- JNIEXPORT void JNICALL Java_A_f(JNIEnv *env, jclass cls, jintArray a) {
@@ -338,7 +338,7 @@ a_loop_s_body_ends_with_a_buffer_that_it_declares =
 
 a_loop_s_body_ends_with_a_buffer_that_it_declares-refused : IsRefused a_loop_s_body_ends_with_a_buffer_that_it_declares 33 4
 unfolding opened
-a_loop_s_body_ends_with_a_buffer_that_it_declares-refused = bad_way a_loop_s_body_ends_with_a_buffer_that_it_declares HeldBuffer 4 refl refl refl
+a_loop_s_body_ends_with_a_buffer_that_it_declares-refused = bad_path a_loop_s_body_ends_with_a_buffer_that_it_declares HeldBuffer 4 refl refl refl
 
 -- a test beside another teaches nothing
 -- JNIEXPORT void JNICALL Java_A_f(JNIEnv *env, jclass cls, jintArray a) {
@@ -365,7 +365,7 @@ a_test_beside_another_teaches_nothing =
 
 a_test_beside_another_teaches_nothing-refused : IsRefused a_test_beside_another_teaches_nothing 34 4
 unfolding opened
-a_test_beside_another_teaches_nothing-refused = bad_way a_test_beside_another_teaches_nothing UntestedBuffer 4 refl refl refl
+a_test_beside_another_teaches_nothing-refused = bad_path a_test_beside_another_teaches_nothing UntestedBuffer 4 refl refl refl
 
 -- a loop's test teaches nothing
 -- JNIEXPORT void JNICALL Java_A_f(JNIEnv *env, jclass cls, jintArray a) {
@@ -392,7 +392,7 @@ a_loop_s_test_teaches_nothing =
 
 a_loop_s_test_teaches_nothing-refused : IsRefused a_loop_s_test_teaches_nothing 34 4
 unfolding opened
-a_loop_s_test_teaches_nothing-refused = bad_way a_loop_s_test_teaches_nothing UntestedBuffer 4 refl refl refl
+a_loop_s_test_teaches_nothing-refused = bad_path a_loop_s_test_teaches_nothing UntestedBuffer 4 refl refl refl
 
 -- a buffer is read where it is NULL
 -- JNIEXPORT void JNICALL Java_A_f(JNIEnv *env, jclass cls, jintArray a) {
@@ -419,7 +419,7 @@ a_buffer_is_read_where_it_is_null =
 
 a_buffer_is_read_where_it_is_null-refused : IsRefused a_buffer_is_read_where_it_is_null 35 4
 unfolding opened
-a_buffer_is_read_where_it_is_null-refused = bad_way a_buffer_is_read_where_it_is_null WrongBuffer 4 refl refl refl
+a_buffer_is_read_where_it_is_null-refused = bad_path a_buffer_is_read_where_it_is_null WrongBuffer 4 refl refl refl
 
 -- a buffer is released with another reference to its array
 -- JNIEXPORT void JNICALL Java_A_f(JNIEnv *env, jclass cls, jintArray a) {
@@ -448,9 +448,9 @@ a_buffer_is_released_with_another_reference_to_its_array =
 
 a_buffer_is_released_with_another_reference_to_its_array-refused : IsRefused a_buffer_is_released_with_another_reference_to_its_array 35 5
 unfolding opened
-a_buffer_is_released_with_another_reference_to_its_array-refused = bad_way a_buffer_is_released_with_another_reference_to_its_array WrongBuffer 5 refl refl refl
+a_buffer_is_released_with_another_reference_to_its_array-refused = bad_path a_buffer_is_released_with_another_reference_to_its_array WrongBuffer 5 refl refl refl
 
--- a buffer is held on one way alone
+-- a buffer is held on one path alone
 -- JNIEXPORT void JNICALL Java_A_f(JNIEnv *env, jclass cls, jintArray a) {
 -- jint *p = (*env)->GetIntArrayElements(env, a, NULL);
 -- if (p != NULL) {
@@ -458,8 +458,8 @@ a_buffer_is_released_with_another_reference_to_its_array-refused = bad_way a_buf
 -- }
 -- return;
 -- }
-abbrev pub a_buffer_is_held_on_one_way_alone : SourceUnit
-a_buffer_is_held_on_one_way_alone =
+abbrev pub a_buffer_is_held_on_one_path_alone : SourceUnit
+a_buffer_is_held_on_one_path_alone =
     unit_of
     (native 1 Void (codes "Java_A_f") (reference_parameter JIntArray (codes "a") ∷ [])
     (DeclareBuffer 2 JInt (codes "p") (FromCall (call (codes "GetIntArrayElements") (given (codes "a") ∷ Value (Named Null) ∷ [])))
@@ -473,6 +473,6 @@ a_buffer_is_held_on_one_way_alone =
     7
     ∷ [])
 
-a_buffer_is_held_on_one_way_alone-refused : IsRefused a_buffer_is_held_on_one_way_alone 40 3
+a_buffer_is_held_on_one_path_alone-refused : IsRefused a_buffer_is_held_on_one_path_alone 40 3
 unfolding opened
-a_buffer_is_held_on_one_way_alone-refused = bad_way a_buffer_is_held_on_one_way_alone WaysDiffer 3 refl refl refl
+a_buffer_is_held_on_one_path_alone-refused = bad_path a_buffer_is_held_on_one_path_alone PathsDiffer 3 refl refl refl

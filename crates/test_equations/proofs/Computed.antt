@@ -12,7 +12,7 @@ use Rattle.class_rules.specs.BuiltIns.{built_ins}
 use Rattle.class_rules.specs.Class.{Classes}
 use Rattle.class_rules.specs.Mangling.{unmangle}
 use Rattle.jni.specs.JniFunction.{function_named}
-use Rattle.type_rules.specs.SortRules.{SortRule, sort_rule_number, IsSorted, first_broken}
+use Rattle.type_rules.specs.TypeRules.{TypeRule, type_rule_number, IsWellTyped, first_broken}
 use Rattle.semantics.specs.declared.schedule.ScheduleWord.{ScheduleWord}
 use Rattle.semantics.specs.declared.schedule.ScheduleWord.TheVariants.{Turn, Collect, Slice}
 use Rattle.semantics.specs.Journal.{Journal, Entry, Step, Clearing, steps_in, clearings_in}
@@ -47,7 +47,7 @@ use Rattle.semantics.specs.State.{State, thread_at, views}
 use Rattle.semantics.specs.Step.{turn_step, clearing_step, world_step, can_step, step_of}
 use Rattle.semantics.proofs.RunLaws.{follows-replay}
 use Rattle.regions.proofs.UnitLemmas.{accepted-all, faulty-all}
-use Rattle.test_equations.specs.Claims.{IsAccepted, IsRefused, by_sorts, by_regions, Beginning, IsWorkedRun, IsWorkedReplay, IsStoppedReplay, IsUnloaded}
+use Rattle.test_equations.specs.Claims.{IsAccepted, IsRefused, by_types, by_regions, Beginning, IsWorkedRun, IsWorkedReplay, IsStoppedReplay, IsUnloaded}
 use Rattle.test_equations.proofs.Programs.{entry}
 
 -- what the computations unfold
@@ -110,14 +110,14 @@ a_tree unit h =
       few_names = fewer.1;
     }
 
-pub accepted : (unit : SourceUnit) → IsTrue (is_tree unit) → IsSorted unit → first_fault (functions_of unit) ≡ None → IsAccepted unit
-accepted unit tree sorted none = record { tree = a_tree unit tree; sorted = sorted; regions = accepted-all (functions_of unit) none }
+pub accepted : (unit : SourceUnit) → IsTrue (is_tree unit) → IsWellTyped unit → first_fault (functions_of unit) ≡ None → IsAccepted unit
+accepted unit tree well_typed none = record { tree = a_tree unit tree; well_typed = well_typed; regions = accepted-all (functions_of unit) none }
 
-pub badly_sorted : (unit : SourceUnit) (rule : SortRule) (line : ℕ) → IsTrue (is_tree unit) → first_broken unit ≡ Some (line, rule) → IsRefused unit (sort_rule_number rule) line
-badly_sorted unit rule line tree first = by_sorts rule line (a_tree unit tree) first
+pub ill_typed : (unit : SourceUnit) (rule : TypeRule) (line : ℕ) → IsTrue (is_tree unit) → first_broken unit ≡ Some (line, rule) → IsRefused unit (type_rule_number rule) line
+ill_typed unit rule line tree first = by_types rule line (a_tree unit tree) first
 
-pub bad_way : (unit : SourceUnit) (rule : RegionRule) (line : ℕ) → IsTrue (is_tree unit) → IsSorted unit → first_fault (functions_of unit) ≡ Some (line, rule) → IsRefused unit (region_rule_number rule) line
-bad_way unit rule line tree sorted first = by_regions rule line (a_tree unit tree) sorted (faulty-all (functions_of unit) (line, rule) first)
+pub bad_path : (unit : SourceUnit) (rule : RegionRule) (line : ℕ) → IsTrue (is_tree unit) → IsWellTyped unit → first_fault (functions_of unit) ≡ Some (line, rule) → IsRefused unit (region_rule_number rule) line
+bad_path unit rule line tree well_typed first = by_regions rule line (a_tree unit tree) well_typed (faulty-all (functions_of unit) (line, rule) first)
 
 -- ---- texts
 

@@ -50,7 +50,7 @@ mod References
 mod RefusedTexts
 mod RegionsChecked
 mod Room
-mod SortFaults
+mod TypeFaults
 mod Strings
 mod Traps
 mod Trees

@@ -2,7 +2,7 @@
 use Rattle.std.specs.Prelude.{◌∷◌, ◌++◌, true, false, [], Some, None, codes, refl}
 use Rattle.base.specs.Element.{JInt}
 use Rattle.syntax.specs.Tree.{Assign, Binary, Declare, DeclareBuffer, DeclareChars, FromCall, If, JBoolean, JClass, JIntArray, JIntVariable, JObject, JString, Named, NotEqual, Null, Number, Perform, Prefix, PutJint, ReferenceVariable, Return, SourceUnit, TestCall, TestExpr, Text, ToInt, Value, Variable, Void}
-use Rattle.type_rules.specs.SortRules.{SortMisfit, ArgumentCount}
+use Rattle.type_rules.specs.TypeRules.{TypeMisfit, ArgumentCount}
 use Rattle.semantics.specs.declared.schedule.ScheduleWord.TheVariants.{Turn}
 use Rattle.semantics.specs.World.{World}
 use Rattle.world_values.specs.WorldLines.{NullValue, NamedObject, ClassLine, ObjectLine, ThreadLine, Lines}
@@ -11,7 +11,7 @@ use Rattle.world_values.specs.WorldRules.{IsWorldText}
 use Rattle.region_rules.specs.RegionRules.{CallWhileCritical, DeadReference}
 use Rattle.test_equations.specs.Claims.{IsAccepted, IsRefused, IsWorkedRun, IsWorkedReplay, IsStoppedReplay}
 use Rattle.test_equations.proofs.Programs.{unit_of, native, block, static_reference, reference_parameter, int_parameter, call, given, entry, entries}
-use Rattle.test_equations.proofs.Computed.{opened, accepted, badly_sorted, bad_way, world-text, worked-run, worked-replay, stopped-replay}
+use Rattle.test_equations.proofs.Computed.{opened, accepted, ill_typed, bad_path, world-text, worked-run, worked-replay, stopped-replay}
 
 -- both calls give zero and nothing is pending
 -- JNIEXPORT void JNICALL Java_A_f(JNIEnv *env, jclass cls, jobject o) {
@@ -483,7 +483,7 @@ a_monitor_is_entered_while_a_buffer_is_critical =
 
 a_monitor_is_entered_while_a_buffer_is_critical-refused : IsRefused a_monitor_is_entered_while_a_buffer_is_critical 31 4
 unfolding opened
-a_monitor_is_entered_while_a_buffer_is_critical-refused = bad_way a_monitor_is_entered_while_a_buffer_is_critical CallWhileCritical 4 refl refl refl
+a_monitor_is_entered_while_a_buffer_is_critical-refused = bad_path a_monitor_is_entered_while_a_buffer_is_critical CallWhileCritical 4 refl refl refl
 
 -- a monitor is left while a buffer is critical
 -- JNIEXPORT void JNICALL Java_A_f(JNIEnv *env, jclass cls, jstring s) {
@@ -512,7 +512,7 @@ a_monitor_is_left_while_a_buffer_is_critical =
 
 a_monitor_is_left_while_a_buffer_is_critical-refused : IsRefused a_monitor_is_left_while_a_buffer_is_critical 31 4
 unfolding opened
-a_monitor_is_left_while_a_buffer_is_critical-refused = bad_way a_monitor_is_left_while_a_buffer_is_critical CallWhileCritical 4 refl refl refl
+a_monitor_is_left_while_a_buffer_is_critical-refused = bad_path a_monitor_is_left_while_a_buffer_is_critical CallWhileCritical 4 refl refl refl
 
 -- a monitor is left by a dead reference
 -- JNIEXPORT void JNICALL Java_A_f(JNIEnv *env, jclass cls, jobject o) {
@@ -535,7 +535,7 @@ a_monitor_is_left_by_a_dead_reference =
 
 a_monitor_is_left_by_a_dead_reference-refused : IsRefused a_monitor_is_left_by_a_dead_reference 38 4
 unfolding opened
-a_monitor_is_left_by_a_dead_reference-refused = bad_way a_monitor_is_left_by_a_dead_reference DeadReference 4 refl refl refl
+a_monitor_is_left_by_a_dead_reference-refused = bad_path a_monitor_is_left_by_a_dead_reference DeadReference 4 refl refl refl
 
 -- the answer of an entry is no flag
 -- JNIEXPORT void JNICALL Java_A_f(JNIEnv *env, jclass cls, jobject o) {
@@ -554,7 +554,7 @@ the_answer_of_an_entry_is_no_flag =
 
 the_answer_of_an_entry_is_no_flag-refused : IsRefused the_answer_of_an_entry_is_no_flag 23 2
 unfolding opened
-the_answer_of_an_entry_is_no_flag-refused = badly_sorted the_answer_of_an_entry_is_no_flag SortMisfit 2 refl refl
+the_answer_of_an_entry_is_no_flag-refused = ill_typed the_answer_of_an_entry_is_no_flag TypeMisfit 2 refl refl
 
 -- a number has no monitor
 -- JNIEXPORT void JNICALL Java_A_f(JNIEnv *env, jclass cls, jint n) {
@@ -573,7 +573,7 @@ a_number_has_no_monitor =
 
 a_number_has_no_monitor-refused : IsRefused a_number_has_no_monitor 23 2
 unfolding opened
-a_number_has_no_monitor-refused = badly_sorted a_number_has_no_monitor SortMisfit 2 refl refl
+a_number_has_no_monitor-refused = ill_typed a_number_has_no_monitor TypeMisfit 2 refl refl
 
 -- an entry is no test
 -- JNIEXPORT void JNICALL Java_A_f(JNIEnv *env, jclass cls, jobject o) {
@@ -598,7 +598,7 @@ an_entry_is_no_test =
 
 an_entry_is_no_test-refused : IsRefused an_entry_is_no_test 23 2
 unfolding opened
-an_entry_is_no_test-refused = badly_sorted an_entry_is_no_test SortMisfit 2 refl refl
+an_entry_is_no_test-refused = ill_typed an_entry_is_no_test TypeMisfit 2 refl refl
 
 -- a monitor is left of two objects
 -- JNIEXPORT void JNICALL Java_A_f(JNIEnv *env, jclass cls, jobject o) {
@@ -617,4 +617,4 @@ a_monitor_is_left_of_two_objects =
 
 a_monitor_is_left_of_two_objects-refused : IsRefused a_monitor_is_left_of_two_objects 25 2
 unfolding opened
-a_monitor_is_left_of_two_objects-refused = badly_sorted a_monitor_is_left_of_two_objects ArgumentCount 2 refl refl
+a_monitor_is_left_of_two_objects-refused = ill_typed a_monitor_is_left_of_two_objects ArgumentCount 2 refl refl

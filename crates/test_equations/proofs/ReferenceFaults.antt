@@ -2,10 +2,10 @@
 use Rattle.std.specs.Prelude.{◌∷◌, true, false, [], codes, refl}
 use Rattle.base.specs.Element.{JInt}
 use Rattle.syntax.specs.Tree.{Assign, Binary, Declare, DeclareBuffer, Equal, FromCall, FromExpr, If, IfElse, JIntArray, JIntVariable, JObject, Named, Null, Number, Perform, PutJint, ReferenceVariable, Return, SourceUnit, TestCall, TestExpr, Value, Void, While}
-use Rattle.region_rules.specs.RegionRules.{HeldBuffer, ReturnInFrame, PopLastFrame, DeadReference, WaysDiffer, WrongLevel, NoReturn}
+use Rattle.region_rules.specs.RegionRules.{HeldBuffer, ReturnInFrame, PopLastFrame, DeadReference, PathsDiffer, WrongLevel, NoReturn}
 use Rattle.test_equations.specs.Claims.{IsRefused}
 use Rattle.test_equations.proofs.Programs.{unit_of, native, block, reference_parameter, call, given}
-use Rattle.test_equations.proofs.Computed.{opened, bad_way}
+use Rattle.test_equations.proofs.Computed.{opened, bad_path}
 
 -- returned in frame
 -- JNIEXPORT void JNICALL Java_A_f(JNIEnv *env, jclass cls) {
@@ -28,7 +28,7 @@ returned_in_frame =
 
 returned_in_frame-refused : IsRefused returned_in_frame 36 3
 unfolding opened
-returned_in_frame-refused = bad_way returned_in_frame ReturnInFrame 3 refl refl refl
+returned_in_frame-refused = bad_path returned_in_frame ReturnInFrame 3 refl refl refl
 
 -- popped last frame
 -- JNIEXPORT void JNICALL Java_A_f(JNIEnv *env, jclass cls) {
@@ -46,7 +46,7 @@ popped_last_frame =
 
 popped_last_frame-refused : IsRefused popped_last_frame 37 2
 unfolding opened
-popped_last_frame-refused = bad_way popped_last_frame PopLastFrame 2 refl refl refl
+popped_last_frame-refused = bad_path popped_last_frame PopLastFrame 2 refl refl refl
 
 -- deleted twice
 -- JNIEXPORT void JNICALL Java_A_f(JNIEnv *env, jclass cls) {
@@ -68,7 +68,7 @@ deleted_twice =
 
 deleted_twice-refused : IsRefused deleted_twice 38 4
 unfolding opened
-deleted_twice-refused = bad_way deleted_twice DeadReference 4 refl refl refl
+deleted_twice-refused = bad_path deleted_twice DeadReference 4 refl refl refl
 
 -- used after its frame
 -- JNIEXPORT void JNICALL Java_A_f(JNIEnv *env, jclass cls) {
@@ -96,7 +96,7 @@ used_after_its_frame =
 
 used_after_its_frame-refused : IsRefused used_after_its_frame 38 5
 unfolding opened
-used_after_its_frame-refused = bad_way used_after_its_frame DeadReference 5 refl refl refl
+used_after_its_frame-refused = bad_path used_after_its_frame DeadReference 5 refl refl refl
 
 -- deleted in a loop
 -- JNIEXPORT void JNICALL Java_A_f(JNIEnv *env, jclass cls) {
@@ -120,14 +120,14 @@ deleted_in_a_loop =
 
 deleted_in_a_loop-refused : IsRefused deleted_in_a_loop 40 3
 unfolding opened
-deleted_in_a_loop-refused = bad_way deleted_in_a_loop WaysDiffer 3 refl refl refl
+deleted_in_a_loop-refused = bad_path deleted_in_a_loop PathsDiffer 3 refl refl refl
 
--- pushed on one way
+-- pushed on one path
 -- JNIEXPORT void JNICALL Java_A_f(JNIEnv *env, jclass cls) {
 -- if ((*env)->PushLocalFrame(env, 4) == 0) { put_jint(1); }
 -- return; }
-abbrev pub pushed_on_one_way : SourceUnit
-pushed_on_one_way =
+abbrev pub pushed_on_one_path : SourceUnit
+pushed_on_one_path =
     unit_of
     (native 1 Void (codes "Java_A_f") []
     (If 2 (TestCall (call (codes "PushLocalFrame") (Value (Number 4 false) ∷ [])))
@@ -140,18 +140,18 @@ pushed_on_one_way =
     3
     ∷ [])
 
-pushed_on_one_way-refused : IsRefused pushed_on_one_way 40 2
+pushed_on_one_path-refused : IsRefused pushed_on_one_path 40 2
 unfolding opened
-pushed_on_one_way-refused = bad_way pushed_on_one_way WaysDiffer 2 refl refl refl
+pushed_on_one_path-refused = bad_path pushed_on_one_path PathsDiffer 2 refl refl refl
 
--- deleted twice on one way
+-- deleted twice on one path
 -- JNIEXPORT void JNICALL Java_A_f(JNIEnv *env, jclass cls) {
 -- jobject x = (*env)->NewLocalRef(env, cls);
 -- if (1u == 2u) { (*env)->DeleteLocalRef(env, x);
 -- (*env)->DeleteLocalRef(env, x); }
 -- return; }
-abbrev pub deleted_twice_on_one_way : SourceUnit
-deleted_twice_on_one_way =
+abbrev pub deleted_twice_on_one_path : SourceUnit
+deleted_twice_on_one_path =
     unit_of
     (native 1 Void (codes "Java_A_f") []
     (Declare 2 (ReferenceVariable JObject) (codes "x") (FromCall (call (codes "NewLocalRef") (given (codes "cls") ∷ [])))
@@ -166,9 +166,9 @@ deleted_twice_on_one_way =
     5
     ∷ [])
 
-deleted_twice_on_one_way-refused : IsRefused deleted_twice_on_one_way 38 4
+deleted_twice_on_one_path-refused : IsRefused deleted_twice_on_one_path 38 4
 unfolding opened
-deleted_twice_on_one_way-refused = bad_way deleted_twice_on_one_way DeadReference 4 refl refl refl
+deleted_twice_on_one_path-refused = bad_path deleted_twice_on_one_path DeadReference 4 refl refl refl
 
 -- outer set in frame
 -- JNIEXPORT void JNICALL Java_A_f(JNIEnv *env, jclass cls) {
@@ -195,7 +195,7 @@ outer_set_in_frame =
 
 outer_set_in_frame-refused : IsRefused outer_set_in_frame 41 4
 unfolding opened
-outer_set_in_frame-refused = bad_way outer_set_in_frame WrongLevel 4 refl refl refl
+outer_set_in_frame-refused = bad_path outer_set_in_frame WrongLevel 4 refl refl refl
 
 -- after two returns
 -- JNIEXPORT void JNICALL Java_A_f(JNIEnv *env, jclass cls) {
@@ -221,7 +221,7 @@ after_two_returns =
 
 after_two_returns-refused : IsRefused after_two_returns 42 3
 unfolding opened
-after_two_returns-refused = bad_way after_two_returns NoReturn 3 refl refl refl
+after_two_returns-refused = bad_path after_two_returns NoReturn 3 refl refl refl
 
 -- returned in a loop
 -- JNIEXPORT void JNICALL Java_A_f(JNIEnv *env, jclass cls) {
@@ -242,7 +242,7 @@ returned_in_a_loop =
 
 returned_in_a_loop-refused : IsRefused returned_in_a_loop 42 3
 unfolding opened
-returned_in_a_loop-refused = bad_way returned_in_a_loop NoReturn 3 refl refl refl
+returned_in_a_loop-refused = bad_path returned_in_a_loop NoReturn 3 refl refl refl
 
 -- held at the last brace
 -- JNIEXPORT void JNICALL Java_A_f(JNIEnv *env, jclass cls, jintArray a) {
@@ -259,4 +259,4 @@ held_at_the_last_brace =
 
 held_at_the_last_brace-refused : IsRefused held_at_the_last_brace 33 3
 unfolding opened
-held_at_the_last_brace-refused = bad_way held_at_the_last_brace HeldBuffer 3 refl refl refl
+held_at_the_last_brace-refused = bad_path held_at_the_last_brace HeldBuffer 3 refl refl refl

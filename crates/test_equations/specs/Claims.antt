@@ -2,7 +2,7 @@
 use Rattle.std.specs.Prelude.{◌≡◌, ℕ, ◌+◌, List, ◌∷◌, ◌++◌, length, Some, None}
 use Rattle.syntax.specs.Limits.{IsTree}
 use Rattle.syntax.specs.Tree.{SourceUnit}
-use Rattle.type_rules.specs.SortRules.{SortRule, sort_rule_number, IsSorted, first_broken}
+use Rattle.type_rules.specs.TypeRules.{TypeRule, type_rule_number, IsWellTyped, first_broken}
 use Rattle.semantics.specs.Journal.{Entry, Journal}
 use Rattle.world_schedules.specs.JournalMeaning.{IsJournalText}
 use Rattle.semantics.specs.Schedule.{Schedule}
@@ -20,16 +20,16 @@ use Rattle.semantics.specs.Step.{world_step}
 
 -- ---- checks
 
--- a tree within the limits, which keeps the rules of sorts and of regions
+-- a tree within the limits, which keeps the rules of types and of regions
 pub record IsAccepted (unit : SourceUnit) : Type 0 where
   pub tree : IsTree unit
-  pub sorted : IsSorted unit
+  pub well_typed : IsWellTyped unit
   pub regions : HasRegions unit
 
 -- a tree within the limits, whose first fault has this number and this line
 pub data IsRefused (unit : SourceUnit) : (number line : ℕ) → Type 0 where
-  by_sorts : (rule : SortRule) (line : ℕ) → IsTree unit → first_broken unit ≡ Some (line, rule) → IsRefused unit (sort_rule_number rule) line
-  by_regions : (rule : RegionRule) (line : ℕ) → IsTree unit → IsSorted unit → IsFirstRegionFault rule line unit → IsRefused unit (region_rule_number rule) line
+  by_types : (rule : TypeRule) (line : ℕ) → IsTree unit → first_broken unit ≡ Some (line, rule) → IsRefused unit (type_rule_number rule) line
+  by_regions : (rule : RegionRule) (line : ℕ) → IsTree unit → IsWellTyped unit → IsFirstRegionFault rule line unit → IsRefused unit (region_rule_number rule) line
 
 -- ---- runs and replays
 

@@ -1,4 +1,4 @@
--- What is known of a statement that breaks no rule of sorts, and of the statements inside it.
+-- What is known of a statement that breaks no rule of types, and of the statements inside it.
 use Rattle.std.proofs.Common.{◌≡◌, ℕ, Bool, true, false, not, ◌||◌, List, [], ◌∷◌, ◌++◌, refl}
 use Rattle.std.specs.Prelude.{flat_map}
 use Rattle.std.specs.List.{list_any, list_all}
@@ -8,8 +8,8 @@ use Rattle.base.specs.Options.{some_passes}
 use Rattle.syntax.specs.Parts.{statements_of, statements_within, line_of, declared_name, right_side, own_call, own_expressions, names_declared}
 use Rattle.syntax.specs.Tree.{ResultType, Static, Test, Stmt, If, IfElse, While, Block, Next}
 use Rattle.jni.specs.JniFunction.{function_named}
-use Rattle.type_rules.specs.Sorts.{Scope, call_arguments_fit}
-use Rattle.type_rules.specs.SortRules.{SortRule, UnknownName, DeclaredTwice, SortMisfit, UnknownFunction, ArgumentCount, ReferenceCopied, BadMode, ReadOnlyWrite, sort_rules, Place, StaticForm, StatementForm, has_name, is_formed, statement_fits, has_wrong_count, has_wrong_mode, copies_reference, set_sort, breaks, broken_at, with_declared, places_within, places_of}
+use Rattle.type_rules.specs.ExprTypes.{Scope, call_arguments_fit}
+use Rattle.type_rules.specs.TypeRules.{TypeRule, UnknownName, DeclaredTwice, TypeMisfit, UnknownFunction, ArgumentCount, ReferenceCopied, BadMode, ReadOnlyWrite, typing_rules, Place, StaticForm, StatementForm, has_name, is_formed, statement_fits, has_wrong_count, has_wrong_mode, copies_reference, set_type, breaks, broken_at, with_declared, places_within, places_of}
 use Rattle.type_rules.proofs.PlaceLists.{AreUnbroken, first_empty, second_empty, front_unbroken, back_unbroken, none_broken, first_false, second_false, not_twice}
 
 -- what a statement that breaks no rule is known for
@@ -19,7 +19,7 @@ pub record IsKept (known : Scope) (taken : List Identifier) (returns : ResultTyp
   pub arguments : some_passes (λ c. not (call_arguments_fit known c (function_named c.function))) (own_call s) ≡ false
   pub there : some_passes (λ c. is_none (function_named c.function)) (own_call s) ≡ false
   pub count : some_passes (λ c. has_wrong_count c (function_named c.function)) (own_call s) ≡ false
-  pub uncopied : copies_reference known (set_sort known s) (right_side s) ≡ false
+  pub uncopied : copies_reference known (set_type known s) (right_side s) ≡ false
   pub modes : some_passes (λ c. has_wrong_mode c (function_named c.function)) (own_call s) ≡ false
 
 fitting : (a b c : Bool) → (not a || not b || c) ≡ false → (b ≡ true) × (c ≡ false)
@@ -30,40 +30,40 @@ abbrev pub statement_place : ResultType → Scope → List Identifier → Stmt �
 statement_place returns known taken s = record { line = line_of s; known = known; taken = taken; returns = returns; form = StatementForm s }
 
 -- the rules after others
-abbrev after_copies : List SortRule
+abbrev after_copies : List TypeRule
 after_copies = BadMode ∷ ReadOnlyWrite ∷ []
 
-abbrev after_counts : List SortRule
+abbrev after_counts : List TypeRule
 after_counts = ReferenceCopied ∷ after_copies
 
-abbrev after_functions : List SortRule
+abbrev after_functions : List TypeRule
 after_functions = ArgumentCount ∷ after_counts
 
-abbrev after_sorts : List SortRule
-after_sorts = UnknownFunction ∷ after_functions
+abbrev after_types : List TypeRule
+after_types = UnknownFunction ∷ after_functions
 
-abbrev after_twice : List SortRule
-after_twice = SortMisfit ∷ after_sorts
+abbrev after_twice : List TypeRule
+after_twice = TypeMisfit ∷ after_types
 
-abbrev after_names : List SortRule
+abbrev after_names : List TypeRule
 after_names = DeclaredTwice ∷ after_twice
 
 is_kept : (returns : ResultType) (known : Scope) (taken : List Identifier) (s : Stmt) → broken_at (statement_place returns known taken s) ≡ [] → IsKept known taken returns s
 is_kept returns known taken s none =
     let place = statement_place returns known taken s in
-    let p : SortRule → Bool = λ rule. breaks rule place place.form in
-    let names = second_false (p UnknownName) (list_any p after_names) (none_broken p (line_of s) sort_rules none) in
+    let p : TypeRule → Bool = λ rule. breaks rule place place.form in
+    let names = second_false (p UnknownName) (list_any p after_names) (none_broken p (line_of s) typing_rules none) in
     let twice = second_false (p DeclaredTwice) (list_any p after_twice) names in
-    let sorts = second_false (p SortMisfit) (list_any p after_sorts) twice in
-    let functions = second_false (p UnknownFunction) (list_any p after_functions) sorts in
+    let types = second_false (p TypeMisfit) (list_any p after_types) twice in
+    let functions = second_false (p UnknownFunction) (list_any p after_functions) types in
     let counts = second_false (p ArgumentCount) (list_any p after_counts) functions in
     let copies = second_false (p ReferenceCopied) (list_any p after_copies) counts in
-    let fit = fitting (list_all (is_formed known) (own_expressions s)) (statement_fits known returns s) (some_passes (λ c. not (call_arguments_fit known c (function_named c.function))) (own_call s)) (first_false (p SortMisfit) (list_any p after_sorts) twice) in
+    let fit = fitting (list_all (is_formed known) (own_expressions s)) (statement_fits known returns s) (some_passes (λ c. not (call_arguments_fit known c (function_named c.function))) (own_call s)) (first_false (p TypeMisfit) (list_any p after_types) twice) in
     record {
       new = first_false (p DeclaredTwice) (list_any p after_twice) names;
       fits = fit.0;
       arguments = fit.1;
-      there = first_false (p UnknownFunction) (list_any p after_functions) sorts;
+      there = first_false (p UnknownFunction) (list_any p after_functions) types;
       count = first_false (p ArgumentCount) (list_any p after_counts) functions;
       uncopied = first_false (p ReferenceCopied) (list_any p after_copies) counts;
       modes = first_false (p BadMode) (list_any p (ReadOnlyWrite ∷ [])) copies;
@@ -99,9 +99,9 @@ block_kept returns known taken s rest h =
     (front_unbroken (places_within returns known taken s) after h, back_unbroken (places_within returns known taken s) after h)
 
 -- both blocks of an if-else
-pub ways_kept : (returns : ResultType) (known : Scope) (taken : List Identifier) (line : ℕ) (test : Test) (then' else' : Block) → AreUnbroken (places_within returns known taken (IfElse line test then' else'))
+pub paths_kept : (returns : ResultType) (known : Scope) (taken : List Identifier) (line : ℕ) (test : Test) (then' else' : Block) → AreUnbroken (places_within returns known taken (IfElse line test then' else'))
     → AreUnbroken (places_of returns known taken then') × AreUnbroken (places_of returns known (taken ++ names_declared (statements_of then')) else')
-ways_kept returns known taken line test then' else' h =
+paths_kept returns known taken line test then' else' h =
     let second = places_of returns known (taken ++ names_declared (statements_of then')) else' in
     let both = inside_kept returns known taken (IfElse line test then' else') h in
     (front_unbroken (places_of returns known taken then') second both, back_unbroken (places_of returns known taken then') second both)

@@ -1,5 +1,5 @@
 pub mod KnownDeclarations
 pub mod UseLemmas
 pub mod PlaceLists
-pub mod SortCases
+pub mod TypeCases
 pub mod KeptPlaces

@@ -1,9 +1,9 @@
--- Places at which no rule of sorts is broken.
+-- Places at which no rule of types is broken.
 use Rattle.std.proofs.Common.{◌≡◌, ℕ, Bool, true, false, ◌||◌, List, [], ◌∷◌, ◌++◌, map, filter, refl, sym, ◌∙◌, if◌then◌else◌}
 use Rattle.std.specs.Prelude.{flat_map}
 use Rattle.std.specs.List.{list_any}
 use Rattle.std.proofs.lemmas.Grind.{flat_map-append}
-use Rattle.type_rules.specs.SortRules.{SortRule, UnknownName, DeclaredTwice, SortMisfit, UnknownFunction, ArgumentCount, ReferenceCopied, BadMode, ReadOnlyWrite, sort_rules, Place, breaks, broken_at}
+use Rattle.type_rules.specs.TypeRules.{TypeRule, UnknownName, DeclaredTwice, TypeMisfit, UnknownFunction, ArgumentCount, ReferenceCopied, BadMode, ReadOnlyWrite, typing_rules, Place, breaks, broken_at}
 
 -- no rule is broken at any of the places
 abbrev pub AreUnbroken : List Place → Type 0
@@ -29,11 +29,11 @@ first_unbroken p ps h = first_empty (broken_at p) (flat_map broken_at ps) h
 pub rest_unbroken : (p : Place) (ps : List Place) → AreUnbroken (p ∷ ps) → AreUnbroken ps
 rest_unbroken p ps h = second_empty (broken_at p) (flat_map broken_at ps) h
 
-pub none_broken : (p : SortRule → Bool) (line : ℕ) (rules : List SortRule) → map {B = ℕ × SortRule} (λ rule. (line, rule)) (filter p rules) ≡ [] → list_any p rules ≡ false
+pub none_broken : (p : TypeRule → Bool) (line : ℕ) (rules : List TypeRule) → map {B = ℕ × TypeRule} (λ rule. (line, rule)) (filter p rules) ≡ [] → list_any p rules ≡ false
 none_broken p line [] none = refl
 none_broken p line (rule ∷ rules) none = by_test (p rule) none (none_broken p line rules)
   where
-    by_test : (b : Bool) → map {B = ℕ × SortRule} (λ r. (line, r)) (if b then rule ∷ filter p rules else filter p rules) ≡ [] → (map {B = ℕ × SortRule} (λ r. (line, r)) (filter p rules) ≡ [] → list_any p rules ≡ false) → (b || list_any p rules) ≡ false
+    by_test : (b : Bool) → map {B = ℕ × TypeRule} (λ r. (line, r)) (if b then rule ∷ filter p rules else filter p rules) ≡ [] → (map {B = ℕ × TypeRule} (λ r. (line, r)) (filter p rules) ≡ [] → list_any p rules ≡ false) → (b || list_any p rules) ≡ false
     by_test true e later = absurd (cc)
     by_test false e later = later e
 
@@ -46,11 +46,11 @@ second_false true b h = absurd (cc)
 second_false false b h = h
 
 -- the rules after that on names that are declared twice
-abbrev after_twice : List SortRule
-after_twice = SortMisfit ∷ UnknownFunction ∷ ArgumentCount ∷ ReferenceCopied ∷ BadMode ∷ ReadOnlyWrite ∷ []
+abbrev after_twice : List TypeRule
+after_twice = TypeMisfit ∷ UnknownFunction ∷ ArgumentCount ∷ ReferenceCopied ∷ BadMode ∷ ReadOnlyWrite ∷ []
 
 -- a place that breaks no rule declares nothing twice
 pub not_twice : (place : Place) → broken_at place ≡ [] → breaks DeclaredTwice place place.form ≡ false
 not_twice place none =
-    let p : SortRule → Bool = λ rule. breaks rule place place.form in
-    first_false (p DeclaredTwice) (list_any p after_twice) (second_false (p UnknownName) (list_any p (DeclaredTwice ∷ after_twice)) (none_broken p place.line sort_rules none))
+    let p : TypeRule → Bool = λ rule. breaks rule place place.form in
+    first_false (p DeclaredTwice) (list_any p after_twice) (second_false (p UnknownName) (list_any p (DeclaredTwice ∷ after_twice)) (none_broken p place.line typing_rules none))

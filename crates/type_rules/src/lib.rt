@@ -1,14 +1,14 @@
-//! Which units are sorted: the rules on names and sorts, names that are known, and units that keep the rules.
+//! Which units are well-typed: the rules on names and types, names that are known, and units that keep the rules.
 #![tactic(auto)]
 
 mod calls;
 mod known;
 mod names;
-mod sort;
+mod ty;
 mod typed;
 
 pub use calls::own_call;
 pub use known::Known;
 pub use names::{Question, first_name};
-pub use sort::{Sort, parameter_sort, static_sort, variable_sort};
+pub use ty::{ExprType, parameter_type, static_type, variable_type};
 pub use typed::Typed;

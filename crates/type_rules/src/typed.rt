@@ -1,14 +1,14 @@
-//! Units whose names and sorts keep the rules.
+//! Units whose names and types keep the rules.
 
 ghost use Rattle.std.specs.Prelude.{◌≡◌};
 ghost use Rattle.syntax.specs.Limits.{IsTree};
 ghost use Rattle.syntax.specs.Views.{unit_tree};
-ghost use Rattle.type_rules.specs.SortRules.{IsSorted};
+ghost use Rattle.type_rules.specs.TypeRules.{IsWellTyped};
 
 use std::marker::Model;
 use syntax::{Item, Unit};
 
-/// A unit that is sorted.
+/// A unit that is well-typed.
 #[derive(Drop)]
 pub struct Typed {
     unit: Unit,
@@ -21,7 +21,7 @@ impl Model for Typed {
     ghost use Rattle.syntax.specs.contracts.unit.Item as item;
     ghost use Rattle.syntax.specs.Limits.{IsTree};
     ghost use Rattle.syntax.specs.Views.{unit_tree};
-    ghost use Rattle.type_rules.specs.SortRules.{IsSorted};
+    ghost use Rattle.type_rules.specs.TypeRules.{IsWellTyped};
 
     ghost Value = { List Item };
 
@@ -29,13 +29,13 @@ impl Model for Typed {
 
     ghost view = { λ t. t.unit };
 
-    ghost invariant = { λ t. IsSorted (unit_tree t.unit) };
+    ghost invariant = { λ t. IsWellTyped (unit_tree t.unit) };
 }
 
 impl Typed {
-    /// A unit that is known to be sorted. `types` finds out.
+    /// A unit that is known to be well-typed. `types` finds out.
     pub fn of(unit: Unit) -> Typed
-        requires { IsSorted (unit_tree unit) }
+        requires { IsWellTyped (unit_tree unit) }
         ensures { result ≡ unit }
     {
         Typed { unit }
@@ -45,7 +45,7 @@ impl Typed {
     pub fn items(&self) -> &[Item]
         ensures same { result.now ≡ self.now }
         ensures tree { IsTree (unit_tree result.now) }
-        ensures sorted { IsSorted (unit_tree result.now) }
+        ensures well_typed { IsWellTyped (unit_tree result.now) }
     {
         self.unit.items()
     }

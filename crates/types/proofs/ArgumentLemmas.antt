@@ -7,8 +7,8 @@ use Rattle.syntax.specs.Views.{argument_tree}
 use Rattle.jni.specs.declared.kinds.ParameterKind.{ParameterKind as KindInMemory}
 use Rattle.jni.specs.Prototype.{ParameterKind, Passed}
 use Rattle.jni.specs.Table.{parameter_value}
-use Rattle.type_rules.specs.Sorts.{Scope, argument_fits, arguments_fit}
-use Rattle.type_rules.specs.SortRules.{modes_fit}
+use Rattle.type_rules.specs.ExprTypes.{Scope, argument_fits, arguments_fit}
+use Rattle.type_rules.specs.TypeRules.{modes_fit}
 use Rattle.types.specs.Called.{with_passed}
 
 -- no arguments fit all parameters

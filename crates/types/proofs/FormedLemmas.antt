@@ -1,4 +1,4 @@
--- Where a statement fits, its expressions beside a call's arguments are bare or have sorts.
+-- Where a statement fits, its expressions beside a call's arguments are bare or have types.
 use Rattle.std.proofs.Common.{◌≡◌, Bool, true, false, not, ◌&&◌, ◌||◌, [], ◌∷◌, Option, Some, None, refl, sym, ap, ◌∙◌, inl, inr}
 use Rattle.std.specs.List.{list_all}
 use Rattle.std.specs.Prelude.{is_some}
@@ -7,26 +7,26 @@ use Rattle.base.specs.Options.{some_passes}
 use Rattle.syntax.specs.Parts.{own_call, own_expressions, call_expressions}
 use Rattle.syntax.specs.Tree.{Expr, Number, Named, Variable, Element, Prefix, Binary, Paren, Call, FromExpr, FromCall, TestExpr, TestCall, ResultType, Void, IntResult, ReferenceResult, Stmt, Declare, DeclareBuffer, DeclareChars, DeclareArray, Assign, AssignElement, Perform, PutJint, If, IfElse, While, Return, ReturnValue}
 use Rattle.jni.specs.JniFunction.{function_named}
-use Rattle.type_rules.specs.Sorts.{Sort, Word, Jint, Flag, Truth, Ref, Global, Weak, FieldId, MethodId, Buffer, Array, Scope, sort_in, sort_of, has_elements, is_index, is_word, is_jint, is_flag, is_truth, is_ref, is_null, name_sort, call_arguments_fit}
-use Rattle.type_rules.specs.SortRules.{SortMisfit, is_formed, variable_sort, value_sets, return_fits, statement_fits, breaks_sort_rule}
+use Rattle.type_rules.specs.ExprTypes.{ExprType, Word, Jint, Flag, Truth, Ref, Global, Weak, FieldId, MethodId, Buffer, Array, Scope, type_in, type_of, has_elements, is_index, is_word, is_jint, is_flag, is_truth, is_ref, is_null, name_type, call_arguments_fit}
+use Rattle.type_rules.specs.TypeRules.{TypeMisfit, is_formed, variable_type, value_sets, return_fits, statement_fits, breaks_type_rule}
 
 -- ---- one expression
 
-sorted : (known : Scope) (e : Expr) → is_some (sort_of known e) ≡ true → is_formed known e ≡ true
-sorted known (Number n unsigned) h = h
-sorted known (Named c) h = refl
-sorted known (Variable x) h = refl
-sorted known (Element x i) h = h
-sorted known (Prefix op a) h = h
-sorted known (Binary op a b) h = h
-sorted known (Paren a) h = h
+well_typed : (known : Scope) (e : Expr) → is_some (type_of known e) ≡ true → is_formed known e ≡ true
+well_typed known (Number n unsigned) h = h
+well_typed known (Named c) h = refl
+well_typed known (Variable x) h = refl
+well_typed known (Element x i) h = h
+well_typed known (Prefix op a) h = h
+well_typed known (Binary op a b) h = h
+well_typed known (Paren a) h = h
 
-pub some_of : (p : Option Sort → Bool) (o : Option Sort) → p None ≡ false → p o ≡ true → is_some o ≡ true
+pub some_of : (p : Option ExprType → Bool) (o : Option ExprType) → p None ≡ false → p o ≡ true → is_some o ≡ true
 some_of p None none h = let f : true ≡ false = sym h ∙ none in absurd cc
 some_of p (Some s) none h = refl
 
-by_sort : (known : Scope) (p : Option Sort → Bool) (e : Expr) → p None ≡ false → p (sort_of known e) ≡ true → is_formed known e ≡ true
-by_sort known p e none h = sorted known e (some_of p (sort_of known e) none h)
+on_type : (known : Scope) (p : Option ExprType → Bool) (e : Expr) → p None ≡ false → p (type_of known e) ≡ true → is_formed known e ≡ true
+on_type known p e none h = well_typed known e (some_of p (type_of known e) none h)
 
 null_formed : (known : Scope) (e : Expr) → is_null e ≡ true → is_formed known e ≡ true
 null_formed known (Number n unsigned) h = absurd cc
@@ -37,7 +37,7 @@ null_formed known (Prefix op a) h = absurd cc
 null_formed known (Binary op a b) h = absurd cc
 null_formed known (Paren a) h = absurd cc
 
-name_formed : (known : Scope) (p : Option Sort → Bool) (e : Expr) → p None ≡ false → p (name_sort known e) ≡ true → is_formed known e ≡ true
+name_formed : (known : Scope) (p : Option ExprType → Bool) (e : Expr) → p None ≡ false → p (name_type known e) ≡ true → is_formed known e ≡ true
 name_formed known p (Number n unsigned) none h = let f : true ≡ false = sym h ∙ none in absurd cc
 name_formed known p (Named c) none h = refl
 name_formed known p (Variable x) none h = refl
@@ -46,11 +46,11 @@ name_formed known p (Prefix op a) none h = let f : true ≡ false = sym h ∙ no
 name_formed known p (Binary op a b) none h = let f : true ≡ false = sym h ∙ none in absurd cc
 name_formed known p (Paren a) none h = let f : true ≡ false = sym h ∙ none in absurd cc
 
-value_formed : (known : Scope) (o : Option Sort) (e : Expr) → value_sets known o e ≡ true → is_formed known e ≡ true
-value_formed known (Some Word) e h = by_sort known is_word e refl h
-value_formed known (Some Jint) e h = by_sort known is_jint e refl h
-value_formed known (Some Flag) e h = by_sort known is_flag e refl h
-value_formed known (Some Ref) e h = elim (or_cases (is_null e) (is_some (name_sort known e)) h) [ inl w ↦ null_formed known e w | inr w ↦ name_formed known is_some e refl w ]
+value_formed : (known : Scope) (o : Option ExprType) (e : Expr) → value_sets known o e ≡ true → is_formed known e ≡ true
+value_formed known (Some Word) e h = on_type known is_word e refl h
+value_formed known (Some Jint) e h = on_type known is_jint e refl h
+value_formed known (Some Flag) e h = on_type known is_flag e refl h
+value_formed known (Some Ref) e h = elim (or_cases (is_null e) (is_some (name_type known e)) h) [ inl w ↦ null_formed known e w | inr w ↦ name_formed known is_some e refl w ]
 value_formed known (Some Global) e h = null_formed known e h
 value_formed known (Some Weak) e h = null_formed known e h
 value_formed known (Some FieldId) e h = null_formed known e h
@@ -62,8 +62,8 @@ value_formed known None e h = absurd cc
 
 return_formed : (known : Scope) (returns : ResultType) (e : Expr) → return_fits known returns e ≡ true → is_formed known e ≡ true
 return_formed known Void e h = absurd cc
-return_formed known IntResult e h = by_sort known is_jint e refl h
-return_formed known (ReferenceResult r) e h = elim (or_cases (is_null e) (is_ref (name_sort known e)) h) [ inl w ↦ null_formed known e w | inr w ↦ name_formed known is_ref e refl w ]
+return_formed known IntResult e h = on_type known is_jint e refl h
+return_formed known (ReferenceResult r) e h = elim (or_cases (is_null e) (is_ref (name_type known e)) h) [ inl w ↦ null_formed known e w | inr w ↦ name_formed known is_ref e refl w ]
 
 -- ---- the expressions of a statement
 
@@ -79,26 +79,26 @@ in_call known None = true
 in_call known (Some c) = list_all (is_formed known) (call_expressions c)
 
 formed_is : (known : Scope) (returns : ResultType) (s : Stmt) → statement_fits known returns s ≡ true → list_all (is_formed known) (own_expressions s) ≡ in_call known (own_call s)
-formed_is known returns (Declare line t x (FromExpr e)) h = one known e (value_formed known (Some (variable_sort t)) e h)
+formed_is known returns (Declare line t x (FromExpr e)) h = one known e (value_formed known (Some (variable_type t)) e h)
 formed_is known returns (Declare line t x (FromCall c)) h = refl
 formed_is known returns (DeclareBuffer line t x (FromExpr e)) h = one known e (null_formed known e h)
 formed_is known returns (DeclareBuffer line t x (FromCall c)) h = refl
 formed_is known returns (DeclareChars line x (FromExpr e)) h = one known e (null_formed known e h)
 formed_is known returns (DeclareChars line x (FromCall c)) h = refl
 formed_is known returns (DeclareArray line t x size) h = refl
-formed_is known returns (Assign line x (FromExpr e)) h = one known e (value_formed known (sort_in known x) e h)
+formed_is known returns (Assign line x (FromExpr e)) h = one known e (value_formed known (type_in known x) e h)
 formed_is known returns (Assign line x (FromCall c)) h = refl
 formed_is known returns (AssignElement line x i e) h =
-    let p = and_parts (has_elements (sort_in known x) && is_index (sort_of known i)) (is_jint (sort_of known e)) h in
-    let q = and_parts (has_elements (sort_in known x)) (is_index (sort_of known i)) p.0 in
-    two known i e (by_sort known is_index i refl q.1) (by_sort known is_jint e refl p.1)
+    let p = and_parts (has_elements (type_in known x) && is_index (type_of known i)) (is_jint (type_of known e)) h in
+    let q = and_parts (has_elements (type_in known x)) (is_index (type_of known i)) p.0 in
+    two known i e (on_type known is_index i refl q.1) (on_type known is_jint e refl p.1)
 formed_is known returns (Perform line c) h = refl
-formed_is known returns (PutJint line e) h = one known e (by_sort known is_jint e refl h)
-formed_is known returns (If line (TestExpr e) b) h = one known e (by_sort known is_truth e refl h)
+formed_is known returns (PutJint line e) h = one known e (on_type known is_jint e refl h)
+formed_is known returns (If line (TestExpr e) b) h = one known e (on_type known is_truth e refl h)
 formed_is known returns (If line (TestCall c) b) h = refl
-formed_is known returns (IfElse line (TestExpr e) b d) h = one known e (by_sort known is_truth e refl h)
+formed_is known returns (IfElse line (TestExpr e) b d) h = one known e (on_type known is_truth e refl h)
 formed_is known returns (IfElse line (TestCall c) b d) h = refl
-formed_is known returns (While line e b) h = one known e (by_sort known is_truth e refl h)
+formed_is known returns (While line e b) h = one known e (on_type known is_truth e refl h)
 formed_is known returns (Return line) h = refl
 formed_is known returns (ReturnValue line e) h = one known e (return_formed known returns e h)
 
@@ -110,7 +110,7 @@ with_formed known None = refl
 with_formed known (Some c) = refl
 
 -- what doesn't fit of a statement whose own rule holds
-pub misfits_is : (known : Scope) (returns : ResultType) (s : Stmt) → statement_fits known returns s ≡ true → some_passes (λ c. not (list_all (is_formed known) (call_expressions c)) || not (call_arguments_fit known c (function_named c.function))) (own_call s) ≡ breaks_sort_rule SortMisfit known [] returns s
+pub misfits_is : (known : Scope) (returns : ResultType) (s : Stmt) → statement_fits known returns s ≡ true → some_passes (λ c. not (list_all (is_formed known) (call_expressions c)) || not (call_arguments_fit known c (function_named c.function))) (own_call s) ≡ breaks_type_rule TypeMisfit known [] returns s
 misfits_is known returns s is =
     with_formed known (own_call s)
     ∙ ap (λ b. not b || some_passes (λ c. not (fit known c)) (own_call s)) (sym (formed_is known returns s is))

@@ -10,9 +10,9 @@ use Rattle.syntax.specs.declared.unit.Item.{Item as ItemInMemory}
 use Rattle.syntax.specs.Parts.{parameter_names, item_name}
 use Rattle.syntax.specs.Tree.{Void, Item, StaticItem, FunctionItem}
 use Rattle.syntax.specs.Views.{parameter_type_tree, parameter_tree, function_tree, static_tree, item_tree, result_tree, block_tree}
-use Rattle.type_rules.specs.declared.sort.Sort.{Sort as SortInMemory}
-use Rattle.type_rules.specs.Sorts.{Sort, Ref, Scope}
-use Rattle.type_rules.specs.SortRules.{Place, StaticForm, HeadForm, UnknownName, DeclaredTwice, has_name, has_repeated, breaks, broken_at, parameter_sort, places_of, function_places, item_places}
+use Rattle.type_rules.specs.declared.ty.ExprType.{ExprType as TypeInMemory}
+use Rattle.type_rules.specs.ExprTypes.{ExprType, Ref, Scope}
+use Rattle.type_rules.specs.TypeRules.{Place, StaticForm, HeadForm, UnknownName, DeclaredTwice, has_name, has_repeated, breaks, broken_at, parameter_type, places_of, function_places, item_places}
 use Rattle.types.specs.AllFaults.{told_at}
 use Rattle.types.specs.Faults.{broken_if, found, scope_of, entry_scope, head_faults, own_places, with_static}
 use Rattle.types.proofs.RuleLemmas.{listed}
@@ -20,20 +20,20 @@ use Rattle.types.proofs.PlaceLemmas.{found-none, found-append, found-next}
 
 -- ---- what is known and taken at a function's beginning
 
-known_names : (known : ByName SortInMemory) → map {B = Identifier} (λ v. v.0) (scope_of known) ≡ map {B = Identifier} (λ k. k.0) known
+known_names : (known : ByName TypeInMemory) → map {B = Identifier} (λ v. v.0) (scope_of known) ≡ map {B = Identifier} (λ k. k.0) known
 known_names [] = refl
 known_names (k ∷ known) = ap (λ names. k.0 ∷ names) (known_names known)
 
-entry_sorts : (parameters : List ParameterInMemory) → map {B = Identifier × Sort} (λ p. (p.name, parameter_sort p.type)) (map parameter_tree parameters) ≡ map {B = Identifier × Sort} (λ p. (p.name, parameter_sort (parameter_type_tree p.kind))) parameters
-entry_sorts [] = refl
-entry_sorts (p ∷ parameters) = ap (λ xs. (p.name, parameter_sort (parameter_type_tree p.kind)) ∷ xs) (entry_sorts parameters)
+entry_types : (parameters : List ParameterInMemory) → map {B = Identifier × ExprType} (λ p. (p.name, parameter_type p.type)) (map parameter_tree parameters) ≡ map {B = Identifier × ExprType} (λ p. (p.name, parameter_type (parameter_type_tree p.kind))) parameters
+entry_types [] = refl
+entry_types (p ∷ parameters) = ap (λ xs. (p.name, parameter_type (parameter_type_tree p.kind)) ∷ xs) (entry_types parameters)
 
 entry_names : (parameters : List ParameterInMemory) (statics : Scope)
-    → map {B = Identifier} (λ v. v.0) (map {B = Identifier × Sort} (λ p. (p.name, parameter_sort (parameter_type_tree p.kind))) parameters ++ statics) ≡ map (λ p. p.name) (map parameter_tree parameters) ++ map (λ s. s.0) statics
+    → map {B = Identifier} (λ v. v.0) (map {B = Identifier × ExprType} (λ p. (p.name, parameter_type (parameter_type_tree p.kind))) parameters ++ statics) ≡ map (λ p. p.name) (map parameter_tree parameters) ++ map (λ s. s.0) statics
 entry_names [] statics = refl
 entry_names (p ∷ parameters) statics = ap (λ names. p.name ∷ names) (entry_names parameters statics)
 
-taken_names : (statics : Scope) (f : FunctionInMemory) (known : ByName SortInMemory) → scope_of known ≡ entry_scope statics f → parameter_names (function_tree f) ++ map (λ s. s.0) statics ≡ map {B = Identifier} (λ k. k.0) known
+taken_names : (statics : Scope) (f : FunctionInMemory) (known : ByName TypeInMemory) → scope_of known ≡ entry_scope statics f → parameter_names (function_tree f) ++ map (λ s. s.0) statics ≡ map {B = Identifier} (λ k. k.0) known
 taken_names statics f known e =
     sym (ap (λ names. f.class_name ∷ names) (entry_names f.parameters.items statics)) ∙ sym (ap (λ (scope : Scope). map {B = Identifier} (λ v. v.0) scope) e) ∙ known_names known
 
@@ -54,14 +54,14 @@ head taken statics f entry e =
     ∙ ap (λ xs. broken_if (not (is_some (unmangle f.name))) UnknownName f.line ++ xs) (append-nil _)
 
 -- what is refused in a function where these names are known at its beginning
-pub found-function : (taken : List Identifier) (statics : Scope) (f : FunctionInMemory) (known : ByName SortInMemory) → scope_of known ≡ entry_scope statics f
+pub found-function : (taken : List Identifier) (statics : Scope) (f : FunctionInMemory) (known : ByName TypeInMemory) → scope_of known ≡ entry_scope statics f
     → found (function_places taken statics (function_tree f)) ≡ take 1 (head_faults taken (map {B = Identifier} (λ k. k.0) known) f) ++ found (places_of (result_tree f.result) (scope_of known) (map {B = Identifier} (λ k. k.0) known) (block_tree f.body))
 unfolding head_place
 found-function taken statics f known e =
     let names = taken_names statics f known e in
     found-next (head_place taken statics f) _
     ∙ ap₂ (λ xs ys. xs ++ ys) (ap (take 1) (head taken statics f (map {B = Identifier} (λ k. k.0) known) names))
-    (ap₂ (λ scope all. found (places_of (result_tree f.result) scope all (block_tree f.body))) (ap (λ xs. (f.class_name, Ref) ∷ xs ++ statics) (entry_sorts f.parameters.items) ∙ sym e) names)
+    (ap₂ (λ scope all. found (places_of (result_tree f.result) scope all (block_tree f.body))) (ap (λ xs. (f.class_name, Ref) ∷ xs ++ statics) (entry_types f.parameters.items) ∙ sym e) names)
 
 -- ---- statics
 

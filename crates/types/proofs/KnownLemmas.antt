@@ -1,4 +1,4 @@
--- What has a sort uses no name that isn't known, and so a statement without a call that fits uses none.
+-- What has a type uses no name that isn't known, and so a statement without a call that fits uses none.
 use Rattle.std.proofs.lemmas.List.Folds.{list_any-append}
 use Rattle.std.proofs.lemmas.Bool.{and_parts, or_cases}
 use Rattle.std.proofs.Common.{◌≡◌, ◌⊎◌, is_none, Bool, true, false, not, ◌&&◌, ◌||◌, List, [], ◌++◌, Option, Some, None, is_some, refl, sym, ap, ◌∙◌, if◌then◌else◌, inl, inr}
@@ -8,30 +8,30 @@ use Rattle.base.specs.Bytes.{Identifier}
 use Rattle.base.specs.Options.{some_passes}
 use Rattle.syntax.specs.Parts.{names_in, null_tested, own_call, own_expressions, assigned_name}
 use Rattle.syntax.specs.Tree.{Expr, Number, Named, Variable, Element, Prefix, Binary, Paren, PrefixOp, LogicalNot, Complement, ToWord, ToInt, Null, BinaryOp, Equal, NotEqual, FromExpr, FromCall, TestExpr, TestCall, ResultType, Void, IntResult, ReferenceResult, Stmt, Declare, DeclareBuffer, DeclareChars, DeclareArray, Assign, AssignElement, Perform, PutJint, If, IfElse, While, Return, ReturnValue}
-use Rattle.type_rules.specs.Sorts.{Scope, Sort, Word, Jint, Flag, Truth, Ref, Global, Weak, FieldId, MethodId, Buffer, Array, sort_of, sort_in, prefix_sort, binary_sort, OperatorGroup, Logic, Equality, Order, OnWords, group, null_test_sort, has_elements, is_index, is_word, is_jint, is_flag, is_truth, is_ref, is_null, name_sort, is_nullable, is_unknown}
-use Rattle.type_rules.specs.SortRules.{SortMisfit, UnknownName, is_formed, variable_sort, value_sets, return_fits, statement_fits, breaks_sort_rule}
+use Rattle.type_rules.specs.ExprTypes.{Scope, ExprType, Word, Jint, Flag, Truth, Ref, Global, Weak, FieldId, MethodId, Buffer, Array, type_of, type_in, prefix_type, binary_type, OperatorGroup, Logic, Equality, Order, OnWords, group, null_test_type, has_elements, is_index, is_word, is_jint, is_flag, is_truth, is_ref, is_null, name_type, is_nullable, is_unknown}
+use Rattle.type_rules.specs.TypeRules.{TypeMisfit, UnknownName, is_formed, variable_type, value_sets, return_fits, statement_fits, breaks_type_rule}
 use Rattle.type_rules.specs.Uses.{expr_uses, uses}
-use Rattle.type_rules.proofs.SortCases.{none_right}
+use Rattle.type_rules.proofs.TypeCases.{none_right}
 use Rattle.types.proofs.FormedLemmas.{some_of}
 use Rattle.types.proofs.StatementLemmas.{unknown_names}
 
 -- ---- operators
 
-prefix_operand : (op : PrefixOp) (o : Option Sort) → is_some (prefix_sort op o) ≡ true → is_some o ≡ true
+prefix_operand : (op : PrefixOp) (o : Option ExprType) → is_some (prefix_type op o) ≡ true → is_some o ≡ true
 prefix_operand op (Some s) h = refl
 prefix_operand LogicalNot None h = absurd cc
 prefix_operand Complement None h = absurd cc
 prefix_operand ToWord None h = absurd cc
 prefix_operand ToInt None h = absurd cc
 
-binary_left : (g : OperatorGroup) (o r : Option Sort) → is_some (binary_sort g o r) ≡ true → is_some o ≡ true
+binary_left : (g : OperatorGroup) (o r : Option ExprType) → is_some (binary_type g o r) ≡ true → is_some o ≡ true
 binary_left g (Some s) r h = refl
 binary_left Logic None r h = absurd cc
 binary_left Equality None r h = absurd cc
 binary_left Order None r h = absurd cc
 binary_left OnWords None r h = absurd cc
 
-binary_right : (g : OperatorGroup) (o r : Option Sort) → is_some (binary_sort g o r) ≡ true → is_some r ≡ true
+binary_right : (g : OperatorGroup) (o r : Option ExprType) → is_some (binary_type g o r) ≡ true → is_some r ≡ true
 binary_right g o (Some s) h = refl
 binary_right g o None h = let f : true ≡ false = sym h ∙ ap is_some (none_right g o) in absurd cc
 
@@ -43,7 +43,7 @@ null_cases op a b = inl refl
 
 -- ---- expressions
 
-element_parts : (o r : Option Sort) → is_some (if has_elements o && is_index r then Some Jint else None) ≡ true → (is_some o ≡ true) × (is_some r ≡ true)
+element_parts : (o r : Option ExprType) → is_some (if has_elements o && is_index r then Some Jint else None) ≡ true → (is_some o ≡ true) × (is_some r ≡ true)
 element_parts (Some s) (Some u) h = (refl, refl)
 element_parts None r h = absurd cc
 element_parts (Some s) None h = index_missing (has_elements (Some s)) h
@@ -52,55 +52,55 @@ element_parts (Some s) None h = index_missing (has_elements (Some s)) h
     index_missing true h = absurd cc
     index_missing false h = absurd cc
 
-compared : (g : OperatorGroup) (o : Option Sort) → is_some (option_or (if is_nullable o then Some Truth else None) (binary_sort g o None)) ≡ true → is_some o ≡ true
+compared : (g : OperatorGroup) (o : Option ExprType) → is_some (option_or (if is_nullable o then Some Truth else None) (binary_type g o None)) ≡ true → is_some o ≡ true
 compared g (Some s) h = refl
 compared g None h = binary_left g None None h
 
-known_name : (scope : Scope) (x : Identifier) → is_some (sort_in scope x) ≡ true → is_unknown scope x ≡ false
-known_name scope x h = by_sort (sort_in scope x) h
+known_name : (scope : Scope) (x : Identifier) → is_some (type_in scope x) ≡ true → is_unknown scope x ≡ false
+known_name scope x h = on_type (type_in scope x) h
   where
-    by_sort : (o : Option Sort) → is_some o ≡ true → is_none o ≡ false
-    by_sort (Some s) h = refl
-    by_sort None h = absurd cc
+    on_type : (o : Option ExprType) → is_some o ≡ true → is_none o ≡ false
+    on_type (Some s) h = refl
+    on_type None h = absurd cc
 
 -- none among the names of both
 in_both : (p : Identifier → Bool) (xs ys : List Identifier) → list_any p xs ≡ false → list_any p ys ≡ false → list_any p (xs ++ ys) ≡ false
 in_both p xs ys h k = list_any-append p xs ys ∙ (λ i. h i || k i)
 
-pub sorted_known : (scope : Scope) (e : Expr) → is_some (sort_of scope e) ≡ true → expr_uses (is_unknown scope) e ≡ false
-sorted_known scope (Number n unsigned) h = refl
-sorted_known scope (Named c) h = refl
-sorted_known scope (Variable x) h = ap (λ b. b || false) (known_name scope x h)
-sorted_known scope (Element x i) h =
-    let parts = element_parts (sort_in scope x) (sort_of scope i) h in
-    (λ j. known_name scope x parts.0 j || sorted_known scope i parts.1 j)
-sorted_known scope (Prefix op a) h = sorted_known scope a (prefix_operand op (sort_of scope a) h)
-sorted_known scope (Paren a) h = sorted_known scope a h
-sorted_known scope (Binary op a b) h = elim (null_cases op a b) [
+pub typed_known : (scope : Scope) (e : Expr) → is_some (type_of scope e) ≡ true → expr_uses (is_unknown scope) e ≡ false
+typed_known scope (Number n unsigned) h = refl
+typed_known scope (Named c) h = refl
+typed_known scope (Variable x) h = ap (λ b. b || false) (known_name scope x h)
+typed_known scope (Element x i) h =
+    let parts = element_parts (type_in scope x) (type_of scope i) h in
+    (λ j. known_name scope x parts.0 j || typed_known scope i parts.1 j)
+typed_known scope (Prefix op a) h = typed_known scope a (prefix_operand op (type_of scope a) h)
+typed_known scope (Paren a) h = typed_known scope a h
+typed_known scope (Binary op a b) h = elim (null_cases op a b) [
   | inl none ↦
       let g = group op in
-      let sorted : is_some (binary_sort g (sort_of scope a) (sort_of scope b)) ≡ true =
-      ap (λ (o : Option Identifier). is_some (option_or (null_test_sort scope o) (binary_sort g (sort_of scope a) (sort_of scope b)))) (sym none) ∙ h in
-      in_both (is_unknown scope) (names_in a) (names_in b) (sorted_known scope a (binary_left g (sort_of scope a) (sort_of scope b) sorted)) (sorted_known scope b (binary_right g (sort_of scope a) (sort_of scope b) sorted))
+      let well_typed : is_some (binary_type g (type_of scope a) (type_of scope b)) ≡ true =
+      ap (λ (o : Option Identifier). is_some (option_or (null_test_type scope o) (binary_type g (type_of scope a) (type_of scope b)))) (sym none) ∙ h in
+      in_both (is_unknown scope) (names_in a) (names_in b) (typed_known scope a (binary_left g (type_of scope a) (type_of scope b) well_typed)) (typed_known scope b (binary_right g (type_of scope a) (type_of scope b) well_typed))
   | inr named ↦
       let x = named.0 in
       let g = group op in
-      let sorted : is_some (option_or (null_test_sort scope (Some x)) (binary_sort g (sort_in scope x) None)) ≡ true =
-      sym (λ i. is_some (option_or (null_test_sort scope (named.3 i)) (binary_sort g (sort_of scope (named.1 i)) (sort_of scope (named.2 i))))) ∙ h in
-      (λ i. list_any (is_unknown scope) (names_in (named.1 i) ++ names_in (named.2 i))) ∙ ap (λ b. b || false) (known_name scope x (compared g (sort_in scope x) sorted))
+      let well_typed : is_some (option_or (null_test_type scope (Some x)) (binary_type g (type_in scope x) None)) ≡ true =
+      sym (λ i. is_some (option_or (null_test_type scope (named.3 i)) (binary_type g (type_of scope (named.1 i)) (type_of scope (named.2 i))))) ∙ h in
+      (λ i. list_any (is_unknown scope) (names_in (named.1 i) ++ names_in (named.2 i))) ∙ ap (λ b. b || false) (known_name scope x (compared g (type_in scope x) well_typed))
 ]
 
 -- ---- statements
 
-by_sort : (known : Scope) (p : Option Sort → Bool) (e : Expr) → p None ≡ false → p (sort_of known e) ≡ true → expr_uses (is_unknown known) e ≡ false
-by_sort known p e none h = sorted_known known e (some_of p (sort_of known e) none h)
+on_type : (known : Scope) (p : Option ExprType → Bool) (e : Expr) → p None ≡ false → p (type_of known e) ≡ true → expr_uses (is_unknown known) e ≡ false
+on_type known p e none h = typed_known known e (some_of p (type_of known e) none h)
 
 null_known : (known : Scope) (e : Expr) → is_null e ≡ true → expr_uses (is_unknown known) e ≡ false
 null_known known (Named c) h = refl
 null_known known e h = absurd cc
 
-name_known : (known : Scope) (p : Option Sort → Bool) (e : Expr) → p None ≡ false → p (name_sort known e) ≡ true → expr_uses (is_unknown known) e ≡ false
-name_known known p (Variable x) none h = ap (λ b. b || false) (known_name known x (some_of p (sort_in known x) none h))
+name_known : (known : Scope) (p : Option ExprType → Bool) (e : Expr) → p None ≡ false → p (name_type known e) ≡ true → expr_uses (is_unknown known) e ≡ false
+name_known known p (Variable x) none h = ap (λ b. b || false) (known_name known x (some_of p (type_in known x) none h))
 name_known known p (Number n unsigned) none h = refl
 name_known known p (Named c) none h = refl
 name_known known p (Element x i) none h = let f : true ≡ false = sym h ∙ none in absurd cc
@@ -108,11 +108,11 @@ name_known known p (Prefix op a) none h = let f : true ≡ false = sym h ∙ non
 name_known known p (Binary op a b) none h = let f : true ≡ false = sym h ∙ none in absurd cc
 name_known known p (Paren a) none h = let f : true ≡ false = sym h ∙ none in absurd cc
 
-value_known : (known : Scope) (o : Option Sort) (e : Expr) → value_sets known o e ≡ true → expr_uses (is_unknown known) e ≡ false
-value_known known (Some Word) e h = by_sort known is_word e refl h
-value_known known (Some Jint) e h = by_sort known is_jint e refl h
-value_known known (Some Flag) e h = by_sort known is_flag e refl h
-value_known known (Some Ref) e h = elim (or_cases (is_null e) (is_some (name_sort known e)) h) [ inl w ↦ null_known known e w | inr w ↦ name_known known is_some e refl w ]
+value_known : (known : Scope) (o : Option ExprType) (e : Expr) → value_sets known o e ≡ true → expr_uses (is_unknown known) e ≡ false
+value_known known (Some Word) e h = on_type known is_word e refl h
+value_known known (Some Jint) e h = on_type known is_jint e refl h
+value_known known (Some Flag) e h = on_type known is_flag e refl h
+value_known known (Some Ref) e h = elim (or_cases (is_null e) (is_some (name_type known e)) h) [ inl w ↦ null_known known e w | inr w ↦ name_known known is_some e refl w ]
 value_known known (Some Global) e h = null_known known e h
 value_known known (Some Weak) e h = null_known known e h
 value_known known (Some FieldId) e h = null_known known e h
@@ -124,32 +124,32 @@ value_known known None e h = absurd cc
 
 return_known : (known : Scope) (returns : ResultType) (e : Expr) → return_fits known returns e ≡ true → expr_uses (is_unknown known) e ≡ false
 return_known known Void e h = absurd cc
-return_known known IntResult e h = by_sort known is_jint e refl h
-return_known known (ReferenceResult r) e h = elim (or_cases (is_null e) (is_ref (name_sort known e)) h) [ inl w ↦ null_known known e w | inr w ↦ name_known known is_ref e refl w ]
+return_known known IntResult e h = on_type known is_jint e refl h
+return_known known (ReferenceResult r) e h = elim (or_cases (is_null e) (is_ref (name_type known e)) h) [ inl w ↦ null_known known e w | inr w ↦ name_known known is_ref e refl w ]
 
-set_known : (known : Scope) (o : Option Sort) (e : Expr) → value_sets known o e ≡ true → is_some o ≡ true
+set_known : (known : Scope) (o : Option ExprType) (e : Expr) → value_sets known o e ≡ true → is_some o ≡ true
 set_known known (Some s) e h = refl
 set_known known None e h = absurd cc
 
-elements_some : (o : Option Sort) → has_elements o ≡ true → is_some o ≡ true
+elements_some : (o : Option ExprType) → has_elements o ≡ true → is_some o ≡ true
 elements_some (Some s) h = refl
 elements_some None h = absurd cc
 
 -- the names that a statement without a call uses, or sets
 pub fit_known : (known : Scope) (returns : ResultType) (s : Stmt) → own_call s ≡ None → statement_fits known returns s ≡ true → (uses (is_unknown known) s || some_passes (is_unknown known) (assigned_name s)) ≡ false
-fit_known known returns (Declare line t x (FromExpr e)) none h = ap (λ b. b || false) (value_known known (Some (variable_sort t)) e h)
+fit_known known returns (Declare line t x (FromExpr e)) none h = ap (λ b. b || false) (value_known known (Some (variable_type t)) e h)
 fit_known known returns (DeclareBuffer line t x (FromExpr e)) none h = ap (λ b. b || false) (null_known known e h)
 fit_known known returns (DeclareChars line x (FromExpr e)) none h = ap (λ b. b || false) (null_known known e h)
 fit_known known returns (DeclareArray line t x size) none h = refl
-fit_known known returns (Assign line x (FromExpr e)) none h = (λ i. value_known known (sort_in known x) e h i || known_name known x (set_known known (sort_in known x) e h) i)
+fit_known known returns (Assign line x (FromExpr e)) none h = (λ i. value_known known (type_in known x) e h i || known_name known x (set_known known (type_in known x) e h) i)
 fit_known known returns (AssignElement line x i e) none h =
-    let p = and_parts (has_elements (sort_in known x) && is_index (sort_of known i)) (is_jint (sort_of known e)) h in
-    let q = and_parts (has_elements (sort_in known x)) (is_index (sort_of known i)) p.0 in
-    (λ j. ((known_name known x (elements_some (sort_in known x) q.0) j || by_sort known is_index i refl q.1 j) || by_sort known is_jint e refl p.1 j) || false)
-fit_known known returns (PutJint line e) none h = ap (λ b. b || false) (by_sort known is_jint e refl h)
-fit_known known returns (If line (TestExpr e) b) none h = ap (λ b. b || false) (by_sort known is_truth e refl h)
-fit_known known returns (IfElse line (TestExpr e) b d) none h = ap (λ b. b || false) (by_sort known is_truth e refl h)
-fit_known known returns (While line e b) none h = ap (λ b. b || false) (by_sort known is_truth e refl h)
+    let p = and_parts (has_elements (type_in known x) && is_index (type_of known i)) (is_jint (type_of known e)) h in
+    let q = and_parts (has_elements (type_in known x)) (is_index (type_of known i)) p.0 in
+    (λ j. ((known_name known x (elements_some (type_in known x) q.0) j || on_type known is_index i refl q.1 j) || on_type known is_jint e refl p.1 j) || false)
+fit_known known returns (PutJint line e) none h = ap (λ b. b || false) (on_type known is_jint e refl h)
+fit_known known returns (If line (TestExpr e) b) none h = ap (λ b. b || false) (on_type known is_truth e refl h)
+fit_known known returns (IfElse line (TestExpr e) b d) none h = ap (λ b. b || false) (on_type known is_truth e refl h)
+fit_known known returns (While line e b) none h = ap (λ b. b || false) (on_type known is_truth e refl h)
 fit_known known returns (Return line) none h = refl
 fit_known known returns (ReturnValue line e) none h = ap (λ b. b || false) (return_known known returns e h)
 fit_known known returns (Declare line t x (FromCall c)) none h = absurd cc
@@ -160,8 +160,8 @@ fit_known known returns (Perform line c) none h = absurd cc
 fit_known known returns (If line (TestCall c) b) none h = absurd cc
 fit_known known returns (IfElse line (TestCall c) b d) none h = absurd cc
 
--- a statement that breaks no rule of sorts and has no call names nothing unknown
-pub none_unknown : (known : Scope) (returns : ResultType) (s : Stmt) → own_call s ≡ None → breaks_sort_rule SortMisfit known [] returns s ≡ false → breaks_sort_rule UnknownName known [] Void s ≡ false
+-- a statement that breaks no rule of types and has no call names nothing unknown
+pub none_unknown : (known : Scope) (returns : ResultType) (s : Stmt) → own_call s ≡ None → breaks_type_rule TypeMisfit known [] returns s ≡ false → breaks_type_rule UnknownName known [] Void s ≡ false
 none_unknown known returns s none h = unknown_names known s ∙ fit_known known returns s none (fits (list_all (is_formed known) (own_expressions s)) (statement_fits known returns s) _ h)
   where
     fits : (a b c : Bool) → (not a || not b || c) ≡ false → b ≡ true

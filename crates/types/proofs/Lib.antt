@@ -1,7 +1,7 @@
 pub mod FindsLemmas
 pub mod KeptLemmas
 pub mod RuleLemmas
-pub mod SortLemmas
+pub mod TypeLemmas
 pub mod StatementLemmas
 pub mod ArgumentLemmas
 mod CalledLemmas

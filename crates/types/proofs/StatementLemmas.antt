@@ -10,8 +10,8 @@ use Rattle.syntax.specs.declared.stmt.Form.TheVariants as form
 use Rattle.syntax.specs.Parts.{line_of, used_names, assigned_name}
 use Rattle.syntax.specs.Tree.{ResultType, Void, Stmt}
 use Rattle.syntax.specs.Views.{form_tree}
-use Rattle.type_rules.specs.Sorts.{Scope, is_unknown}
-use Rattle.type_rules.specs.SortRules.{UnknownName, sort_rules, breaks_sort_rule, broken_at}
+use Rattle.type_rules.specs.ExprTypes.{Scope, is_unknown}
+use Rattle.type_rules.specs.TypeRules.{UnknownName, typing_rules, breaks_type_rule, broken_at}
 use Rattle.types.specs.Faults.{statement_place, refused_of}
 use Rattle.type_rules.specs.Uses.{uses}
 use Rattle.types.proofs.RuleLemmas.{listed}
@@ -26,13 +26,13 @@ any_of p (Some x) = or_false (p x)
     or_false false = refl
 
 -- the names that are used, and the one that is set
-pub unknown_names : (known : Scope) (s : Stmt) → breaks_sort_rule UnknownName known [] Void s ≡ (uses (is_unknown known) s || some_passes (is_unknown known) (assigned_name s))
+pub unknown_names : (known : Scope) (s : Stmt) → breaks_type_rule UnknownName known [] Void s ≡ (uses (is_unknown known) s || some_passes (is_unknown known) (assigned_name s))
 unknown_names known s =
     list_any-append (is_unknown known) (used_names s) (option_to_list (assigned_name s))
     ∙ ap₂ ◌||◌ (uses_is (is_unknown known) s) (any_of (is_unknown known) (assigned_name s))
 
-pub statement-faults : (returns : ResultType) (known : Scope) (taken : List Identifier) (s : Stmt) → broken_at (statement_place returns known taken s) ≡ refused_of returns known taken s (line_of s) sort_rules
-statement-faults returns known taken s = listed (λ rule. breaks_sort_rule rule known taken returns s) (line_of s)
+pub statement-faults : (returns : ResultType) (known : Scope) (taken : List Identifier) (s : Stmt) → broken_at (statement_place returns known taken s) ≡ refused_of returns known taken s (line_of s) typing_rules
+statement-faults returns known taken s = listed (λ rule. breaks_type_rule rule known taken returns s) (line_of s)
 
 -- a statement in memory has its line
 pub line-of : (line : ℕ) (f : FormInMemory) → line_of (form_tree line f) ≡ line

@@ -5,7 +5,7 @@ use Rattle.std.proofs.lemmas.List.Folds.{list_any-append}
 use Rattle.std.proofs.lemmas.Cmp.{nat_list_eq_equiv}
 use Rattle.std.proofs.lemmas.Grind.{reverse_onto}
 use Rattle.base.specs.Bytes.{Identifier, ByName, lookup}
-use Rattle.type_rules.specs.SortRules.{has_name, has_repeated}
+use Rattle.type_rules.specs.TypeRules.{has_name, has_repeated}
 
 -- their names, in the order of their declarations
 abbrev pub in_order : {T : Type 0} → ByName T → List Identifier

@@ -1,12 +1,12 @@
 -- All faults of a unit that are told, and not only the first.
 use Rattle.std.specs.Prelude.{ℕ, List, take, flat_map}
 use Rattle.syntax.specs.Tree.{SourceUnit}
-use Rattle.type_rules.specs.SortRules.{SortRule, Place, broken_at, places}
+use Rattle.type_rules.specs.TypeRules.{TypeRule, Place, broken_at, places}
 
 -- of a place at which rules are broken the one of the least number
-abbrev pub told_at : Place → List (ℕ × SortRule)
+abbrev pub told_at : Place → List (ℕ × TypeRule)
 told_at place = take 1 (broken_at place)
 
 -- those of all places, in text order
-abbrev pub sort_faults : SourceUnit → List (ℕ × SortRule)
-sort_faults unit = flat_map told_at (places unit)
+abbrev pub typing_faults : SourceUnit → List (ℕ × TypeRule)
+typing_faults unit = flat_map told_at (places unit)

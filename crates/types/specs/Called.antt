@@ -6,8 +6,8 @@ use Rattle.base.specs.Element.{JChar}
 use Rattle.syntax.specs.Tree.{Call, Test, TestExpr, TestCall, Stmt, Declare, DeclareBuffer, DeclareChars, DeclareArray}
 use Rattle.jni.specs.JniFunction.{JniFunction, function_named}
 use Rattle.jni.specs.Prototype.{ParameterKind, Passed}
-use Rattle.type_rules.specs.Sorts.{Sort, Buffer, Array}
-use Rattle.type_rules.specs.SortRules.{variable_sort}
+use Rattle.type_rules.specs.ExprTypes.{ExprType, Buffer, Array}
+use Rattle.type_rules.specs.TypeRules.{variable_type}
 
 -- the function of a call, where there is a call and the table has its name
 abbrev pub function_in : Option Call → Option JniFunction
@@ -22,9 +22,9 @@ abbrev pub call_of_test : Test → Option Call
 call_of_test (TestExpr e) = None
 call_of_test (TestCall c) = Some c
 
--- the name that a statement declares, and its sort
-abbrev pub declared : Stmt → Option (Identifier × Sort)
-declared (Declare line t x r) = Some (x, variable_sort t)
+-- the name that a statement declares, and its type
+abbrev pub declared : Stmt → Option (Identifier × ExprType)
+declared (Declare line t x r) = Some (x, variable_type t)
 declared (DeclareBuffer line t x r) = Some (x, Buffer t true)
 declared (DeclareChars line x r) = Some (x, Buffer JChar false)
 declared (DeclareArray line t x size) = Some (x, Array t size)

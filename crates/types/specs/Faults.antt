@@ -9,20 +9,20 @@ use Rattle.syntax.specs.Parts.{line_of, statements_of, names_declared}
 use Rattle.syntax.specs.Tree.{ResultType, Void, Stmt, If, IfElse, While, Item, StaticItem, FunctionItem}
 use Rattle.syntax.specs.Views.{parameter_type_tree}
 use Rattle.types.specs.AllFaults.{told_at}
-use Rattle.types.specs.declared.fault.SortRule.{SortRule as RuleInMemory}
-use Rattle.types.specs.declared.fault.SortRule.TheVariants as rules
+use Rattle.types.specs.declared.fault.TypeRule.{TypeRule as RuleInMemory}
+use Rattle.types.specs.declared.fault.TypeRule.TheVariants as rules
 use Rattle.types.specs.declared.fault.TypeError.{TypeError}
 use Rattle.types.specs.declared.fault.TypeError.TheVariants.{Memory, Fault}
-use Rattle.type_rules.specs.declared.sort.Sort.{Sort as SortInMemory}
-use Rattle.type_rules.specs.Sorts.{Ref, Scope}
-use Rattle.type_rules.specs.SortViews.{sort_value}
-use Rattle.type_rules.specs.SortRules.{SortRule, UnknownName, DeclaredTwice, SortMisfit, UnknownFunction, ArgumentCount, ReferenceCopied, BadMode, ReadOnlyWrite, Place, StaticForm, StatementForm, breaks_sort_rule, places_of, function_places, has_name, has_repeated, parameter_sort, static_sort}
+use Rattle.type_rules.specs.declared.ty.ExprType.{ExprType as TypeInMemory}
+use Rattle.type_rules.specs.ExprTypes.{Ref, Scope}
+use Rattle.type_rules.specs.TypeViews.{type_value}
+use Rattle.type_rules.specs.TypeRules.{TypeRule, UnknownName, DeclaredTwice, TypeMisfit, UnknownFunction, ArgumentCount, ReferenceCopied, BadMode, ReadOnlyWrite, Place, StaticForm, StatementForm, breaks_type_rule, places_of, function_places, has_name, has_repeated, parameter_type, static_type}
 
 -- the rule of the definitions
-abbrev pub rule_of : RuleInMemory → SortRule
+abbrev pub rule_of : RuleInMemory → TypeRule
 rule_of rules.UnknownName = UnknownName
 rule_of rules.DeclaredTwice = DeclaredTwice
-rule_of rules.SortMisfit = SortMisfit
+rule_of rules.TypeMisfit = TypeMisfit
 rule_of rules.UnknownFunction = UnknownFunction
 rule_of rules.ArgumentCount = ArgumentCount
 rule_of rules.ReferenceCopied = ReferenceCopied
@@ -34,21 +34,21 @@ abbrev pub TypeFault : Type 0
 TypeFault = FaultAt RuleInMemory ℕ
 
 -- the line and the rule
-abbrev pub fault_of : TypeFault → ℕ × SortRule
+abbrev pub fault_of : TypeFault → ℕ × TypeRule
 fault_of f = (f.line, rule_of f.rule)
 
 -- the names that are known
-abbrev pub scope_of : ByName SortInMemory → Scope
-scope_of known = map (λ k. (k.0, sort_value k.1)) known
+abbrev pub scope_of : ByName TypeInMemory → Scope
+scope_of known = map (λ k. (k.0, type_value k.1)) known
 
 -- ---- what a check finds in a list of broken rules
 
 -- the rules that are broken, each with its line
 abbrev pub Faults : Type 0
-Faults = List (ℕ × SortRule)
+Faults = List (ℕ × TypeRule)
 
 -- the first of them
-abbrev pub first : Faults → Option (ℕ × SortRule)
+abbrev pub first : Faults → Option (ℕ × TypeRule)
 first [] = None
 first (f ∷ rest) = Some f
 
@@ -70,7 +70,7 @@ IfBroken (Fault f) P = P f
 -- ---- what is refused at places
 
 -- the rule at this line, where it is broken
-abbrev pub broken_if : Bool → SortRule → ℕ → Faults
+abbrev pub broken_if : Bool → TypeRule → ℕ → Faults
 broken_if true rule line = (line, rule) ∷ []
 broken_if false rule line = []
 
@@ -94,8 +94,8 @@ abbrev pub statement_place : ResultType → Scope → List Identifier → Stmt �
 statement_place returns known taken s = record { line = line_of s; known = known; taken = taken; returns = returns; form = StatementForm s }
 
 -- what is refused at a statement on this line of these rules, one after the other
-abbrev pub refused_of : ResultType → Scope → List Identifier → Stmt → ℕ → List SortRule → Faults
-refused_of returns known taken s line rules = flat_map (λ rule. broken_if (breaks_sort_rule rule known taken returns s) rule line) rules
+abbrev pub refused_of : ResultType → Scope → List Identifier → Stmt → ℕ → List TypeRule → Faults
+refused_of returns known taken s line rules = flat_map (λ rule. broken_if (breaks_type_rule rule known taken returns s) rule line) rules
 
 -- the places inside a statement
 abbrev pub places_inside : ResultType → Scope → List Identifier → Stmt → List Place
@@ -112,7 +112,7 @@ own_places taken statics (FunctionItem f) = function_places taken statics f
 
 -- the statics after an item
 abbrev pub with_static : Scope → Item → Scope
-with_static statics (StaticItem s) = (s.name, static_sort s.type) ∷ statics
+with_static statics (StaticItem s) = (s.name, static_type s.type) ∷ statics
 with_static statics (FunctionItem f) = statics
 
 -- what is refused at a function's head after items of these names, where its parameters and the statics have those
@@ -123,10 +123,10 @@ head_faults taken entry f = broken_if (not (is_some (unmangle f.name))) UnknownN
 -- ---- names in memory
 
 -- the list ends with the other
-pub record IsAbove (all below : ByName SortInMemory) : Type 0 where
-  pub above : ByName SortInMemory
+pub record IsAbove (all below : ByName TypeInMemory) : Type 0 where
+  pub above : ByName TypeInMemory
   pub joined : all ≡ above ++ below
 
 -- what is known at a function's beginning, after these statics
 abbrev pub entry_scope : Scope → FunctionInMemory → Scope
-entry_scope statics f = (f.class_name, Ref) ∷ map (λ p. (p.name, parameter_sort (parameter_type_tree p.kind))) f.parameters.items ++ statics
+entry_scope statics f = (f.class_name, Ref) ∷ map (λ p. (p.name, parameter_type (parameter_type_tree p.kind))) f.parameters.items ++ statics

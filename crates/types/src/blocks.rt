@@ -3,7 +3,7 @@
 ghost use Rattle.std.specs.Prelude.{◌≡◌, ℕ, [], ◌∷◌, ◌++◌, OnOk};
 ghost use Rattle.syntax.specs.Parts.{statements_of, statements_within, names_declared};
 ghost use Rattle.syntax.specs.Views.{form_tree, block_tree, result_tree};
-ghost use Rattle.type_rules.specs.SortRules.{places_of, with_declared};
+ghost use Rattle.type_rules.specs.TypeRules.{places_of, with_declared};
 ghost use Rattle.types.specs.Faults.{Tells, IsAbove, scope_of, found, places_inside};
 
 use crate::fault::{TypeFault, keep};
@@ -11,11 +11,11 @@ use crate::statements::{check_statement, declared};
 use crate::taken::Taken;
 use std::alloc::AllocError;
 use syntax::{Block, Form, ResultType};
-use type_rules::{Known, Sort};
+use type_rules::{ExprType, Known};
 
 /// The name that a statement declares is known and taken.
 fn declare<'a: 'n, 'n>(
-    known: &mut Known<'a, Sort>,
+    known: &mut Known<'a, ExprType>,
     taken: &mut Taken<'n>,
     form: &'a Form,
 ) -> Result<(), AllocError>
@@ -26,8 +26,8 @@ fn declare<'a: 'n, 'n>(
         ≡ taken.old ++ names_declared (form_tree line form.now ∷ [])) }
 {
     match declared(form) {
-        Some((name, sort)) => {
-            known.declare(name, sort)?;
+        Some((name, ty)) => {
+            known.declare(name, ty)?;
             taken.add(name)?;
             Ok(())
         }
@@ -39,7 +39,7 @@ fn declare<'a: 'n, 'n>(
 #[tactic(auto, using(crate::proofs::PlaceLemmas::place_rules))]
 #[cycle(blocks)]
 fn check_inside<'a: 'n, 'n>(
-    known: &mut Known<'a, Sort>,
+    known: &mut Known<'a, ExprType>,
     taken: &mut Taken<'n>,
     returns: ResultType,
     form: &'a Form,
@@ -70,7 +70,7 @@ fn check_inside<'a: 'n, 'n>(
 /// or of all the first alone; what a statement declares is known after it, whether or not it keeps the rules.
 #[cycle(blocks)]
 pub(crate) fn check_block<'a: 'n, 'n>(
-    known: &mut Known<'a, Sort>,
+    known: &mut Known<'a, ExprType>,
     taken: &mut Taken<'n>,
     returns: ResultType,
     block: &'a Block,

@@ -6,58 +6,58 @@ ghost use Rattle.std.specs.Option.{option_map};
 ghost use Rattle.syntax.specs.Parts.{call_expressions};
 ghost use Rattle.syntax.specs.Views.{expr_tree, argument_tree, call_tree};
 ghost use Rattle.base.specs.Options.{some_passes};
-ghost use Rattle.type_rules.specs.Sorts.{is_unknown, is_null, is_reference, is_any_reference, name_sort, value_fits, address_fits, text_fits, argument_fits, arguments_fit, call_arguments_fit};
-ghost use Rattle.type_rules.specs.SortRules.{is_formed, is_mode, modes_fit, has_wrong_count, has_wrong_mode, result_fits, is_droppable, is_push, call_fits, may_be_dropped, may_be_tested};
+ghost use Rattle.type_rules.specs.ExprTypes.{is_unknown, is_null, is_reference, is_any_reference, name_type, value_fits, address_fits, text_fits, argument_fits, arguments_fit, call_arguments_fit};
+ghost use Rattle.type_rules.specs.TypeRules.{is_formed, is_mode, modes_fit, has_wrong_count, has_wrong_mode, result_fits, is_droppable, is_push, call_fits, may_be_dropped, may_be_tested};
 ghost use Rattle.jni.specs.JniFunction.{takes_count};
 ghost use Rattle.jni.specs.Prototype.{Passed};
 ghost use Rattle.jni.specs.Table.{function_value, parameter_value, result_value};
-ghost use Rattle.type_rules.specs.SortViews.{sort_value};
+ghost use Rattle.type_rules.specs.TypeViews.{type_value};
 ghost use Rattle.types.specs.Called.{with_passed};
 ghost use Rattle.types.specs.Faults.{scope_of};
 ghost use Rattle.type_rules.specs.Uses.{argument_uses, call_uses};
 
-use crate::expressions::{has_unknown, is_formed, is_null, name_sort, sort_of};
-use crate::scope::{is_unknown, sort_in};
-use crate::sort::{
+use crate::expressions::{has_unknown, is_formed, is_null, name_type, type_of};
+use crate::scope::{is_unknown, type_in};
+use crate::ty::{
     is_array_of, is_buffer_for, is_field, is_flag, is_global, is_jint, is_method, is_ref, is_weak,
 };
 use base::limits::MOST_FURTHER;
 use jni::{JniFunction, ParameterKind, ResultKind};
 use syntax::{Argument, Call, Constant, Expr, Name};
-use type_rules::{Known, Sort};
+use type_rules::{ExprType, Known};
 
 /// Whether an expression is NULL or the bare name of a reference.
-fn is_reference(known: &Known<'_, Sort>, e: &Expr) -> bool
-    ensures { result ≡ (is_null (expr_tree e.now) || is_reference (name_sort (scope_of known.now) (expr_tree e.now))) }
+fn is_reference(known: &Known<'_, ExprType>, e: &Expr) -> bool
+    ensures { result ≡ (is_null (expr_tree e.now) || is_reference (name_type (scope_of known.now) (expr_tree e.now))) }
 {
-    is_null(e) || is_ref(name_sort(known, e)) || is_global(name_sort(known, e))
+    is_null(e) || is_ref(name_type(known, e)) || is_global(name_type(known, e))
 }
 
 /// Whether an expression is NULL or the bare name of a reference, which may be weak.
-fn is_any_reference(known: &Known<'_, Sort>, e: &Expr) -> bool
-    ensures { result ≡ (is_null (expr_tree e.now) || is_any_reference (name_sort (scope_of known.now) (expr_tree e.now))) }
+fn is_any_reference(known: &Known<'_, ExprType>, e: &Expr) -> bool
+    ensures { result ≡ (is_null (expr_tree e.now) || is_any_reference (name_type (scope_of known.now) (expr_tree e.now))) }
 {
-    is_reference(known, e) || is_weak(name_sort(known, e))
+    is_reference(known, e) || is_weak(name_type(known, e))
 }
 
 /// Whether an expression fits a parameter; a mode is judged by a rule of its own.
-fn value_fits(known: &Known<'_, Sort>, kind: ParameterKind, e: &Expr) -> bool
+fn value_fits(known: &Known<'_, ExprType>, kind: ParameterKind, e: &Expr) -> bool
     ensures { result ≡ value_fits (scope_of known.now) (parameter_value kind) (expr_tree e.now) }
 {
     match kind {
-        ParameterKind::IntNumber => is_jint(sort_of(known, e)),
+        ParameterKind::IntNumber => is_jint(type_of(known, e)),
         ParameterKind::TextBytes => false,
         ParameterKind::IsCopy => is_null(e),
         ParameterKind::Mode => true,
-        ParameterKind::LocalVariable => is_ref(name_sort(known, e)),
-        ParameterKind::StaticVariable => is_global(name_sort(known, e)),
-        ParameterKind::WeakVariable => is_weak(name_sort(known, e)),
+        ParameterKind::LocalVariable => is_ref(name_type(known, e)),
+        ParameterKind::StaticVariable => is_global(name_type(known, e)),
+        ParameterKind::WeakVariable => is_weak(name_type(known, e)),
         ParameterKind::AnyReference => is_any_reference(known, e),
-        ParameterKind::FieldID => is_null(e) || is_field(name_sort(known, e)),
-        ParameterKind::MethodID => is_null(e) || is_method(name_sort(known, e)),
-        ParameterKind::Passed => is_jint(sort_of(known, e)) || is_reference(known, e),
-        ParameterKind::ArrayVariable(element) => is_array_of(element, name_sort(known, e)),
-        ParameterKind::BufferVariable(access) => is_buffer_for(access, name_sort(known, e)),
+        ParameterKind::FieldID => is_null(e) || is_field(name_type(known, e)),
+        ParameterKind::MethodID => is_null(e) || is_method(name_type(known, e)),
+        ParameterKind::Passed => is_jint(type_of(known, e)) || is_reference(known, e),
+        ParameterKind::ArrayVariable(element) => is_array_of(element, name_type(known, e)),
+        ParameterKind::BufferVariable(access) => is_buffer_for(access, name_type(known, e)),
         _ => is_reference(known, e),
     }
 }
@@ -70,11 +70,11 @@ fn text_fits(kind: ParameterKind) -> bool
 }
 
 /// Whether the address of a variable may stand for a parameter.
-fn address_fits(known: &Known<'_, Sort>, kind: ParameterKind, name: &Name) -> bool
+fn address_fits(known: &Known<'_, ExprType>, kind: ParameterKind, name: &Name) -> bool
     ensures { result ≡ address_fits (scope_of known.now) (parameter_value kind) name.now }
 {
     match kind {
-        ParameterKind::IsCopy => is_flag(sort_in(known, name)),
+        ParameterKind::IsCopy => is_flag(type_in(known, name)),
         ParameterKind::Mode => true,
         _ => false,
     }
@@ -82,7 +82,7 @@ fn address_fits(known: &Known<'_, Sort>, kind: ParameterKind, name: &Name) -> bo
 
 /// Whether an argument fits its parameter.
 pub(crate) fn argument_fits(
-    known: &Known<'_, Sort>,
+    known: &Known<'_, ExprType>,
     kind: ParameterKind,
     argument: &Argument,
 ) -> bool
@@ -96,7 +96,7 @@ pub(crate) fn argument_fits(
 }
 
 /// Whether each of these arguments may be passed to a method.
-fn all_pass(known: &Known<'_, Sort>, arguments: &[Argument]) -> bool
+fn all_pass(known: &Known<'_, ExprType>, arguments: &[Argument]) -> bool
     ensures { result ≡ list_all (argument_fits (scope_of known.now) Passed) (map argument_tree arguments.now) }
 {
     for argument in arguments {
@@ -111,7 +111,7 @@ fn all_pass(known: &Known<'_, Sort>, arguments: &[Argument]) -> bool
 /// method, where the function calls one.
 #[tactic(auto, using(crate::proofs::ArgumentLemmas::argument_rules))]
 fn arguments_fit(
-    known: &Known<'_, Sort>,
+    known: &Known<'_, ExprType>,
     kinds: &[ParameterKind],
     passes: bool,
     arguments: &[Argument],
@@ -160,7 +160,7 @@ fn modes_fit(kinds: &[ParameterKind], arguments: &[Argument]) -> bool
 
 /// Whether a call's arguments fit its function, as far as that is known.
 pub(crate) fn call_arguments_fit(
-    known: &Known<'_, Sort>,
+    known: &Known<'_, ExprType>,
     function: Option<JniFunction>,
     call: &Call,
 ) -> bool
@@ -206,20 +206,20 @@ pub(crate) fn has_wrong_mode(function: Option<JniFunction>, call: &Call) -> bool
     }
 }
 
-/// Whether a result fits where a variable of a sort is set.
-fn result_fits(sort: Option<Sort>, kind: ResultKind) -> bool
-    ensures { result ≡ result_fits (option_map sort_value sort) (result_value kind) }
+/// Whether a result fits where a variable of a type is set.
+fn result_fits(ty: Option<ExprType>, kind: ResultKind) -> bool
+    ensures { result ≡ result_fits (option_map type_value ty) (result_value kind) }
 {
     match kind {
         ResultKind::GivesNothing => false,
-        ResultKind::GivesInt => is_jint(sort),
-        ResultKind::GivesFlag => is_flag(sort),
-        ResultKind::NewLocal => is_ref(sort),
-        ResultKind::NewGlobal => is_global(sort),
-        ResultKind::NewWeak => is_weak(sort),
-        ResultKind::GivesField => is_field(sort),
-        ResultKind::GivesMethod => is_method(sort),
-        ResultKind::GivesBuffer(access) => is_buffer_for(access, sort),
+        ResultKind::GivesInt => is_jint(ty),
+        ResultKind::GivesFlag => is_flag(ty),
+        ResultKind::NewLocal => is_ref(ty),
+        ResultKind::NewGlobal => is_global(ty),
+        ResultKind::NewWeak => is_weak(ty),
+        ResultKind::GivesField => is_field(ty),
+        ResultKind::GivesMethod => is_method(ty),
+        ResultKind::GivesBuffer(access) => is_buffer_for(access, ty),
     }
 }
 
@@ -240,13 +240,13 @@ fn is_push(function: JniFunction) -> bool
     matches!(function, JniFunction::PushLocalFrame)
 }
 
-/// Whether a variable of a sort may be set to a call of a function, as far as that is known.
-pub(crate) fn call_fits(sort: Option<Sort>, function: Option<JniFunction>) -> bool
-    ensures { result ≡ call_fits (option_map sort_value sort) (option_map function_value function) }
+/// Whether a variable of a type may be set to a call of a function, as far as that is known.
+pub(crate) fn call_fits(ty: Option<ExprType>, function: Option<JniFunction>) -> bool
+    ensures { result ≡ call_fits (option_map type_value ty) (option_map function_value function) }
 {
     match function {
         None => true,
-        Some(f) => !is_push(f) && result_fits(sort, f.prototype().result),
+        Some(f) => !is_push(f) && result_fits(ty, f.prototype().result),
     }
 }
 
@@ -271,7 +271,7 @@ pub(crate) fn may_be_tested(function: Option<JniFunction>) -> bool
 }
 
 /// Whether some name of an argument is not known.
-fn argument_unknown(known: &Known<'_, Sort>, argument: &Argument) -> bool
+fn argument_unknown(known: &Known<'_, ExprType>, argument: &Argument) -> bool
     ensures { result ≡ argument_uses (is_unknown (scope_of known.now)) (argument_tree argument.now) }
 {
     match argument {
@@ -282,7 +282,7 @@ fn argument_unknown(known: &Known<'_, Sort>, argument: &Argument) -> bool
 }
 
 /// Whether some name in a call is not known.
-pub(crate) fn call_unknown(known: &Known<'_, Sort>, call: &Call) -> bool
+pub(crate) fn call_unknown(known: &Known<'_, ExprType>, call: &Call) -> bool
     ensures { result ≡ call_uses (is_unknown (scope_of known.now)) (call_tree call.now) }
 {
     for argument in &call.arguments {
@@ -293,8 +293,8 @@ pub(crate) fn call_unknown(known: &Known<'_, Sort>, call: &Call) -> bool
     false
 }
 
-/// Whether each expression in a call is a bare name or constant, or has a sort.
-pub(crate) fn call_formed(known: &Known<'_, Sort>, call: &Call) -> bool
+/// Whether each expression in a call is a bare name or constant, or has a type.
+pub(crate) fn call_formed(known: &Known<'_, ExprType>, call: &Call) -> bool
     ensures { result ≡ list_all (is_formed (scope_of known.now)) (call_expressions (call_tree call.now)) }
 {
     for argument in &call.arguments {

@@ -1,75 +1,75 @@
-//! Sorts of expressions.
+//! Types of expressions.
 
 ghost use Rattle.std.specs.Prelude.{◌≡◌, ◌&&◌, ◌||◌, if◌then◌else◌};
 ghost use Rattle.std.specs.Option.{option_map, is_some};
 ghost use Rattle.syntax.specs.Parts.{null_tested};
 ghost use Rattle.syntax.specs.Views.{expr_tree, constant_tree, prefix_tree, binary_tree};
-ghost use Rattle.type_rules.specs.Sorts.{is_word, is_jint, sort_of, constant_sort, prefix_sort, binary_sort, group, null_test_sort, is_null, name_sort, is_unknown};
-ghost use Rattle.type_rules.specs.SortRules.{is_formed};
-ghost use Rattle.type_rules.specs.SortViews.{sort_value};
+ghost use Rattle.type_rules.specs.ExprTypes.{is_word, is_jint, type_of, constant_type, prefix_type, binary_type, group, null_test_type, is_null, name_type, is_unknown};
+ghost use Rattle.type_rules.specs.TypeRules.{is_formed};
+ghost use Rattle.type_rules.specs.TypeViews.{type_value};
 ghost use Rattle.types.specs.Faults.{scope_of};
 ghost use Rattle.type_rules.specs.Uses.{expr_uses};
 
-use crate::scope::{is_unknown, sort_in};
-use crate::sort::{
+use crate::scope::{is_unknown, type_in};
+use crate::ty::{
     has_elements, is_castable, is_flag, is_index, is_jint, is_nullable, is_truth, is_word,
 };
 use syntax::{BinaryOp, Constant, Expr, PrefixOp};
-use type_rules::{Known, Sort};
+use type_rules::{ExprType, Known};
 
-/// The flags; NULL and the modes have no sort.
-fn constant_sort(constant: Constant) -> Option<Sort>
-    ensures { option_map sort_value result ≡ constant_sort (constant_tree constant) }
+/// The flags; NULL and the modes have no type.
+fn constant_type(constant: Constant) -> Option<ExprType>
+    ensures { option_map type_value result ≡ constant_type (constant_tree constant) }
 {
     match constant {
-        Constant::True | Constant::False => Some(Sort::Flag),
+        Constant::True | Constant::False => Some(ExprType::Flag),
         Constant::Commit | Constant::Abort | Constant::Null => None,
     }
 }
 
-/// This sort, where the operands fit.
-fn sort_if(fits: bool, sort: Sort) -> Option<Sort>
-    ensures { result ≡ (if fits then Some sort else None) }
+/// This type, where the operands fit.
+fn type_if(fits: bool, ty: ExprType) -> Option<ExprType>
+    ensures { result ≡ (if fits then Some ty else None) }
 {
-    if fits { Some(sort) } else { None }
+    if fits { Some(ty) } else { None }
 }
 
-fn prefix_sort(op: PrefixOp, sort: Option<Sort>) -> Option<Sort>
-    ensures { option_map sort_value result ≡ prefix_sort (prefix_tree op) (option_map sort_value sort) }
+fn prefix_type(op: PrefixOp, ty: Option<ExprType>) -> Option<ExprType>
+    ensures { option_map type_value result ≡ prefix_type (prefix_tree op) (option_map type_value ty) }
 {
     match op {
-        PrefixOp::LogicalNot => sort_if(is_truth(sort), Sort::Truth),
-        PrefixOp::Complement => sort_if(is_word(sort), Sort::Word),
-        PrefixOp::ToWord => sort_if(is_castable(sort), Sort::Word),
-        PrefixOp::ToInt => sort_if(is_castable(sort), Sort::Jint),
+        PrefixOp::LogicalNot => type_if(is_truth(ty), ExprType::Truth),
+        PrefixOp::Complement => type_if(is_word(ty), ExprType::Word),
+        PrefixOp::ToWord => type_if(is_castable(ty), ExprType::Word),
+        PrefixOp::ToInt => type_if(is_castable(ty), ExprType::Jint),
     }
 }
 
 /// Whether two numbers may be compared.
-fn are_comparable(left: Option<Sort>, right: Option<Sort>) -> bool
-    ensures { result ≡ (is_word (option_map sort_value left) && is_word (option_map sort_value right)
-        || is_jint (option_map sort_value left) && is_jint (option_map sort_value right)) }
+fn are_comparable(left: Option<ExprType>, right: Option<ExprType>) -> bool
+    ensures { result ≡ (is_word (option_map type_value left) && is_word (option_map type_value right)
+        || is_jint (option_map type_value left) && is_jint (option_map type_value right)) }
 {
     (is_word(left) && is_word(right)) || (is_jint(left) && is_jint(right))
 }
 
-fn binary_sort(op: BinaryOp, left: Option<Sort>, right: Option<Sort>) -> Option<Sort>
-    ensures { option_map sort_value result ≡ binary_sort (group (binary_tree op)) (option_map sort_value left)
-        (option_map sort_value right) }
+fn binary_type(op: BinaryOp, left: Option<ExprType>, right: Option<ExprType>) -> Option<ExprType>
+    ensures { option_map type_value result ≡ binary_type (group (binary_tree op)) (option_map type_value left)
+        (option_map type_value right) }
 {
     match op {
-        BinaryOp::LogicalOr | BinaryOp::LogicalAnd => sort_if(
+        BinaryOp::LogicalOr | BinaryOp::LogicalAnd => type_if(
             is_truth(left) && is_truth(right),
-            Sort::Truth,
+            ExprType::Truth,
         ),
-        BinaryOp::Equal | BinaryOp::NotEqual => sort_if(
+        BinaryOp::Equal | BinaryOp::NotEqual => type_if(
             are_comparable(left, right) || (is_flag(left) && is_flag(right)),
-            Sort::Truth,
+            ExprType::Truth,
         ),
         BinaryOp::Less | BinaryOp::LessEqual | BinaryOp::Greater | BinaryOp::GreaterEqual => {
-            sort_if(are_comparable(left, right), Sort::Truth)
+            type_if(are_comparable(left, right), ExprType::Truth)
         }
-        _ => sort_if(is_word(left) && is_word(right), Sort::Word),
+        _ => type_if(is_word(left) && is_word(right), ExprType::Word),
     }
 }
 
@@ -80,62 +80,66 @@ pub(crate) fn is_null(e: &Expr) -> bool
     matches!(e, Expr::Named(Constant::Null))
 }
 
-/// The sort of a bare name.
-pub(crate) fn name_sort(known: &Known<'_, Sort>, e: &Expr) -> Option<Sort>
-    ensures { option_map sort_value result ≡ name_sort (scope_of known.now) (expr_tree e.now) }
+/// The type of a bare name.
+pub(crate) fn name_type(known: &Known<'_, ExprType>, e: &Expr) -> Option<ExprType>
+    ensures { option_map type_value result ≡ name_type (scope_of known.now) (expr_tree e.now) }
 {
     match e {
-        Expr::Variable(x) => sort_in(known, x),
+        Expr::Variable(x) => type_in(known, x),
         _ => None,
     }
 }
 
 /// Whether an expression compares a bare name, which may be NULL, with NULL.
-fn is_null_test(known: &Known<'_, Sort>, e: &Expr) -> bool
-    ensures { result ≡ is_some (null_test_sort (scope_of known.now) (null_tested (expr_tree e.now))) }
+fn is_null_test(known: &Known<'_, ExprType>, e: &Expr) -> bool
+    ensures { result ≡ is_some (null_test_type (scope_of known.now) (null_tested (expr_tree e.now))) }
 {
     match e.null_test() {
-        Some(test) => is_nullable(sort_in(known, test.name)),
+        Some(test) => is_nullable(type_in(known, test.name)),
         None => false,
     }
 }
 
-/// The sort of an expression, if it has one.
-pub(crate) fn sort_of(known: &Known<'_, Sort>, e: &Expr) -> Option<Sort>
-    ensures { option_map sort_value result ≡ sort_of (scope_of known.now) (expr_tree e.now) }
+/// The type of an expression, if it has one.
+pub(crate) fn type_of(known: &Known<'_, ExprType>, e: &Expr) -> Option<ExprType>
+    ensures { option_map type_value result ≡ type_of (scope_of known.now) (expr_tree e.now) }
 {
     match e {
-        Expr::Number { unsigned, .. } => Some(if *unsigned { Sort::Word } else { Sort::Jint }),
-        Expr::Named(c) => constant_sort(*c),
-        Expr::Variable(x) => sort_in(known, x),
-        Expr::Element(x, i) => sort_if(
-            has_elements(sort_in(known, x)) && is_index(sort_of(known, i)),
-            Sort::Jint,
+        Expr::Number { unsigned, .. } => Some(if *unsigned {
+            ExprType::Word
+        } else {
+            ExprType::Jint
+        }),
+        Expr::Named(c) => constant_type(*c),
+        Expr::Variable(x) => type_in(known, x),
+        Expr::Element(x, i) => type_if(
+            has_elements(type_in(known, x)) && is_index(type_of(known, i)),
+            ExprType::Jint,
         ),
-        Expr::Prefix(op, a) => prefix_sort(*op, sort_of(known, a)),
+        Expr::Prefix(op, a) => prefix_type(*op, type_of(known, a)),
         Expr::Binary(op, operands) => {
             let (left, right) = &**operands;
             if is_null_test(known, e) {
-                return Some(Sort::Truth);
+                return Some(ExprType::Truth);
             }
-            binary_sort(*op, sort_of(known, left), sort_of(known, right))
+            binary_type(*op, type_of(known, left), type_of(known, right))
         }
-        Expr::Paren(a) => sort_of(known, a),
+        Expr::Paren(a) => type_of(known, a),
     }
 }
 
-/// Whether an expression is a bare name or constant, or has a sort.
-pub(crate) fn is_formed(known: &Known<'_, Sort>, e: &Expr) -> bool
+/// Whether an expression is a bare name or constant, or has a type.
+pub(crate) fn is_formed(known: &Known<'_, ExprType>, e: &Expr) -> bool
     ensures { result ≡ is_formed (scope_of known.now) (expr_tree e.now) }
 {
     match e {
         Expr::Named(_) | Expr::Variable(_) => true,
-        _ => sort_of(known, e).is_some(),
+        _ => type_of(known, e).is_some(),
     }
 }
 
 /// Whether some name of an expression is not known.
-pub(crate) fn has_unknown(known: &Known<'_, Sort>, e: &Expr) -> bool
+pub(crate) fn has_unknown(known: &Known<'_, ExprType>, e: &Expr) -> bool
     ensures { result ≡ expr_uses (is_unknown (scope_of known.now)) (expr_tree e.now) }
 {
     match e {

@@ -1,8 +1,8 @@
-//! Why a unit is not sorted.
+//! Why a unit is not well-typed.
 
 ghost use Rattle.std.specs.Prelude.{◌≡◌, OnOk, take};
 ghost use Rattle.types.specs.declared.fault.TypeError.TheVariants.{Memory};
-ghost use Rattle.type_rules.specs.SortRules.{sort_rule_number};
+ghost use Rattle.type_rules.specs.TypeRules.{type_rule_number};
 ghost use Rattle.types.specs.Faults.{Faults, Refuses, rule_of, Finds, Tells, broken_if};
 
 use places::{Detail, Fault, Line};
@@ -10,16 +10,16 @@ use std::alloc::{AllocError, AllocFailed};
 use syntax::Name;
 use thiserror::Error;
 
-/// A rule on names and sorts.
+/// A rule on names and types.
 #[derive(Clone, Copy, Debug)]
-pub enum SortRule {
+pub enum TypeRule {
     /// A function's name is that of no native method (JNI Specification, chapter 2, "Resolving Native Method Names"), or
     /// a name in an expression is not known.
     UnknownName,
     /// A name is declared twice in a function and its statics, or two items have one name.
     DeclaredTwice,
-    /// A sort does not fit.
-    SortMisfit,
+    /// A type does not fit.
+    TypeMisfit,
     /// A call is of no function of the JNI (JNI Specification, chapter 4).
     UnknownFunction,
     /// A call has another number of arguments than its function has parameters.
@@ -32,26 +32,26 @@ pub enum SortRule {
     ReadOnlyWrite,
 }
 
-impl SortRule {
+impl TypeRule {
     /// The number of the fault.
     pub fn number(self) -> u32
-        ensures { result ≡ sort_rule_number (rule_of self) }
+        ensures { result ≡ type_rule_number (rule_of self) }
     {
         match self {
-            SortRule::UnknownName => 21,
-            SortRule::DeclaredTwice => 22,
-            SortRule::SortMisfit => 23,
-            SortRule::UnknownFunction => 24,
-            SortRule::ArgumentCount => 25,
-            SortRule::ReferenceCopied => 26,
-            SortRule::BadMode => 27,
-            SortRule::ReadOnlyWrite => 28,
+            TypeRule::UnknownName => 21,
+            TypeRule::DeclaredTwice => 22,
+            TypeRule::TypeMisfit => 23,
+            TypeRule::UnknownFunction => 24,
+            TypeRule::ArgumentCount => 25,
+            TypeRule::ReferenceCopied => 26,
+            TypeRule::BadMode => 27,
+            TypeRule::ReadOnlyWrite => 28,
         }
     }
 }
 
 /// A rule that is broken, and the line of the first token of the statement or the function, with what was found there.
-pub type TypeFault = Fault<SortRule, Line>;
+pub type TypeFault = Fault<TypeRule, Line>;
 
 /// Why `type_unit` answers no unit.
 #[derive(Debug, Drop, Error)]
@@ -81,7 +81,7 @@ impl<T: Drop> From<AllocFailed<T>> for TypeError {
 }
 
 /// The fault of a rule where it is broken.
-pub(crate) fn refuse_if(broken: bool, rule: SortRule, line: usize) -> Result<(), TypeError>
+pub(crate) fn refuse_if(broken: bool, rule: TypeRule, line: usize) -> Result<(), TypeError>
     ensures { Finds result (broken_if broken (rule_of rule) line) }
 {
     if broken {
@@ -96,7 +96,7 @@ pub(crate) fn refuse_if(broken: bool, rule: SortRule, line: usize) -> Result<(),
 /// The fault of a rule that a name breaks.
 pub(crate) fn refuse_name_if(
     broken: bool,
-    rule: SortRule,
+    rule: TypeRule,
     line: usize,
     name: &Name,
 ) -> Result<(), TypeError>

@@ -4,18 +4,18 @@ ghost use Rattle.std.specs.Prelude.{◌≡◌, List, ◌∷◌, ◌++◌, OnOk, 
 ghost use Rattle.base.specs.Bytes.{Identifier};
 ghost use Rattle.syntax.specs.Parts.{item_name};
 ghost use Rattle.syntax.specs.Views.{block_tree, function_tree, item_tree, result_tree, static_type_tree};
-ghost use Rattle.type_rules.specs.SortRules.{DeclaredTwice, has_name, has_repeated, static_sort, places_of, function_places, item_places};
+ghost use Rattle.type_rules.specs.TypeRules.{DeclaredTwice, has_name, has_repeated, static_type, places_of, function_places, item_places};
 ghost use Rattle.types.specs.Faults.{Faults, Refuses, Finds, Tells, broken_if, scope_of, found, head_faults, own_places, with_static};
 
 use crate::blocks::check_block;
-use crate::fault::{SortRule, TypeError, TypeFault, keep, refuse_if, refuse_name_if, told};
+use crate::fault::{TypeError, TypeFault, TypeRule, keep, refuse_if, refuse_name_if, told};
 use crate::scope::{enter, has_name};
 use crate::taken::Taken;
 use crate::telling::head_detail;
 use class_rules::mangling::is_mangled;
 use std::alloc::{AllocError, Global};
 use syntax::{Function, Item, Name, Static};
-use type_rules::{Known, Sort, static_sort};
+use type_rules::{ExprType, Known, static_type};
 
 /// The first rule that a function's head breaks after items of these names; `repeated` is whether two of its parameters and
 /// the statics are spelled alike.
@@ -24,12 +24,12 @@ fn judge_head(names: &[Name], repeated: bool, f: &Function) -> Result<(), TypeEr
 {
     refuse_if(
         !is_mangled(f.name.as_bytes()),
-        SortRule::UnknownName,
+        TypeRule::UnknownName,
         f.line,
     )?;
     refuse_if(
         has_name(names, &f.name) || repeated,
-        SortRule::DeclaredTwice,
+        TypeRule::DeclaredTwice,
         f.line,
     )
 }
@@ -63,7 +63,7 @@ fn check_head(names: &[Name], entry: &[Name], repeated: bool, f: &Function) -> R
 fn check_body<'a>(
     alloc: Global,
     names: &[Name],
-    known: &mut Known<'a, Sort>,
+    known: &mut Known<'a, ExprType>,
     entry: &[Name],
     f: &'a Function,
     all: bool,
@@ -84,7 +84,7 @@ fn check_body<'a>(
 fn check_function<'a>(
     alloc: Global,
     names: &[Name],
-    known: &mut Known<'a, Sort>,
+    known: &mut Known<'a, ExprType>,
     f: &'a Function,
     all: bool,
     faults: &mut Vec<TypeFault>,
@@ -113,7 +113,7 @@ fn put_first(names: &mut Vec<Name>, name: &Name) -> Result<(), AllocError>
 /// A static after items of these names and these statics, which become more by it.
 fn check_static<'a>(
     names: &mut Vec<Name>,
-    statics: &mut Known<'a, Sort>,
+    statics: &mut Known<'a, ExprType>,
     s: &'a Static,
     all: bool,
     faults: &mut Vec<TypeFault>,
@@ -121,16 +121,16 @@ fn check_static<'a>(
     ensures tells { OnOk result (Tells all faults.old.items faults.new.items
         (take 1 (broken_if (has_name names.old.items s.now.name) DeclaredTwice s.now.line))) }
     ensures names { OnOk result (names.new.items ≡ s.now.name ∷ names.old.items) }
-    ensures statics { OnOk result (scope_of statics.new ≡ (s.now.name, static_sort (static_type_tree s.now.kind)) ∷ scope_of statics.old) }
+    ensures statics { OnOk result (scope_of statics.new ≡ (s.now.name, static_type (static_type_tree s.now.kind)) ∷ scope_of statics.old) }
 {
     let name = refuse_name_if(
         has_name(names, &s.name),
-        SortRule::DeclaredTwice,
+        TypeRule::DeclaredTwice,
         s.line,
         &s.name,
     );
     keep(all, faults, name)?;
-    statics.declare(&s.name, static_sort(s.kind))?;
+    statics.declare(&s.name, static_type(s.kind))?;
     put_first(names, &s.name)?;
     Ok(())
 }
@@ -138,7 +138,7 @@ fn check_static<'a>(
 /// A function after items of these names and these statics, whose name is one more of those.
 fn check_named<'a>(
     names: &mut Vec<Name>,
-    statics: &mut Known<'a, Sort>,
+    statics: &mut Known<'a, ExprType>,
     f: &'a Function,
     all: bool,
     faults: &mut Vec<TypeFault>,
@@ -156,7 +156,7 @@ fn check_named<'a>(
 /// An item after items of these names and these statics, which become more by it.
 fn check_item<'a>(
     names: &mut Vec<Name>,
-    statics: &mut Known<'a, Sort>,
+    statics: &mut Known<'a, ExprType>,
     item: &'a Item,
     all: bool,
     faults: &mut Vec<TypeFault>,
@@ -176,7 +176,7 @@ fn check_item<'a>(
 /// items before it, which are 512 at most.
 pub(crate) fn check_items<'a>(
     names: &mut Vec<Name>,
-    statics: &mut Known<'a, Sort>,
+    statics: &mut Known<'a, ExprType>,
     items: &'a [Item],
     all: bool,
     faults: &mut Vec<TypeFault>,

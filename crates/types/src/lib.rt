@@ -1,4 +1,4 @@
-//! The sorts of a program's names and expressions, and which calls fit.
+//! The types of a program's names and expressions, and which calls fit.
 #![tactic(auto)]
 
 mod blocks;
@@ -7,12 +7,12 @@ mod expressions;
 mod fault;
 mod items;
 mod scope;
-mod sort;
 mod statements;
 mod taken;
 mod telling;
+mod ty;
 mod typed;
 
-pub use fault::{SortRule, TypeError, TypeFault};
+pub use fault::{TypeError, TypeFault, TypeRule};
 pub use type_rules::Typed;
 pub use typed::{type_faults, type_unit};

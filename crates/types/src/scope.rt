@@ -2,15 +2,15 @@
 
 ghost use Rattle.std.specs.Prelude.{◌≡◌, [], ◌∷◌, ◌++◌, OnOk, map, bytes_eq};
 ghost use Rattle.std.specs.Option.{option_map};
-ghost use Rattle.type_rules.specs.Sorts.{sort_in, is_unknown};
-ghost use Rattle.type_rules.specs.SortRules.{has_name, parameter_sort};
+ghost use Rattle.type_rules.specs.ExprTypes.{type_in, is_unknown};
+ghost use Rattle.type_rules.specs.TypeRules.{has_name, parameter_type};
 ghost use Rattle.syntax.specs.Views.{parameter_type_tree};
-ghost use Rattle.type_rules.specs.SortViews.{sort_value};
+ghost use Rattle.type_rules.specs.TypeViews.{type_value};
 ghost use Rattle.types.specs.Faults.{IsAbove, scope_of, entry_scope};
 
 use std::alloc::AllocError;
 use syntax::{Function, Name, Parameter};
-use type_rules::{Known, Sort, parameter_sort};
+use type_rules::{ExprType, Known, parameter_type};
 
 /// Whether two names are spelled alike.
 fn is_same(a: &Name, b: &Name) -> bool
@@ -19,18 +19,18 @@ fn is_same(a: &Name, b: &Name) -> bool
     a.is_same(b)
 }
 
-/// The sort of a known name.
-pub(crate) fn sort_in(known: &Known<'_, Sort>, name: &Name) -> Option<Sort>
-    ensures { option_map sort_value result ≡ sort_in (scope_of known.now) name.now }
+/// The type of a known name.
+pub(crate) fn type_in(known: &Known<'_, ExprType>, name: &Name) -> Option<ExprType>
+    ensures { option_map type_value result ≡ type_in (scope_of known.now) name.now }
 {
     known.get(name)
 }
 
 /// Whether a name is not known.
-pub(crate) fn is_unknown(known: &Known<'_, Sort>, name: &Name) -> bool
+pub(crate) fn is_unknown(known: &Known<'_, ExprType>, name: &Name) -> bool
     ensures { result ≡ is_unknown (scope_of known.now) name.now }
 {
-    sort_in(known, name).is_none()
+    type_in(known, name).is_none()
 }
 
 /// Whether one of the names is this one.
@@ -41,28 +41,28 @@ pub(crate) fn has_name(names: &[Name], name: &Name) -> bool
 }
 
 /// What is known at a function's beginning, after the statics that are known.
-pub(crate) fn enter<'a>(known: &mut Known<'a, Sort>, f: &'a Function) -> Result<(), AllocError>
+pub(crate) fn enter<'a>(known: &mut Known<'a, ExprType>, f: &'a Function) -> Result<(), AllocError>
     ensures scope { OnOk result (scope_of known.new ≡ entry_scope (scope_of known.old) f.now) }
     ensures above { OnOk result (IsAbove known.new known.old) }
 {
     declare_parameters(known, &f.parameters)?;
-    known.declare(&f.class_name, Sort::Ref)
+    known.declare(&f.class_name, ExprType::Ref)
 }
 
 /// Declares parameters, of which the first is known as the latest. It calls itself once for each.
 fn declare_parameters<'a>(
-    known: &mut Known<'a, Sort>,
+    known: &mut Known<'a, ExprType>,
     parameters: &'a [Parameter],
 ) -> Result<(), AllocError>
     ensures scope { OnOk result (scope_of known.new
-        ≡ map (λ p. (p.name, parameter_sort (parameter_type_tree p.kind))) parameters.now ++ scope_of known.old) }
+        ≡ map (λ p. (p.name, parameter_type (parameter_type_tree p.kind))) parameters.now ++ scope_of known.old) }
     ensures above { OnOk result (IsAbove known.new known.old) }
 {
     match parameters {
         [] => Ok(()),
         [p, parameters @ ..] => {
             declare_parameters(known, parameters)?;
-            known.declare(&p.name, parameter_sort(p.kind))
+            known.declare(&p.name, parameter_type(p.kind))
         }
     }
 }

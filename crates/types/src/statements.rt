@@ -10,10 +10,10 @@ ghost use Rattle.syntax.specs.Tree.{ResultType as ReturnType, Void};
 ghost use Rattle.syntax.specs.Views.{expr_tree, right_side_tree, test_tree, form_tree, stmt_tree, result_tree};
 ghost use Rattle.jni.specs.JniFunction.{function_named};
 ghost use Rattle.jni.specs.Table.{function_value};
-ghost use Rattle.type_rules.specs.Sorts.{sort_in, is_unknown, sort_of, has_elements, is_index, is_jint, call_arguments_fit};
-ghost use Rattle.type_rules.specs.SortRules.{is_formed, value_sets, right_side_sets, buffer_begins, test_fits, return_fits, statement_fits, copies_reference, sort_rules, UnknownName, DeclaredTwice, SortMisfit, UnknownFunction, ArgumentCount, ReferenceCopied, BadMode, ReadOnlyWrite, breaks_sort_rule, broken_at};
+ghost use Rattle.type_rules.specs.ExprTypes.{type_in, is_unknown, type_of, has_elements, is_index, is_jint, call_arguments_fit};
+ghost use Rattle.type_rules.specs.TypeRules.{is_formed, value_sets, right_side_sets, buffer_begins, test_fits, return_fits, statement_fits, copies_reference, typing_rules, UnknownName, DeclaredTwice, TypeMisfit, UnknownFunction, ArgumentCount, ReferenceCopied, BadMode, ReadOnlyWrite, breaks_type_rule, broken_at};
 ghost use Rattle.types.specs.Called.{function_in, call_of_test, declared};
-ghost use Rattle.type_rules.specs.SortViews.{sort_value};
+ghost use Rattle.type_rules.specs.TypeViews.{type_value};
 ghost use Rattle.types.specs.Faults.{Faults, Refuses, scope_of, Finds, statement_place, refused_of};
 ghost use Rattle.type_rules.specs.Uses.{right_uses, test_uses, uses};
 
@@ -21,17 +21,17 @@ use crate::calls::{
     call_arguments_fit, call_fits, call_formed, call_unknown, has_wrong_count, has_wrong_mode,
     may_be_dropped, may_be_tested,
 };
-use crate::expressions::{has_unknown, is_null, name_sort, sort_of};
-use crate::fault::{SortRule, TypeError, refuse_if, told};
-use crate::scope::{is_unknown, sort_in};
-use crate::sort::{
-    has_elements, is_flag, is_index, is_jint, is_read_only, is_ref, is_truth, is_word,
-};
+use crate::expressions::{has_unknown, is_null, name_type, type_of};
+use crate::fault::{TypeError, TypeRule, refuse_if, told};
+use crate::scope::{is_unknown, type_in};
 use crate::taken::Taken;
 use crate::telling::statement_detail;
+use crate::ty::{
+    has_elements, is_flag, is_index, is_jint, is_read_only, is_ref, is_truth, is_word,
+};
 use jni::{JniFunction, function_named};
 use syntax::{Call, ElementType, Expr, Form, Name, ResultType, RightSide, Stmt, Test};
-use type_rules::{Known, Sort, own_call, variable_sort};
+use type_rules::{ExprType, Known, own_call, variable_type};
 
 /// The function that a statement calls, if it is known.
 pub(crate) fn function_called(form: &Form) -> Option<JniFunction>
@@ -44,7 +44,7 @@ pub(crate) fn function_called(form: &Form) -> Option<JniFunction>
 }
 
 /// Whether some name of a right side is not known.
-fn right_unknown(known: &Known<'_, Sort>, right: &RightSide) -> bool
+fn right_unknown(known: &Known<'_, ExprType>, right: &RightSide) -> bool
     ensures { result ≡ right_uses (is_unknown (scope_of known.now)) (right_side_tree right.now) }
 {
     match right {
@@ -54,7 +54,7 @@ fn right_unknown(known: &Known<'_, Sort>, right: &RightSide) -> bool
 }
 
 /// Whether some name of a test is not known.
-fn test_unknown(known: &Known<'_, Sort>, test: &Test) -> bool
+fn test_unknown(known: &Known<'_, ExprType>, test: &Test) -> bool
     ensures { result ≡ test_uses (is_unknown (scope_of known.now)) (test_tree test.now) }
 {
     match test {
@@ -64,7 +64,7 @@ fn test_unknown(known: &Known<'_, Sort>, test: &Test) -> bool
 }
 
 /// Whether some name that a statement uses is not known.
-fn uses_unknown(known: &Known<'_, Sort>, form: &Form) -> bool
+fn uses_unknown(known: &Known<'_, ExprType>, form: &Form) -> bool
     ensures { (line : ℕ) → result ≡ uses (is_unknown (scope_of known.now)) (form_tree line form.now) }
 {
     match form {
@@ -83,7 +83,7 @@ fn uses_unknown(known: &Known<'_, Sort>, form: &Form) -> bool
 }
 
 /// Whether a statement sets a name that is not known.
-fn assigns_unknown(known: &Known<'_, Sort>, form: &Form) -> bool
+fn assigns_unknown(known: &Known<'_, ExprType>, form: &Form) -> bool
     ensures { (line : ℕ) → result ≡ some_passes (is_unknown (scope_of known.now))
         (assigned_name (form_tree line form.now)) }
 {
@@ -93,13 +93,13 @@ fn assigns_unknown(known: &Known<'_, Sort>, form: &Form) -> bool
     }
 }
 
-/// Whether some name that a statement uses or sets is not known. A statement that fits and calls nothing has sorts for
+/// Whether some name that a statement uses or sets is not known. A statement that fits and calls nothing has types for
 /// all of them, so it isn't looked at again.
 #[tactic(auto, using(crate::proofs::StatementLemmas::unknown_names, crate::proofs::KnownLemmas::none_unknown))]
-fn names_unknown(known: &Known<'_, Sort>, form: &Form, misfits: bool) -> bool
-    requires { (returns : ReturnType) × ((line : ℕ) → misfits ≡ breaks_sort_rule SortMisfit (scope_of known.now) []
+fn names_unknown(known: &Known<'_, ExprType>, form: &Form, misfits: bool) -> bool
+    requires { (returns : ReturnType) × ((line : ℕ) → misfits ≡ breaks_type_rule TypeMisfit (scope_of known.now) []
         returns (form_tree line form.now)) }
-    ensures { (line : ℕ) → result ≡ breaks_sort_rule UnknownName (scope_of known.now) [] Void
+    ensures { (line : ℕ) → result ≡ breaks_type_rule UnknownName (scope_of known.now) [] Void
         (form_tree line form.now) }
 {
     if !misfits && own_call(form).is_none() {
@@ -108,22 +108,22 @@ fn names_unknown(known: &Known<'_, Sort>, form: &Form, misfits: bool) -> bool
     uses_unknown(known, form) || assigns_unknown(known, form)
 }
 
-/// The name that a statement declares, and its sort.
-pub(crate) fn declared(form: &Form) -> Option<(&Name, Sort)>
-    ensures { (line : ℕ) → option_map (λ d. (d.0.now, sort_value d.1)) result ≡ declared (form_tree line form.now) }
+/// The name that a statement declares, and its type.
+pub(crate) fn declared(form: &Form) -> Option<(&Name, ExprType)>
+    ensures { (line : ℕ) → option_map (λ d. (d.0.now, type_value d.1)) result ≡ declared (form_tree line form.now) }
 {
     match form {
-        Form::Declare(t, x, _) => Some((x, variable_sort(*t))),
-        Form::DeclareBuffer(t, x, _) => Some((x, Sort::Buffer(*t, true))),
-        Form::DeclareChars(x, _) => Some((x, Sort::Buffer(ElementType::Char, false))),
-        Form::DeclareArray(t, x, size) => Some((x, Sort::Array(*t, *size))),
+        Form::Declare(t, x, _) => Some((x, variable_type(*t))),
+        Form::DeclareBuffer(t, x, _) => Some((x, ExprType::Buffer(*t, true))),
+        Form::DeclareChars(x, _) => Some((x, ExprType::Buffer(ElementType::Char, false))),
+        Form::DeclareArray(t, x, size) => Some((x, ExprType::Array(*t, *size))),
         _ => None,
     }
 }
 
 /// Whether a statement declares a name that is taken.
 fn declares_taken(taken: &Taken<'_>, form: &Form) -> bool
-    ensures { (line : ℕ) → result ≡ breaks_sort_rule DeclaredTwice [] taken.now Void (form_tree line form.now) }
+    ensures { (line : ℕ) → result ≡ breaks_type_rule DeclaredTwice [] taken.now Void (form_tree line form.now) }
 {
     match declared(form) {
         Some((x, _)) => taken.has(x),
@@ -131,85 +131,87 @@ fn declares_taken(taken: &Taken<'_>, form: &Form) -> bool
     }
 }
 
-/// Whether a variable of a sort may be set to an expression. Of a known name in a local reference another rule speaks.
-fn value_sets(known: &Known<'_, Sort>, sort: Option<Sort>, e: &Expr) -> bool
-    ensures { result ≡ value_sets (scope_of known.now) (option_map sort_value sort) (expr_tree e.now) }
+/// Whether a variable of a type may be set to an expression. Of a known name in a local reference another rule speaks.
+fn value_sets(known: &Known<'_, ExprType>, ty: Option<ExprType>, e: &Expr) -> bool
+    ensures { result ≡ value_sets (scope_of known.now) (option_map type_value ty) (expr_tree e.now) }
 {
-    match sort {
-        Some(Sort::Word) => is_word(sort_of(known, e)),
-        Some(Sort::Jint) => is_jint(sort_of(known, e)),
-        Some(Sort::Flag) => is_flag(sort_of(known, e)),
-        Some(Sort::Ref) => is_null(e) || name_sort(known, e).is_some(),
-        Some(Sort::Global | Sort::Weak | Sort::FieldId | Sort::MethodId) => is_null(e),
+    match ty {
+        Some(ExprType::Word) => is_word(type_of(known, e)),
+        Some(ExprType::Jint) => is_jint(type_of(known, e)),
+        Some(ExprType::Flag) => is_flag(type_of(known, e)),
+        Some(ExprType::Ref) => is_null(e) || name_type(known, e).is_some(),
+        Some(ExprType::Global | ExprType::Weak | ExprType::FieldId | ExprType::MethodId) => is_null(
+            e,
+        ),
         _ => false,
     }
 }
 
-/// Whether a variable of a sort may be set to a right side.
+/// Whether a variable of a type may be set to a right side.
 fn right_side_sets(
-    known: &Known<'_, Sort>,
-    sort: Option<Sort>,
+    known: &Known<'_, ExprType>,
+    ty: Option<ExprType>,
     right: &RightSide,
     function: Option<JniFunction>,
 ) -> bool
     requires { option_map function_value function
         ≡ function_in (call_of_right_side (Some (right_side_tree right.now))) }
-    ensures { result ≡ right_side_sets (scope_of known.now) (option_map sort_value sort) (right_side_tree right.now) }
+    ensures { result ≡ right_side_sets (scope_of known.now) (option_map type_value ty) (right_side_tree right.now) }
 {
     match right {
-        RightSide::Expr(e) => value_sets(known, sort, e),
-        RightSide::Call(_) => call_fits(sort, function),
+        RightSide::Expr(e) => value_sets(known, ty, e),
+        RightSide::Call(_) => call_fits(ty, function),
     }
 }
 
 /// Whether a buffer may begin as a right side.
-fn buffer_begins(sort: Sort, right: &RightSide, function: Option<JniFunction>) -> bool
+fn buffer_begins(ty: ExprType, right: &RightSide, function: Option<JniFunction>) -> bool
     requires { option_map function_value function
         ≡ function_in (call_of_right_side (Some (right_side_tree right.now))) }
-    ensures { result ≡ buffer_begins [] (sort_value sort) (right_side_tree right.now) }
+    ensures { result ≡ buffer_begins [] (type_value ty) (right_side_tree right.now) }
 {
     match right {
         RightSide::Expr(e) => is_null(e),
-        RightSide::Call(_) => call_fits(Some(sort), function),
+        RightSide::Call(_) => call_fits(Some(ty), function),
     }
 }
 
 /// Whether an `if` may test this.
-fn test_fits(known: &Known<'_, Sort>, test: &Test, function: Option<JniFunction>) -> bool
+fn test_fits(known: &Known<'_, ExprType>, test: &Test, function: Option<JniFunction>) -> bool
     requires { option_map function_value function ≡ function_in (call_of_test (test_tree test.now)) }
     ensures { result ≡ test_fits (scope_of known.now) (test_tree test.now) }
 {
     match test {
-        Test::Expr(e) => is_truth(sort_of(known, e)),
+        Test::Expr(e) => is_truth(type_of(known, e)),
         Test::Call(_) => may_be_tested(function),
     }
 }
 
 /// Whether a function may return this.
-fn return_fits(known: &Known<'_, Sort>, returns: ResultType, e: &Expr) -> bool
+fn return_fits(known: &Known<'_, ExprType>, returns: ResultType, e: &Expr) -> bool
     ensures { result ≡ return_fits (scope_of known.now) (result_tree returns) (expr_tree e.now) }
 {
     match returns {
         ResultType::Void => false,
-        ResultType::Jint => is_jint(sort_of(known, e)),
-        ResultType::Reference(_) => is_null(e) || is_ref(name_sort(known, e)),
+        ResultType::Jint => is_jint(type_of(known, e)),
+        ResultType::Reference(_) => is_null(e) || is_ref(name_type(known, e)),
     }
 }
 
 /// Whether an element of a named buffer or array may be set.
-fn element_fits(known: &Known<'_, Sort>, name: &Name, index: &Expr, value: &Expr) -> bool
-    ensures { result ≡ (has_elements (sort_in (scope_of known.now) name.now)
-        && is_index (sort_of (scope_of known.now) (expr_tree index.now))
-        && is_jint (sort_of (scope_of known.now) (expr_tree value.now))) }
+fn element_fits(known: &Known<'_, ExprType>, name: &Name, index: &Expr, value: &Expr) -> bool
+    ensures { result ≡ (has_elements (type_in (scope_of known.now) name.now)
+        && is_index (type_of (scope_of known.now) (expr_tree index.now))
+        && is_jint (type_of (scope_of known.now) (expr_tree value.now))) }
 {
-    has_elements(sort_in(known, name))
-        && is_index(sort_of(known, index))
-        && is_jint(sort_of(known, value))
+    has_elements(type_in(known, name))
+        && is_index(type_of(known, index))
+        && is_jint(type_of(known, value))
 }
 
 /// Whether the parts of a statement fit one another, its call's arguments aside.
 pub(crate) fn statement_fits(
-    known: &Known<'_, Sort>,
+    known: &Known<'_, ExprType>,
     returns: ResultType,
     form: &Form,
     function: Option<JniFunction>,
@@ -219,26 +221,26 @@ pub(crate) fn statement_fits(
         (form_tree line form.now) }
 {
     match form {
-        Form::Declare(t, _, r) => { right_side_sets(known, Some(variable_sort(*t)), r, function) }
-        Form::DeclareBuffer(t, _, r) => buffer_begins(Sort::Buffer(*t, true), r, function),
+        Form::Declare(t, _, r) => { right_side_sets(known, Some(variable_type(*t)), r, function) }
+        Form::DeclareBuffer(t, _, r) => buffer_begins(ExprType::Buffer(*t, true), r, function),
         Form::DeclareChars(_, r) => {
-            buffer_begins(Sort::Buffer(ElementType::Char, false), r, function)
+            buffer_begins(ExprType::Buffer(ElementType::Char, false), r, function)
         }
         Form::DeclareArray(..) => true,
-        Form::Assign(x, r) => right_side_sets(known, sort_in(known, x), r, function),
+        Form::Assign(x, r) => right_side_sets(known, type_in(known, x), r, function),
         Form::AssignElement(x, i, e) => element_fits(known, x, i, e),
         Form::Perform(_) => may_be_dropped(function),
-        Form::PutJint(e) => is_jint(sort_of(known, e)),
+        Form::PutJint(e) => is_jint(type_of(known, e)),
         Form::If(test, _) => test_fits(known, test, function),
         Form::IfElse(test, _, _) => test_fits(known, test, function),
-        Form::While(e, _) => is_truth(sort_of(known, e)),
+        Form::While(e, _) => is_truth(type_of(known, e)),
         Form::Return(None) => matches!(returns, ResultType::Void),
         Form::Return(Some(e)) => return_fits(known, returns, e),
     }
 }
 
-/// Whether the arguments of a statement's call do not fit, or one of them is neither bare nor has a sort.
-fn call_misfits(known: &Known<'_, Sort>, form: &Form, function: Option<JniFunction>) -> bool
+/// Whether the arguments of a statement's call do not fit, or one of them is neither bare nor has a type.
+fn call_misfits(known: &Known<'_, ExprType>, form: &Form, function: Option<JniFunction>) -> bool
     requires { (line : ℕ) → option_map function_value function ≡ function_in (own_call (form_tree line form.now)) }
     ensures { (line : ℕ) → result ≡ some_passes (λ c. not (list_all (is_formed (scope_of known.now))
         (call_expressions c)) || not (call_arguments_fit (scope_of known.now) c (function_named c.function)))
@@ -251,15 +253,15 @@ fn call_misfits(known: &Known<'_, Sort>, form: &Form, function: Option<JniFuncti
 }
 
 /// Whether a statement does not fit. Where it fits, each of its expressions beside a call's arguments is bare or has a
-/// sort.
+/// type.
 fn misfits(
-    known: &Known<'_, Sort>,
+    known: &Known<'_, ExprType>,
     returns: ResultType,
     form: &Form,
     function: Option<JniFunction>,
 ) -> bool
     requires { (line : ℕ) → option_map function_value function ≡ function_in (own_call (form_tree line form.now)) }
-    ensures { (line : ℕ) → result ≡ breaks_sort_rule SortMisfit (scope_of known.now) [] (result_tree returns)
+    ensures { (line : ℕ) → result ≡ breaks_type_rule TypeMisfit (scope_of known.now) [] (result_tree returns)
         (form_tree line form.now) }
 {
     !statement_fits(known, returns, form, function) || call_misfits(known, form, function)
@@ -268,7 +270,7 @@ fn misfits(
 /// Whether a statement calls a function that is not known.
 fn calls_unknown(form: &Form, function: Option<JniFunction>) -> bool
     requires { (line : ℕ) → option_map function_value function ≡ function_in (own_call (form_tree line form.now)) }
-    ensures { (line : ℕ) → result ≡ breaks_sort_rule UnknownFunction [] [] Void (form_tree line form.now) }
+    ensures { (line : ℕ) → result ≡ breaks_type_rule UnknownFunction [] [] Void (form_tree line form.now) }
 {
     match own_call(form) {
         Some(_) => function.is_none(),
@@ -279,7 +281,7 @@ fn calls_unknown(form: &Form, function: Option<JniFunction>) -> bool
 /// Whether a statement's call has a wrong number of arguments.
 fn miscounts(form: &Form, function: Option<JniFunction>) -> bool
     requires { (line : ℕ) → option_map function_value function ≡ function_in (own_call (form_tree line form.now)) }
-    ensures { (line : ℕ) → result ≡ breaks_sort_rule ArgumentCount [] [] Void (form_tree line form.now) }
+    ensures { (line : ℕ) → result ≡ breaks_type_rule ArgumentCount [] [] Void (form_tree line form.now) }
 {
     match own_call(form) {
         Some(call) => has_wrong_count(function, call),
@@ -290,7 +292,7 @@ fn miscounts(form: &Form, function: Option<JniFunction>) -> bool
 /// Whether a statement's call has a mode that is none.
 fn has_bad_mode(form: &Form, function: Option<JniFunction>) -> bool
     requires { (line : ℕ) → option_map function_value function ≡ function_in (own_call (form_tree line form.now)) }
-    ensures { (line : ℕ) → result ≡ breaks_sort_rule BadMode [] [] Void (form_tree line form.now) }
+    ensures { (line : ℕ) → result ≡ breaks_type_rule BadMode [] [] Void (form_tree line form.now) }
 {
     match own_call(form) {
         Some(call) => has_wrong_mode(function, call),
@@ -298,44 +300,44 @@ fn has_bad_mode(form: &Form, function: Option<JniFunction>) -> bool
     }
 }
 
-/// Whether a known name is copied into a variable of a sort that is a local reference.
-fn copies(known: &Known<'_, Sort>, sort: Option<Sort>, right: &RightSide) -> bool
-    ensures { result ≡ copies_reference (scope_of known.now) (option_map sort_value sort)
+/// Whether a known name is copied into a variable of a type that is a local reference.
+fn copies(known: &Known<'_, ExprType>, ty: Option<ExprType>, right: &RightSide) -> bool
+    ensures { result ≡ copies_reference (scope_of known.now) (option_map type_value ty)
         (Some (right_side_tree right.now)) }
 {
     match right {
-        RightSide::Expr(e) => is_ref(sort) && name_sort(known, e).is_some(),
+        RightSide::Expr(e) => is_ref(ty) && name_type(known, e).is_some(),
         RightSide::Call(_) => false,
     }
 }
 
 /// Whether a statement copies a known name into a local reference.
-fn copies_reference(known: &Known<'_, Sort>, form: &Form) -> bool
-    ensures { (line : ℕ) → result ≡ breaks_sort_rule ReferenceCopied (scope_of known.now) [] Void
+fn copies_reference(known: &Known<'_, ExprType>, form: &Form) -> bool
+    ensures { (line : ℕ) → result ≡ breaks_type_rule ReferenceCopied (scope_of known.now) [] Void
         (form_tree line form.now) }
 {
     match form {
-        Form::Declare(t, _, r) => copies(known, Some(variable_sort(*t)), r),
-        Form::Assign(x, r) => copies(known, sort_in(known, x), r),
+        Form::Declare(t, _, r) => copies(known, Some(variable_type(*t)), r),
+        Form::Assign(x, r) => copies(known, type_in(known, x), r),
         _ => false,
     }
 }
 
 /// Whether a statement writes to a buffer that may not be written.
-fn writes_read_only(known: &Known<'_, Sort>, form: &Form) -> bool
-    ensures { (line : ℕ) → result ≡ breaks_sort_rule ReadOnlyWrite (scope_of known.now) [] Void
+fn writes_read_only(known: &Known<'_, ExprType>, form: &Form) -> bool
+    ensures { (line : ℕ) → result ≡ breaks_type_rule ReadOnlyWrite (scope_of known.now) [] Void
         (form_tree line form.now) }
 {
     match form {
-        Form::AssignElement(x, _, _) => is_read_only(sort_in(known, x)),
+        Form::AssignElement(x, _, _) => is_read_only(type_in(known, x)),
         _ => false,
     }
 }
 
-/// What a statement may not do although its sorts fit.
+/// What a statement may not do although its types fit.
 #[tactic(auto, using(crate::proofs::FindsLemmas::finds_rules))]
 fn check_uses(
-    known: &Known<'_, Sort>,
+    known: &Known<'_, ExprType>,
     form: &Form,
     function: Option<JniFunction>,
     line: usize,
@@ -346,17 +348,17 @@ fn check_uses(
 {
     refuse_if(
         copies_reference(known, form),
-        SortRule::ReferenceCopied,
+        TypeRule::ReferenceCopied,
         line,
     )?;
-    refuse_if(has_bad_mode(form, function), SortRule::BadMode, line)?;
-    refuse_if(writes_read_only(known, form), SortRule::ReadOnlyWrite, line)
+    refuse_if(has_bad_mode(form, function), TypeRule::BadMode, line)?;
+    refuse_if(writes_read_only(known, form), TypeRule::ReadOnlyWrite, line)
 }
 
 /// The function that a statement calls, the number of its arguments, and the rules after these.
 #[tactic(auto, using(crate::proofs::FindsLemmas::finds_rules))]
 fn check_call(
-    known: &Known<'_, Sort>,
+    known: &Known<'_, ExprType>,
     form: &Form,
     function: Option<JniFunction>,
     line: usize,
@@ -368,10 +370,10 @@ fn check_call(
 {
     refuse_if(
         calls_unknown(form, function),
-        SortRule::UnknownFunction,
+        TypeRule::UnknownFunction,
         line,
     )?;
-    refuse_if(miscounts(form, function), SortRule::ArgumentCount, line)?;
+    refuse_if(miscounts(form, function), TypeRule::ArgumentCount, line)?;
     check_uses(known, form, function, line)
 }
 
@@ -379,31 +381,31 @@ fn check_call(
 /// order of their numbers.
 #[tactic(auto, using(crate::proofs::FindsLemmas::finds_rules))]
 fn judge_form(
-    known: &Known<'_, Sort>,
+    known: &Known<'_, ExprType>,
     taken: &Taken<'_>,
     returns: ResultType,
     form: &Form,
     line: usize,
 ) -> Result<(), TypeError>
     ensures { Finds result (refused_of (result_tree returns) (scope_of known.now) taken.now (form_tree line form.now)
-        line sort_rules) }
+        line typing_rules) }
 {
     let function = function_called(form);
     let misfits = misfits(known, returns, form, function);
     refuse_if(
         names_unknown(known, form, misfits),
-        SortRule::UnknownName,
+        TypeRule::UnknownName,
         line,
     )?;
-    refuse_if(declares_taken(taken, form), SortRule::DeclaredTwice, line)?;
-    refuse_if(misfits, SortRule::SortMisfit, line)?;
+    refuse_if(declares_taken(taken, form), TypeRule::DeclaredTwice, line)?;
+    refuse_if(misfits, TypeRule::TypeMisfit, line)?;
     check_call(known, form, function, line)
 }
 
 /// A fault of a statement, with what is told of it.
 fn with_detail(
     error: TypeError,
-    known: &Known<'_, Sort>,
+    known: &Known<'_, ExprType>,
     returns: ResultType,
     form: &Form,
 ) -> TypeError
@@ -420,14 +422,14 @@ fn with_detail(
 
 /// A statement on this line, without the blocks inside it.
 fn check_form(
-    known: &Known<'_, Sort>,
+    known: &Known<'_, ExprType>,
     taken: &Taken<'_>,
     returns: ResultType,
     form: &Form,
     line: usize,
 ) -> Result<(), TypeError>
     ensures { Finds result (refused_of (result_tree returns) (scope_of known.now) taken.now (form_tree line form.now)
-        line sort_rules) }
+        line typing_rules) }
 {
     match judge_form(known, taken, returns, form, line) {
         Ok(()) => Ok(()),
@@ -437,7 +439,7 @@ fn check_form(
 
 /// A statement of a function with this result, where these names are known and these are taken.
 pub(crate) fn check_statement(
-    known: &Known<'_, Sort>,
+    known: &Known<'_, ExprType>,
     taken: &Taken<'_>,
     returns: ResultType,
     stmt: &Stmt,

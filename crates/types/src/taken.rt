@@ -1,7 +1,7 @@
 //! The names that are taken in a function.
 
 ghost use Rattle.std.specs.Prelude.{◌≡◌, [], ◌∷◌, ◌++◌, OnOk, IfOk};
-ghost use Rattle.type_rules.specs.SortRules.{has_name, has_repeated};
+ghost use Rattle.type_rules.specs.TypeRules.{has_name, has_repeated};
 
 use std::alloc::{AllocError, Global};
 use std::marker::Model;

@@ -1,11 +1,11 @@
 //! What is told of a broken rule: what was found, and what was wanted.
 
 use crate::calls::argument_fits;
-use crate::expressions::{is_null, sort_of};
-use crate::fault::SortRule;
-use crate::scope::{has_name, is_unknown, sort_in};
-use crate::sort::{has_elements, is_index};
+use crate::expressions::{is_null, type_of};
+use crate::fault::TypeRule;
+use crate::scope::{has_name, is_unknown, type_in};
 use crate::statements::{declared, function_called, statement_fits};
+use crate::ty::{has_elements, is_index};
 use base::limits::MOST_FURTHER;
 use jni::{Access, JniFunction, ParameterKind, ResultKind};
 use places::Detail;
@@ -13,7 +13,7 @@ use syntax::{
     Argument, BinaryOp, Call, Constant, ElementType, Expr, Form, Function, Name, PrefixOp,
     ResultType, RightSide, Test,
 };
-use type_rules::{Known, Question, Sort, first_name, own_call, variable_sort};
+use type_rules::{ExprType, Known, Question, first_name, own_call, variable_type};
 
 /// An element type in C's words.
 fn element_words(element: ElementType) -> &'static [u8] {
@@ -60,21 +60,21 @@ fn constant_words(constant: Constant) -> &'static [u8] {
     }
 }
 
-/// Puts a sort in C's words.
-fn with_sort(detail: Detail, sort: Option<Sort>) -> Detail {
-    match sort {
-        Some(Sort::Word) => detail.words(b"uint32_t"),
-        Some(Sort::Jint) => detail.words(b"jint"),
-        Some(Sort::Flag) => detail.words(b"jboolean"),
-        Some(Sort::Truth) => detail.words(b"a truth value"),
-        Some(Sort::Ref) => detail.words(b"a local reference"),
-        Some(Sort::Global) => detail.words(b"a static reference"),
-        Some(Sort::Weak) => detail.words(b"jweak"),
-        Some(Sort::FieldId) => detail.words(b"jfieldID"),
-        Some(Sort::MethodId) => detail.words(b"jmethodID"),
-        Some(Sort::Buffer(element, true)) => detail.words(element_words(element)).words(b" *"),
-        Some(Sort::Buffer(_, false)) => detail.words(b"const jchar *"),
-        Some(Sort::Array(element, _)) => {
+/// Puts a type in C's words.
+fn with_type(detail: Detail, ty: Option<ExprType>) -> Detail {
+    match ty {
+        Some(ExprType::Word) => detail.words(b"uint32_t"),
+        Some(ExprType::Jint) => detail.words(b"jint"),
+        Some(ExprType::Flag) => detail.words(b"jboolean"),
+        Some(ExprType::Truth) => detail.words(b"a truth value"),
+        Some(ExprType::Ref) => detail.words(b"a local reference"),
+        Some(ExprType::Global) => detail.words(b"a static reference"),
+        Some(ExprType::Weak) => detail.words(b"jweak"),
+        Some(ExprType::FieldId) => detail.words(b"jfieldID"),
+        Some(ExprType::MethodId) => detail.words(b"jmethodID"),
+        Some(ExprType::Buffer(element, true)) => detail.words(element_words(element)).words(b" *"),
+        Some(ExprType::Buffer(_, false)) => detail.words(b"const jchar *"),
+        Some(ExprType::Array(element, _)) => {
             detail.words(b"an array of ").words(element_words(element))
         }
         None => detail.words(b"no value"),
@@ -82,18 +82,18 @@ fn with_sort(detail: Detail, sort: Option<Sort>) -> Detail {
 }
 
 /// Puts what an expression is.
-fn with_expression(detail: Detail, known: &Known<'_, Sort>, e: &Expr) -> Detail {
+fn with_expression(detail: Detail, known: &Known<'_, ExprType>, e: &Expr) -> Detail {
     match e {
-        Expr::Named(constant) => match sort_of(known, e) {
-            Some(sort) => with_sort(detail, Some(sort)),
+        Expr::Named(constant) => match type_of(known, e) {
+            Some(ty) => with_type(detail, Some(ty)),
             None => detail.words(constant_words(*constant)),
         },
-        _ => with_sort(detail, sort_of(known, e)),
+        _ => with_type(detail, type_of(known, e)),
     }
 }
 
 /// An expression is found, where this is wanted.
-fn instead(known: &Known<'_, Sort>, e: &Expr, wanted: &[u8]) -> Detail {
+fn instead(known: &Known<'_, ExprType>, e: &Expr, wanted: &[u8]) -> Detail {
     with_expression(Detail::of(b"found "), known, e)
         .words(b", wanted ")
         .words(wanted)
@@ -127,7 +127,7 @@ fn wanted_beside(op: BinaryOp, right: &Expr) -> &'static [u8] {
 }
 
 /// The innermost part of an expression whose own parts don't fit each other.
-fn unformed(known: &Known<'_, Sort>, e: &Expr) -> Option<Detail> {
+fn unformed(known: &Known<'_, ExprType>, e: &Expr) -> Option<Detail> {
     match e {
         Expr::Number { .. } | Expr::Named(_) | Expr::Variable(_) => None,
         Expr::Paren(a) => unformed(known, a),
@@ -137,7 +137,7 @@ fn unformed(known: &Known<'_, Sort>, e: &Expr) -> Option<Detail> {
         },
         Expr::Prefix(op, a) => match unformed(known, a) {
             Some(detail) => Some(detail),
-            None => match sort_of(known, e) {
+            None => match type_of(known, e) {
                 Some(_) => None,
                 None => Some(instead(known, a, wanted_after(*op))),
             },
@@ -146,7 +146,7 @@ fn unformed(known: &Known<'_, Sort>, e: &Expr) -> Option<Detail> {
             Some(detail) => Some(detail),
             None => match unformed(known, &operands.1) {
                 Some(detail) => Some(detail),
-                None => match sort_of(known, e) {
+                None => match type_of(known, e) {
                     Some(_) => None,
                     None => Some(unjoined(known, *op, &operands.0, &operands.1)),
                 },
@@ -156,10 +156,10 @@ fn unformed(known: &Known<'_, Sort>, e: &Expr) -> Option<Detail> {
 }
 
 /// What is wrong with an element and its index.
-fn unindexed(known: &Known<'_, Sort>, name: &Name, index: &Expr) -> Option<Detail> {
-    let sort = sort_in(known, name);
-    if !has_elements(sort) {
-        let detail = with_sort(Detail::of(b"found "), sort);
+fn unindexed(known: &Known<'_, ExprType>, name: &Name, index: &Expr) -> Option<Detail> {
+    let ty = type_in(known, name);
+    if !has_elements(ty) {
+        let detail = with_type(Detail::of(b"found "), ty);
         return Some(
             detail
                 .words(b" ")
@@ -167,14 +167,14 @@ fn unindexed(known: &Known<'_, Sort>, name: &Name, index: &Expr) -> Option<Detai
                 .words(b", wanted an array or a buffer"),
         );
     }
-    if !is_index(sort_of(known, index)) {
+    if !is_index(type_of(known, index)) {
         return Some(instead(known, index, b"an index: uint32_t or jint"));
     }
     None
 }
 
 /// Two operands that don't fit their operator.
-fn unjoined(known: &Known<'_, Sort>, op: BinaryOp, left: &Expr, right: &Expr) -> Detail {
+fn unjoined(known: &Known<'_, ExprType>, op: BinaryOp, left: &Expr, right: &Expr) -> Detail {
     let detail = with_expression(Detail::of(b"found "), known, left).words(operator_words(op));
     with_expression(detail, known, right)
         .words(b", wanted ")
@@ -182,24 +182,24 @@ fn unjoined(known: &Known<'_, Sort>, op: BinaryOp, left: &Expr, right: &Expr) ->
 }
 
 /// An expression doesn't fit where this is wanted.
-fn misfit(known: &Known<'_, Sort>, e: &Expr, wanted: &[u8]) -> Detail {
+fn misfit(known: &Known<'_, ExprType>, e: &Expr, wanted: &[u8]) -> Detail {
     match unformed(known, e) {
         Some(detail) => detail,
         None => instead(known, e, wanted),
     }
 }
 
-/// Puts what a variable of a sort may be set to.
-fn with_right_sides(detail: Detail, sort: Option<Sort>) -> Detail {
-    match sort {
-        Some(Sort::Ref) => detail.words(b"NULL or a call that gives a local reference"),
-        Some(Sort::Global) => detail.words(b"NULL or a call of NewGlobalRef"),
-        Some(Sort::Weak) => detail.words(b"NULL or a call of NewWeakGlobalRef"),
-        Some(Sort::FieldId) => detail.words(b"NULL or a call that gives a jfieldID"),
-        Some(Sort::MethodId) => detail.words(b"NULL or a call that gives a jmethodID"),
-        Some(Sort::Buffer(..)) => with_sort(detail.words(b"a call that gives "), sort),
-        Some(Sort::Array(..)) => detail.words(b"an element of the array"),
-        _ => with_sort(detail, sort),
+/// Puts what a variable of a type may be set to.
+fn with_right_sides(detail: Detail, ty: Option<ExprType>) -> Detail {
+    match ty {
+        Some(ExprType::Ref) => detail.words(b"NULL or a call that gives a local reference"),
+        Some(ExprType::Global) => detail.words(b"NULL or a call of NewGlobalRef"),
+        Some(ExprType::Weak) => detail.words(b"NULL or a call of NewWeakGlobalRef"),
+        Some(ExprType::FieldId) => detail.words(b"NULL or a call that gives a jfieldID"),
+        Some(ExprType::MethodId) => detail.words(b"NULL or a call that gives a jmethodID"),
+        Some(ExprType::Buffer(..)) => with_type(detail.words(b"a call that gives "), ty),
+        Some(ExprType::Array(..)) => detail.words(b"an element of the array"),
+        _ => with_type(detail, ty),
     }
 }
 
@@ -231,32 +231,32 @@ fn with_access(detail: Detail, access: Access) -> Detail {
 const PUSHES: &[u8] =
     b"PushLocalFrame is called only in `if ((*env)->PushLocalFrame(env, n) == 0)`";
 
-/// A call's result doesn't fit a variable of this sort.
-fn misfit_result(sort: Option<Sort>, function: Option<JniFunction>) -> Detail {
+/// A call's result doesn't fit a variable of this type.
+fn misfit_result(ty: Option<ExprType>, function: Option<JniFunction>) -> Detail {
     match function {
         None => Detail::none(),
         Some(JniFunction::PushLocalFrame) => Detail::of(PUSHES),
-        Some(f) => with_sort(
+        Some(f) => with_type(
             with_result(Detail::of(b"found "), f.prototype().result).words(b", wanted "),
-            sort,
+            ty,
         ),
     }
 }
 
-/// A right side doesn't fit a variable of this sort.
+/// A right side doesn't fit a variable of this type.
 fn misfit_right(
-    known: &Known<'_, Sort>,
-    sort: Option<Sort>,
+    known: &Known<'_, ExprType>,
+    ty: Option<ExprType>,
     right: &RightSide,
     function: Option<JniFunction>,
 ) -> Detail {
     match right {
-        RightSide::Call(_) => misfit_result(sort, function),
+        RightSide::Call(_) => misfit_result(ty, function),
         RightSide::Expr(e) => match unformed(known, e) {
             Some(detail) => detail,
             None => {
                 let detail = with_expression(Detail::of(b"found "), known, e).words(b", wanted ");
-                with_right_sides(detail, sort)
+                with_right_sides(detail, ty)
             }
         },
     }
@@ -264,22 +264,22 @@ fn misfit_right(
 
 /// A buffer doesn't begin as a right side.
 fn misfit_buffer(
-    known: &Known<'_, Sort>,
-    sort: Sort,
+    known: &Known<'_, ExprType>,
+    ty: ExprType,
     right: &RightSide,
     function: Option<JniFunction>,
 ) -> Detail {
     match right {
-        RightSide::Call(_) => misfit_result(Some(sort), function),
+        RightSide::Call(_) => misfit_result(Some(ty), function),
         RightSide::Expr(e) => {
             let detail = with_expression(Detail::of(b"found "), known, e);
-            with_right_sides(detail.words(b", wanted NULL or "), Some(sort))
+            with_right_sides(detail.words(b", wanted NULL or "), Some(ty))
         }
     }
 }
 
 /// An element isn't set to such a value.
-fn misfit_element(known: &Known<'_, Sort>, name: &Name, index: &Expr, value: &Expr) -> Detail {
+fn misfit_element(known: &Known<'_, ExprType>, name: &Name, index: &Expr, value: &Expr) -> Detail {
     match unformed(known, index) {
         Some(detail) => detail,
         None => match unindexed(known, name, index) {
@@ -290,7 +290,7 @@ fn misfit_element(known: &Known<'_, Sort>, name: &Name, index: &Expr, value: &Ex
 }
 
 /// A test of an `if` doesn't fit.
-fn misfit_test(known: &Known<'_, Sort>, test: &Test) -> Detail {
+fn misfit_test(known: &Known<'_, ExprType>, test: &Test) -> Detail {
     match test {
         Test::Expr(e) => misfit(known, e, b"a truth value"),
         Test::Call(call) => Detail::of(b"found a test of ")
@@ -300,7 +300,7 @@ fn misfit_test(known: &Known<'_, Sort>, test: &Test) -> Detail {
 }
 
 /// A returned value doesn't fit the function's result.
-fn misfit_return(known: &Known<'_, Sort>, returns: ResultType, e: &Expr) -> Detail {
+fn misfit_return(known: &Known<'_, ExprType>, returns: ResultType, e: &Expr) -> Detail {
     match returns {
         ResultType::Void => Detail::of(b"found a value, wanted `return;`"),
         ResultType::Jint => misfit(known, e, b"jint"),
@@ -320,22 +320,27 @@ fn undroppable(call: &Call, function: Option<JniFunction>) -> Detail {
 
 /// The parts of a statement don't fit each other, its call's arguments aside.
 fn misfit_statement(
-    known: &Known<'_, Sort>,
+    known: &Known<'_, ExprType>,
     returns: ResultType,
     form: &Form,
     function: Option<JniFunction>,
 ) -> Detail {
     match form {
-        Form::Declare(t, _, r) => misfit_right(known, Some(variable_sort(*t)), r, function),
-        Form::DeclareBuffer(t, _, r) => misfit_buffer(known, Sort::Buffer(*t, true), r, function),
+        Form::Declare(t, _, r) => misfit_right(known, Some(variable_type(*t)), r, function),
+        Form::DeclareBuffer(t, _, r) => misfit_buffer(
+            known,
+            ExprType::Buffer(*t, true),
+            r,
+            function,
+        ),
         Form::DeclareChars(_, r) => misfit_buffer(
             known,
-            Sort::Buffer(ElementType::Char, false),
+            ExprType::Buffer(ElementType::Char, false),
             r,
             function,
         ),
         Form::DeclareArray(..) => Detail::none(),
-        Form::Assign(x, r) => misfit_right(known, sort_in(known, x), r, function),
+        Form::Assign(x, r) => misfit_right(known, type_in(known, x), r, function),
         Form::AssignElement(x, i, e) => misfit_element(known, x, i, e),
         Form::Perform(call) => undroppable(call, function),
         Form::PutJint(e) => misfit(known, e, b"jint"),
@@ -347,11 +352,11 @@ fn misfit_statement(
 }
 
 /// Puts what an argument is.
-fn with_argument(detail: Detail, known: &Known<'_, Sort>, argument: &Argument) -> Detail {
+fn with_argument(detail: Detail, known: &Known<'_, ExprType>, argument: &Argument) -> Detail {
     match argument {
         Argument::Value(e) => with_expression(detail, known, e),
         Argument::Text(_) => detail.words(b"a string"),
-        Argument::AddressOf(x) => with_sort(detail.words(b"the address of "), sort_in(known, x)),
+        Argument::AddressOf(x) => with_type(detail.words(b"the address of "), type_in(known, x)),
     }
 }
 
@@ -384,7 +389,7 @@ fn with_parameter(detail: Detail, kind: ParameterKind) -> Detail {
 }
 
 /// An argument whose own parts don't fit each other.
-fn unformed_argument(known: &Known<'_, Sort>, argument: &Argument) -> Option<Detail> {
+fn unformed_argument(known: &Known<'_, ExprType>, argument: &Argument) -> Option<Detail> {
     match argument {
         Argument::Value(e) => unformed(known, e),
         Argument::Text(_) | Argument::AddressOf(_) => None,
@@ -401,7 +406,7 @@ fn parameter(function: JniFunction, number: usize) -> Option<ParameterKind> {
 }
 
 /// The first argument of a call that doesn't fit, by its number after `env`.
-fn misfit_call(known: &Known<'_, Sort>, call: &Call, function: Option<JniFunction>) -> Detail {
+fn misfit_call(known: &Known<'_, ExprType>, call: &Call, function: Option<JniFunction>) -> Detail {
     for (number, argument) in call.arguments.iter().enumerate() {
         if let Some(detail) = unformed_argument(known, argument) {
             return detail;
@@ -425,7 +430,7 @@ fn misfit_call(known: &Known<'_, Sort>, call: &Call, function: Option<JniFunctio
 }
 
 /// What doesn't fit in a statement.
-fn misfit_form(known: &Known<'_, Sort>, returns: ResultType, form: &Form) -> Detail {
+fn misfit_form(known: &Known<'_, ExprType>, returns: ResultType, form: &Form) -> Detail {
     let function = function_called(form);
     if !statement_fits(known, returns, form, function) {
         return misfit_statement(known, returns, form, function);
@@ -439,7 +444,7 @@ fn misfit_form(known: &Known<'_, Sort>, returns: ResultType, form: &Form) -> Det
 /// Whether a name isn't known.
 #[derive(Clone, Copy)]
 struct Unknown<'k, 'a> {
-    known: &'k Known<'a, Sort>,
+    known: &'k Known<'a, ExprType>,
 }
 
 impl Question for Unknown<'_, '_> {
@@ -449,7 +454,7 @@ impl Question for Unknown<'_, '_> {
 }
 
 /// The first name that a statement sets or uses and that isn't known.
-fn unknown_name<'f>(known: &Known<'_, Sort>, form: &'f Form) -> Option<&'f Name> {
+fn unknown_name<'f>(known: &Known<'_, ExprType>, form: &'f Form) -> Option<&'f Name> {
     match form {
         Form::Assign(x, _) if is_unknown(known, x) => Some(x),
         _ => first_name(form, &Unknown { known }),
@@ -510,21 +515,21 @@ fn copied(form: &Form) -> Detail {
 
 /// What is told of a rule that a statement breaks.
 pub(crate) fn statement_detail(
-    known: &Known<'_, Sort>,
+    known: &Known<'_, ExprType>,
     returns: ResultType,
     form: &Form,
-    rule: SortRule,
+    rule: TypeRule,
 ) -> Detail {
     match rule {
-        SortRule::UnknownName => named(unknown_name(known, form)),
-        SortRule::DeclaredTwice => named(declared_name(form)),
-        SortRule::SortMisfit => misfit_form(known, returns, form),
-        SortRule::ReferenceCopied => copied(form),
-        SortRule::ReadOnlyWrite => match form {
+        TypeRule::UnknownName => named(unknown_name(known, form)),
+        TypeRule::DeclaredTwice => named(declared_name(form)),
+        TypeRule::TypeMisfit => misfit_form(known, returns, form),
+        TypeRule::ReferenceCopied => copied(form),
+        TypeRule::ReadOnlyWrite => match form {
             Form::AssignElement(x, _, _) => named(Some(x)),
             _ => Detail::none(),
         },
-        SortRule::UnknownFunction | SortRule::ArgumentCount | SortRule::BadMode => {
+        TypeRule::UnknownFunction | TypeRule::ArgumentCount | TypeRule::BadMode => {
             match own_call(form) {
                 Some(call) => call_detail(call, rule),
                 None => Detail::none(),
@@ -534,10 +539,10 @@ pub(crate) fn statement_detail(
 }
 
 /// What is told of a rule that a call breaks.
-fn call_detail(call: &Call, rule: SortRule) -> Detail {
+fn call_detail(call: &Call, rule: TypeRule) -> Detail {
     match rule {
-        SortRule::ArgumentCount => miscounted(call),
-        SortRule::BadMode => Detail::of(call.function.as_bytes()).words(
+        TypeRule::ArgumentCount => miscounted(call),
+        TypeRule::BadMode => Detail::of(call.function.as_bytes()).words(
             b": wanted 0, JNI_COMMIT or JNI_ABORT",
         ),
         _ => Detail::of(call.function.as_bytes()),
@@ -556,9 +561,9 @@ fn repeated(names: &[Name]) -> Option<&Name> {
 
 /// What is told of a rule that a function's head breaks after items of these names, where its parameters and the statics have
 /// those of `entry`.
-pub(crate) fn head_detail(names: &[Name], entry: &[Name], f: &Function, rule: SortRule) -> Detail {
+pub(crate) fn head_detail(names: &[Name], entry: &[Name], f: &Function, rule: TypeRule) -> Detail {
     match rule {
-        SortRule::UnknownName => Detail::of(f.name.as_bytes()).words(
+        TypeRule::UnknownName => Detail::of(f.name.as_bytes()).words(
             b" is no native method's name: wanted Java_CLASS_METHOD",
         ),
         _ => {

@@ -294,7 +294,7 @@ pub fn split_words<'a>(alloc: Global, line: &'a [u8]) -> Result<Vec<&'a [u8]>, A
 }
 
 /// Whether a word has a byte.
-fn is_some(word: &[u8]) -> bool
+fn is_nonempty(word: &[u8]) -> bool
     ensures { result ≡ is_some_byte word.now }
 {
     match word {
@@ -304,10 +304,10 @@ fn is_some(word: &[u8]) -> bool
 }
 
 /// Whether none of the words is empty.
-fn are_some(words: &[&[u8]]) -> bool
+fn are_nonempty(words: &[&[u8]]) -> bool
     ensures { result ≡ list_all (λ w. is_some_byte w.now) words.now }
 {
-    words.iter().all(|word| is_some(*word))
+    words.iter().all(|word| is_nonempty(*word))
 }
 
 /// The line that bytes are, by their words.
@@ -325,7 +325,7 @@ fn line_by_words<'a>(
     };
     if *word == b"string".as_slice() {
         Ok(string_line(bytes, *word, words))
-    } else if are_some(words) {
+    } else if are_nonempty(words) {
         line_of_kind(alloc, *word, words)
     } else {
         Ok(None)

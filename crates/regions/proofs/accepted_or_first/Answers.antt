@@ -1,5 +1,5 @@
 use Rattle.syntax.specs.Parts.{functions_of}
-use Rattle.regions.proofs.FirstWays.{accepted_or_first}
+use Rattle.regions.proofs.FirstPaths.{accepted_or_first}
 use Rattle.regions.proofs.accepted_or_first.Goals as goal
 
 pub returns : goal.returns

@@ -1,5 +1,5 @@
 use Rattle.syntax.specs.Parts.{functions_of}
-use Rattle.regions.proofs.FirstWays.{no_first_in}
+use Rattle.regions.proofs.FirstPaths.{no_first_in}
 use Rattle.regions.proofs.not_both.Goals as goal
 
 pub returns : goal.returns

@@ -1,5 +1,5 @@
 use Rattle.std.proofs.Common.{◌≡◌, ◌≤◌, length}
-use Rattle.classes.specs.Rest.{rest_from}
+use Rattle.classes.specs.LayoutsLeft.{rest_from}
 use Rattle.classes.proofs.layout_fields.first_field.Given as goal
 
 abbrev pub invariant-loop-field : goal.invariant-loop-field

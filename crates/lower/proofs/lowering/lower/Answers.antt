@@ -13,7 +13,7 @@ pub loop-item-init : goal.loop-item-init
 loop-item-init c =
     let items = c.items-item-items.result.now in
     let given = c.items-item-items.ensures in
-    rw (c.new-names.ensures, c.new-codes.ensures.items) (none_done (map item_tree items) (accepted_fits (unit_tree items) given.tree given.sorted given.regions))
+    rw (c.new-names.ensures, c.new-codes.ensures.items) (none_done (map item_tree items) (accepted_fits (unit_tree items) given.tree given.well_typed given.regions))
 
 pub lower_item-requires : goal.lower_item-requires
 lower_item-requires c =

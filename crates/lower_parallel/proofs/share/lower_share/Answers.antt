@@ -13,7 +13,7 @@ pub loop-item-init : goal.loop-item-init
 loop-item-init g c =
     let items = c.items-item-items.result.now in
     let given = c.items-item-items.ensures in
-    (rw (c.new-names.ensures, c.new-codes.ensures.items) (none_done c.args.workers c.args.worker (map item_tree items) (accepted_fits (unit_tree items) given.tree given.sorted given.regions)), omega arith)
+    (rw (c.new-names.ensures, c.new-codes.ensures.items) (none_done c.args.workers c.args.worker (map item_tree items) (accepted_fits (unit_tree items) given.tree given.well_typed given.regions)), omega arith)
 
 pub push_code-requires : goal.push_code-requires
 push_code-requires g c =

@@ -11,9 +11,9 @@ use Rattle.syntax.proofs.Blocks.{block_is, statements_tree}
 use Rattle.code.specs.declared.instr.Instr.{Instr}
 use Rattle.code.specs.declared.instr.Instr.TheVariants as instr
 use Rattle.code_meaning.specs.Layout.{Layout, layout_after, block_layout}
-use Rattle.code_meaning.specs.Coding.{first_code, ways_code, loop_code, stmt_code, block_code}
+use Rattle.code_meaning.specs.Coding.{first_code, paths_code, loop_code, stmt_code, block_code}
 use Rattle.lower_statements.proofs.BlockNames.{block_closed}
-use Rattle.lower_statements.proofs.Jumps.{on_ok, on_always, on_fault, if_fault, first_made, ways_made, loop_made}
+use Rattle.lower_statements.proofs.Jumps.{on_ok, on_always, on_fault, if_fault, first_made, paths_made, loop_made}
 use Rattle.lower_statements.proofs.statements.+statements.Goals as goal
 
 -- what three calls append, and the jumps at the end
@@ -57,22 +57,22 @@ emit_loop-returns-clause-code t c =
     (e ∙ ap (λ n. slice_set (whole.items ++ instr.JumpBack (n - start) ∷ []) jump (instr.JumpIfFalse (n - jump))) whole.ok.0))
     c.close_turn.ensures
 
--- both ways of an `if`, of which the jump at the end of the first is set at the end
-ways_whole : (old a b new test then' else' : List Instr) (end n : ℕ) → a ≡ old ++ first_code test then' → b ≡ a ++ else' → end + 1 ≡ length a → n ≡ length b → new ≡ slice_set (b ++ instr.Jump 0 ∷ []) end (instr.Jump (n - end)) → new ≡ old ++ (test ++ ways_code then' (else' ++ instr.Jump 0 ∷ []))
-ways_whole old a b new test then' else' end n ea eb at size en =
+-- both branches of an `if`, of which the jump at the end of the first is set at the end
+paths_whole : (old a b new test then' else' : List Instr) (end n : ℕ) → a ≡ old ++ first_code test then' → b ≡ a ++ else' → end + 1 ≡ length a → n ≡ length b → new ≡ slice_set (b ++ instr.Jump 0 ∷ []) end (instr.Jump (n - end)) → new ≡ old ++ (test ++ paths_code then' (else' ++ instr.Jump 0 ∷ []))
+paths_whole old a b new test then' else' end n ea eb at size en =
     let place : end + 1 ≡ length (old ++ first_code test then') = at ∙ ap length ea in
     let far : n - end ≡ length else' + 1 = omega (arith, at, size, ap length eb, length-append a else') in
-    en ∙ rw (eb, ea) (ways_made old test then' else' end (n - end) place far)
+    en ∙ rw (eb, ea) (paths_made old test then' else' end (n - end) place far)
 
-way_whole : (old a new test then' : List Instr) (end n : ℕ) → a ≡ old ++ first_code test then' → end + 1 ≡ length a → n ≡ length a → new ≡ slice_set (a ++ instr.Jump 0 ∷ []) end (instr.Jump (n - end)) → new ≡ old ++ (test ++ ways_code then' (instr.Jump 0 ∷ []))
-way_whole old a new test then' end n ea at size en = ways_whole old a a new test then' [] end n ea (sym (append-nil a)) at size en
+path_whole : (old a new test then' : List Instr) (end n : ℕ) → a ≡ old ++ first_code test then' → end + 1 ≡ length a → n ≡ length a → new ≡ slice_set (a ++ instr.Jump 0 ∷ []) end (instr.Jump (n - end)) → new ≡ old ++ (test ++ paths_code then' (instr.Jump 0 ∷ []))
+path_whole old a new test then' end n ea at size en = paths_whole old a a new test then' [] end n ea (sym (append-nil a)) at size en
 
 pub emit_form-returns-in_ok-end-in-If-clause-code : goal.emit_form-returns-in_ok-end-in-If-clause-code
 emit_form-returns-in_ok-end-in-If-clause-code t c =
     let first = c.emit_first.new.code in
     on_ok c.emit_end.result _ _
     (λ (e : c.emit_end.new.code.items ≡ slice_set (first.items ++ instr.Jump 0 ∷ []) c.in_ok-end-in-If.end (instr.Jump (vec_len first - c.in_ok-end-in-If.end))).
-    way_whole c.args.code.now.items first.items _ _ _ c.in_ok-end-in-If.end (vec_len first) c.in_ok-end-in-If.ensures.code (c.in_ok-end-in-If.ensures.end ∙ first.ok.0) first.ok.0 e
+    path_whole c.args.code.now.items first.items _ _ _ c.in_ok-end-in-If.end (vec_len first) c.in_ok-end-in-If.ensures.code (c.in_ok-end-in-If.ensures.end ∙ first.ok.0) first.ok.0 e
     ∙ ap (λ f. c.args.code.now.items ++ stmt_code c.args.names.now (form_tree c.args.line f)) (sym c.in-If.is))
     c.emit_end.ensures
 
@@ -84,7 +84,7 @@ emit_form-returns-in_ok-emit_block-in-IfElse-clause-code t c =
     let names = c.in_ok-end-in-IfElse.ensures.names in
     on_ok c.emit_end-in-IfElse.result _ _
     (λ (e : c.emit_end-in-IfElse.new.code.items ≡ slice_set (second.items ++ instr.Jump 0 ∷ []) end (instr.Jump (vec_len second - end))).
-    ways_whole c.args.code.now.items first.items second.items _ _ _ _ end (vec_len second) c.in_ok-end-in-IfElse.ensures.code
+    paths_whole c.args.code.now.items first.items second.items _ _ _ _ end (vec_len second) c.in_ok-end-in-IfElse.ensures.code
     (c.in_ok-emit_block-in-IfElse.ensures.code ∙ ap (λ l. first.items ++ block_code l (block_tree c.in-IfElse.second)) names) (c.in_ok-end-in-IfElse.ensures.end ∙ first.ok.0) second.ok.0 e
     ∙ ap (λ f. c.args.code.now.items ++ stmt_code c.args.names.now (form_tree c.args.line f)) (sym c.in-IfElse.is))
     c.emit_end-in-IfElse.ensures
@@ -183,7 +183,7 @@ emit_loop-returns-in_err-emit_block-clause-code t c = on_fault c.from_residual-i
 pub emit_loop-returns-in_err-emit_block-clause-names : goal.emit_loop-returns-in_err-emit_block-clause-names
 emit_loop-returns-in_err-emit_block-clause-names t c = on_fault c.from_residual-in_err-emit_block.result _ c.from_residual-in_err-emit_block.ensures.0
 
--- ---- places of jumps, and what is known after the ways
+-- ---- places of jumps, and what is known after the paths
 
 pub emit_first-close_first-requires : goal.emit_first-close_first-requires
 emit_first-close_first-requires t c = omega (arith, c.len-jump.ensures, c.emit_block.new.code.ok.0, simp length-append at (ap length c.in_ok-emit_block.ensures.code), simp length-append at (ap length c.in_ok-emit.ensures))

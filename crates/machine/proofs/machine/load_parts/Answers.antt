@@ -1,4 +1,4 @@
-use Rattle.type_rules.specs.SortRules.{IsSorted}
+use Rattle.type_rules.specs.TypeRules.{IsWellTyped}
 use Rattle.region_rules.specs.Regions.{HasRegions}
 use Rattle.machine.proofs.SafeLoads.{all_load, all_have_calls}
 use Rattle.std.proofs.Common.{◌≡◌, ℕ, zero, suc, List, [], Option, Some, length, replicate, refl, sym, ap, ◌∙◌, subst, arith}
@@ -21,7 +21,7 @@ use Rattle.semantics_safety.specs.Owners.{AllOwners, owners_after}
 use Rattle.heap.specs.Heap.{Space}
 use Rattle.tables.specs.Keys.{value_at}
 use Rattle.machine_scenes.specs.Statics.{HaveKeys, HaveWeakKeys, all_held}
-use Rattle.machine_scenes.specs.Fit.{AreThere, MonitorsAgree}
+use Rattle.machine_scenes.specs.MonitorsAgree.{AreThere, MonitorsAgree}
 use Rattle.monitors.specs.declared.monitors.Monitor.{Monitor}
 use Rattle.machine_scenes.specs.Statics.{StaticReference}
 use Rattle.semantics.specs.declared.static_reference.StaticReference.TheVariants.{Empty}
@@ -49,10 +49,10 @@ returns-clause-begins c =
     record {
       lowered = c.items.ensures.lowered;
       safe = c.accepted_is_safe.ensures (unit_tree c.args.program.now.unit) w
-          (subst (λ (l : List Item). IsSorted (unit_tree l)) c.items.ensures.items c.items.ensures.sorted) (subst (λ (l : List Item). HasRegions (unit_tree l)) c.items.ensures.items c.items.ensures.regions)
+          (subst (λ (l : List Item). IsWellTyped (unit_tree l)) c.items.ensures.items c.items.ensures.well_typed) (subst (λ (l : List Item). HasRegions (unit_tree l)) c.items.ensures.items c.items.ensures.regions)
           (c.in_ok-threads.ensures.methods, all_load (unit_tree c.args.program.now.unit) w.classes w.threads c.in_ok-threads.ensures.all) (all_have_calls w.threads c.threads.ensures.sound.calls);
       typed = c.objects_are_typed.ensures (unit_tree c.args.program.now.unit) w
-          (subst (λ (l : List Item). IsSorted (unit_tree l)) c.items.ensures.items c.items.ensures.sorted) (subst (λ (l : List Item). HasRegions (unit_tree l)) c.items.ensures.items c.items.ensures.regions)
+          (subst (λ (l : List Item). IsWellTyped (unit_tree l)) c.items.ensures.items c.items.ensures.well_typed) (subst (λ (l : List Item). HasRegions (unit_tree l)) c.items.ensures.items c.items.ensures.regions)
           (subst (λ (l : List Item). HasTexts (unit_tree l)) c.items.ensures.items (texts_are_bytes (unit_tree c.items.result.now) c.items.ensures.tree))
           (c.in_ok-threads.ensures.methods, all_load (unit_tree c.args.program.now.unit) w.classes w.threads c.in_ok-threads.ensures.all) c.threads.ensures.sound;
       methods = c.threads.ensures.sound.methods;

@@ -9,7 +9,7 @@ use Rattle.semantics.specs.declared.event.Event.{Event}
 use Rattle.semantics.specs.declared.event.Event.TheVariants as event
 use Rattle.semantics.specs.declared.trap.Trap.TheVariants.{OutOfRange}
 use Rattle.machine_threads.specs.Callers.{beside_callers, owner_at}
-use Rattle.machine_steps.specs.Moved.{IsSilent, WayIsSeen}
+use Rattle.machine_steps.specs.Moved.{IsSilent, PathIsSeen}
 use Rattle.machine_steps.specs.Waiting.{store_unowned, unowned}
 use Rattle.machine_scenes.specs.declared.activation.Activation.{Activation}
 use Rattle.machine_steps.specs.BufferElements.{LoadsElement}
@@ -43,9 +43,9 @@ fetched_unowned c p lowered of_function = record {
   few = omega (arith, c.cells.ensures.cells, c.cells.ensures.limit);
 }
 
-silent : (way : Plain) (e : Event) → WayIsSeen way e → IsSilent e
-silent way event.Quiet h = tt
-silent way (event.Trapped trap line) h = tt
+silent : (path : Plain) (e : Event) → PathIsSeen path e → IsSilent e
+silent path event.Quiet h = tt
+silent path (event.Trapped trap line) h = tt
 silent plain.Next (event.Printed z) h = absurd (cc)
 silent (plain.Skip n) (event.Printed z) h = absurd (cc)
 silent (plain.Back n) (event.Printed z) h = absurd (cc)
@@ -60,7 +60,7 @@ instr_at-instr-requires c =
 
 pub run_plain-requires-clause-leads : goal.run_plain-requires-clause-leads
 unfolding fetched_unowned
-run_plain-requires-clause-leads c way stack numbers is =
+run_plain-requires-clause-leads c path stack numbers is =
     let a = c.requires.stands in
     let p = a.0 in
     let h = a.8 in
@@ -71,9 +71,9 @@ run_plain-requires-clause-leads c way stack numbers is =
     let f = fetched_unowned (goal.at.run_plain-requires-clause-leads c).After-instr_at-instr p h.lowered h.of_function in
     let it = work p a.1 store (beside_callers a.2 a.6) a.3 a.4 a.5 t a.6 call h.stands.0 h.stands.1 h.in_progress h.stands.2 in
     let e = would_execute p a.1 store (beside_callers a.2 a.6) a.3 a.4 a.5 t a.6 call h.stands.0 h.stands.1 h.in_progress h.stands.2 in
-    reachable f.code.instrs call.place way (length stack) c.instr_at-instr.ensures.few
+    reachable f.code.instrs call.place path (length stack) c.instr_at-instr.ensures.few
     (leads p a.1.classes store.heap store.elements (owner_at a.3 (length a.6.callers)) call f.code (visible_to a.4.current a.5 a.6) a.6.frames it.task it.rest
-    (ready_for p a.1 (store_unowned store) call i f t.pending (beside_callers a.2 a.6) a.3 (owner_at a.3 (length a.6.callers)) a.4.current (unowned a.5) a.6 it.task it.rest e) i f.at way stack numbers is)
+    (ready_for p a.1 (store_unowned store) call i f t.pending (beside_callers a.2 a.6) a.3 (owner_at a.3 (length a.6.callers)) a.4.current (unowned a.5) a.6 it.task it.rest e) i f.at path stack numbers is)
 
 pub test_null-requires-clause-room : goal.test_null-requires-clause-room
 unfolding fetched_unowned
@@ -214,9 +214,9 @@ returns-in_default c = record {
         free,
         did p w store others k own shared t s stands.1 store false c.run_plain.result it.task it.rest it.is c.run_plain.new.activation t.pending
             (plain_executes p w store (beside_callers others s) k (owner_at k (length s.callers)) own.current shared s e.store_agrees t.pending e.pending_agrees call f.code it.task it.rest (ready_for p w store call i f t.pending (beside_callers others s) k (owner_at k (length s.callers)) own.current shared s it.task it.rest e) e.tasks e.views e.steady i f.at
-            c.run_plain.new.activation c.run_plain.result m.way m.stack m.numbers m.is m.moved m.way_seen),
+            c.run_plain.new.activation c.run_plain.result m.path m.stack m.numbers m.is m.moved m.path_seen),
       );
   none = tt;
   function = c.run_plain.ensures.moved.function;
-  silent = silent c.run_plain.ensures.way c.run_plain.result c.run_plain.ensures.way_seen;
+  silent = silent c.run_plain.ensures.path c.run_plain.result c.run_plain.ensures.path_seen;
 }

@@ -106,11 +106,11 @@ store_element-requires-clause-block c =
 
 pub run_plain-requires-clause-leads : goal.run_plain-requires-clause-leads
 unfolding fetched
-run_plain-requires-clause-leads c way stack numbers is =
+run_plain-requires-clause-leads c path stack numbers is =
     let s = c.requires.stands in
     let f = fetched (goal.at.run_plain-requires-clause-leads c).After-instr_at-instr in
-    reachable f.code.instrs c.args.activation.now.place way (length stack) c.instr_at-instr.ensures.few
-    (leads c.args.program.now c.args.world.now.classes c.args.store.now.heap c.args.store.now.elements c.args.owner c.args.activation.now f.code (visible_to s.1 s.2 s.3) s.3.frames s.4 s.5 (ready_for c.args.program.now c.args.world.now c.args.store.now c.args.activation.now c.instr_at-instr.result.now f c.args.pending.now s.0 c.args.thread c.args.owner s.1 s.2 s.3 s.4 s.5 s.6) c.instr_at-instr.result.now f.at way stack numbers is)
+    reachable f.code.instrs c.args.activation.now.place path (length stack) c.instr_at-instr.ensures.few
+    (leads c.args.program.now c.args.world.now.classes c.args.store.now.heap c.args.store.now.elements c.args.owner c.args.activation.now f.code (visible_to s.1 s.2 s.3) s.3.frames s.4 s.5 (ready_for c.args.program.now c.args.world.now c.args.store.now c.args.activation.now c.instr_at-instr.result.now f c.args.pending.now s.0 c.args.thread c.args.owner s.1 s.2 s.3 s.4 s.5 s.6) c.instr_at-instr.result.now f.at path stack numbers is)
 
 pub pop-word-requires : goal.pop-word-requires
 pop-word-requires c =
@@ -168,7 +168,7 @@ returns-in_default-clause-done c others own shared s task rest e =
     let f = fetched (goal.at.returns-in_default-clause-done c).After-instr_at-instr in
     let m = c.run_plain.ensures in
     plain_executes c.args.program.now c.args.world.now c.args.store.now others c.args.thread c.args.owner own shared s e.store_agrees c.args.pending.now e.pending_agrees c.args.activation.now f.code task rest (ready_for c.args.program.now c.args.world.now c.args.store.now c.args.activation.now c.instr_at-instr.result.now f c.args.pending.now others c.args.thread c.args.owner own shared s task rest e) e.tasks e.views e.steady c.instr_at-instr.result.now f.at
-    c.run_plain.new.activation c.run_plain.result m.way m.stack m.numbers m.is m.moved m.way_seen
+    c.run_plain.new.activation c.run_plain.result m.path m.stack m.numbers m.is m.moved m.path_seen
 
 pub returns-in-Ok-clause-done : goal.returns-in-Ok-clause-done
 returns-in-Ok-clause-done c others own shared s task rest e =

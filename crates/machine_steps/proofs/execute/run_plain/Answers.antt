@@ -6,9 +6,9 @@ use Rattle.code.specs.declared.instr.Instr.{Instr}
 use Rattle.machine_steps.proofs.Effects.{Answer}
 use Rattle.machine_steps.proofs.execute.run_plain.Goals as goal
 
--- what a plain instruction answered, by the way that was taken
-taken : (i : Instr) (stack numbers held left slots : List ℕ) (way taken : Plain) → held ≡ numbers → plain_of i stack held ≡ Some (way, left, slots) → way ≡ taken → plain_of i stack numbers ≡ Some (taken, left, slots)
-taken i stack numbers held left slots way ahead same is which = ap (plain_of i stack) (sym same) ∙ is ∙ ap (λ (w : Plain). let x : Answer = Some (w, left, slots) in x) which
+-- what a plain instruction answered, by the path that was taken
+taken : (i : Instr) (stack numbers held left slots : List ℕ) (path taken : Plain) → held ≡ numbers → plain_of i stack held ≡ Some (path, left, slots) → path ≡ taken → plain_of i stack numbers ≡ Some (taken, left, slots)
+taken i stack numbers held left slots path ahead same is which = ap (plain_of i stack) (sym same) ∙ is ∙ ap (λ (w : Plain). let x : Answer = Some (w, left, slots) in x) which
 
 pub overflow_add-activation : goal.overflow_add-activation
 overflow_add-activation c =

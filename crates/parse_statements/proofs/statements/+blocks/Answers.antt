@@ -3,9 +3,9 @@ use Rattle.std.proofs.lemmas.Result.{err_from_is_err_and}
 use Rattle.syntax.specs.Views.{stmt_tree, block_tree}
 use Rattle.syntax.proofs.Blocks.{block_made}
 use Rattle.parse_lexemes.specs.Lexemes.{line_at, views}
-use Rattle.parse_statements.specs.Steps.{head_view, takes_other, ways_at, other_at}
+use Rattle.parse_statements.specs.Steps.{head_view, takes_other, branches_at, other_at}
 use Rattle.parse_statements.specs.Reading.{inner, block_at}
-use Rattle.parse_statements.proofs.Ways.{statement_fails, statement_simple, statement_nested, ways_fail, ways_on, other_fails, other_on}
+use Rattle.parse_statements.proofs.Branches.{statement_fails, statement_simple, statement_nested, branches_fail, branches_on, other_fails, other_on}
 use Rattle.parse_statements.proofs.Nested.{statement_takes}
 use Rattle.parse_statements.proofs.Blocks.{fills_start, fills_done, fills_refuses, fills_fails, fills_on}
 use Rattle.parse_statements.proofs.statements.+blocks.Goals as goal
@@ -47,17 +47,17 @@ statement-returns t c =
     let head = head_view c.in-Some.head in
     let rest = views c.in-Some.rest in
     rw (statement_nested c.args.room c.args.free (views c.args.lexemes) head rest (rw c.in-Some.is at c.in_ok-head.ensures.gives), ← c.line.ensures)
-    (c.nested.ensures (ways_at (inner c.args.room) c.args.free (takes_other head) rest) (rw c.takes_other.ensures at c.ways-ways.ensures))
+    (c.nested.ensures (branches_at (inner c.args.room) c.args.free (takes_other head) rest) (rw c.takes_other.ensures at c.branches-branches.ensures))
 
-pub ways-returns-in_err-body : goal.ways-returns-in_err-body
-ways-returns-in_err-body t c =
+pub branches-returns-in_err-body : goal.branches-returns-in_err-body
+branches-returns-in_err-body t c =
     let p = err_from_is_err_and c.from_residual.result c.from_residual.ensures.1 in
-    rw (p.1, p.2) (ways_fail c.args.room c.args.free (views c.args.lexemes) c.args.otherwise c.in_err-body.field-0.0 c.requires.some c.in_err-body.ensures)
+    rw (p.1, p.2) (branches_fail c.args.room c.args.free (views c.args.lexemes) c.args.otherwise c.in_err-body.field-0.0 c.requires.some c.in_err-body.ensures)
 
-pub ways-returns : goal.ways-returns
-ways-returns t c =
+pub branches-returns : goal.branches-returns
+branches-returns t c =
     let rest = views c.in_ok-body.rest in
-    rw (ways_on c.args.room c.args.free (views c.args.lexemes) c.args.otherwise (block_tree c.in_ok-body.body) c.in_ok-body.left rest c.requires.some c.in_ok-body.ensures)
+    rw (branches_on c.args.room c.args.free (views c.args.lexemes) c.args.otherwise (block_tree c.in_ok-body.body) c.in_ok-body.left rest c.requires.some c.in_ok-body.ensures)
     (c.both.ensures (other_at (inner c.args.room) c.in_ok-body.left c.args.otherwise rest) c.other_block-other.ensures)
 
 pub other_block-returns-in_err-rest : goal.other_block-returns-in_err-rest

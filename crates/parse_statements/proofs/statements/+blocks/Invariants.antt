@@ -10,8 +10,8 @@ decreases-block l = 4 * l.room + 3
 abbrev pub decreases-statement : goal.decreases-statement
 decreases-statement l = 4 * l.room + 2
 
-abbrev pub decreases-ways : goal.decreases-ways
-decreases-ways l = 4 * l.room + 1
+abbrev pub decreases-branches : goal.decreases-branches
+decreases-branches l = 4 * l.room + 1
 
 abbrev pub decreases-other_block : goal.decreases-other_block
 decreases-other_block l = 4 * l.room

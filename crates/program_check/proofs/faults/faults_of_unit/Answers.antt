@@ -6,43 +6,43 @@ use Rattle.code_meaning.specs.Length.{IsTooLong}
 use Rattle.region_rules.specs.Regions.{HasRegions}
 use Rattle.regions.specs.AllFaults.{AreRegionFaults}
 use Rattle.regions.specs.Findings.{fault_of}
-use Rattle.type_rules.specs.SortRules.{IsSorted}
+use Rattle.type_rules.specs.TypeRules.{IsWellTyped}
 use Rattle.program_check.specs.AllFaults.{entry_of, IsAlone}
-use Rattle.program_check.proofs.AllFaultsLemmas.{no_items, sorts_told, regions_told, length_alone, none_told}
+use Rattle.program_check.proofs.AllFaultsLemmas.{no_items, types_told, regions_told, length_alone, none_told}
 use Rattle.program_check.proofs.faults.faults_of_unit.Goals as goal
 
 pub returns-then-not-is_empty-clause-all : goal.returns-then-not-is_empty-clause-all
 returns-then-not-is_empty-clause-all c = λ text spelled.
-    let sorts = c.in_ok-sorts.ensures in
-    IfOk-weaker c.told_sorts.result _ _
-    (λ faults e. sorts_told text (unit_tree c.args.unit) c.in_ok-sorts.sorts.items (map entry_of faults.items) spelled sorts.all sorts.none (search rules) e)
-    c.told_sorts.ensures
+    let types = c.in_ok-types.ensures in
+    IfOk-weaker c.told_types.result _ _
+    (λ faults e. types_told text (unit_tree c.args.unit) c.in_ok-types.types.items (map entry_of faults.items) spelled types.all types.none (search rules) e)
+    c.told_types.ensures
 
 pub returns-then-not-is_empty-2-clause-all : goal.returns-then-not-is_empty-2-clause-all
 returns-then-not-is_empty-2-clause-all c = λ text spelled.
-    let ways = c.in_ok-ways.ensures in
-    let found = c.in_ok-ways.ways.items in
-    let sorted : IsSorted (unit_tree c.args.unit) = c.in_ok-sorts.ensures.sorted (no_items c.in_ok-sorts.sorts.items (search rules)) in
-    let all : AreRegionFaults (unit_tree c.args.unit) (map fault_of found) = subst (λ (items : List ItemInMemory). AreRegionFaults (unit_tree items) (map fault_of found)) c.of-typed.ensures ways.all in
+    let paths = c.in_ok-paths.ensures in
+    let found = c.in_ok-paths.paths.items in
+    let well_typed : IsWellTyped (unit_tree c.args.unit) = c.in_ok-types.ensures.well_typed (no_items c.in_ok-types.types.items (search rules)) in
+    let all : AreRegionFaults (unit_tree c.args.unit) (map fault_of found) = subst (λ (items : List ItemInMemory). AreRegionFaults (unit_tree items) (map fault_of found)) c.of-typed.ensures paths.all in
     IfOk-weaker c.told_regions.result _ _
-    (λ faults e. regions_told text (unit_tree c.args.unit) found (map entry_of faults.items) spelled sorted all
-    (λ regions. ways.none (subst (λ (items : List ItemInMemory). HasRegions (unit_tree items)) (sym c.of-typed.ensures) regions)) (search rules) e)
+    (λ faults e. regions_told text (unit_tree c.args.unit) found (map entry_of faults.items) spelled well_typed all
+    (λ regions. paths.none (subst (λ (items : List ItemInMemory). HasRegions (unit_tree items)) (sym c.of-typed.ensures) regions)) (search rules) e)
     c.told_regions.ensures
 
 pub returns-then-has_long_function-clause-all : goal.returns-then-has_long_function-clause-all
 returns-then-has_long_function-clause-all c = λ text spelled.
-    let sorted : IsSorted (unit_tree c.args.unit) = c.in_ok-sorts.ensures.sorted (no_items c.in_ok-sorts.sorts.items (search rules)) in
-    let regions : HasRegions (unit_tree c.args.unit) = subst (λ (items : List ItemInMemory). HasRegions (unit_tree items)) c.of-typed.ensures (c.in_ok-ways.ensures.accepted (no_items c.in_ok-ways.ways.items (search rules))) in
+    let well_typed : IsWellTyped (unit_tree c.args.unit) = c.in_ok-types.ensures.well_typed (no_items c.in_ok-types.types.items (search rules)) in
+    let regions : HasRegions (unit_tree c.args.unit) = subst (λ (items : List ItemInMemory). HasRegions (unit_tree items)) c.of-typed.ensures (c.in_ok-paths.ensures.accepted (no_items c.in_ok-paths.paths.items (search rules))) in
     let long : IsTooLong (unit_tree c.args.unit) = subst (λ (items : List ItemInMemory). IsTooLong (unit_tree items)) (c.of-checked.ensures ∙ c.of-typed.ensures) (sym c.has_long_function.ensures ∙ c.if-has_long_function.true) in
     IfOk-weaker c.alone.result _ _
-    (λ faults h. length_alone text (unit_tree c.args.unit) (map entry_of faults.items) (record { spelled = spelled; sorted = sorted; regions = regions }) long (subst (λ e. IsAlone e (map entry_of faults.items)) c.too_long.ensures h))
+    (λ faults h. length_alone text (unit_tree c.args.unit) (map entry_of faults.items) (record { spelled = spelled; well_typed = well_typed; regions = regions }) long (subst (λ e. IsAlone e (map entry_of faults.items)) c.too_long.ensures h))
     c.alone.ensures
 
 pub returns-clause-all : goal.returns-clause-all
 returns-clause-all c = λ text spelled.
-    let sorted : IsSorted (unit_tree c.args.unit) = c.in_ok-sorts.ensures.sorted (no_items c.in_ok-sorts.sorts.items (search rules)) in
-    let regions : HasRegions (unit_tree c.args.unit) = subst (λ (items : List ItemInMemory). HasRegions (unit_tree items)) c.of-typed.ensures (c.in_ok-ways.ensures.accepted (no_items c.in_ok-ways.ways.items (search rules))) in
-    none_told text (unit_tree c.args.unit) (map entry_of c.new.result.items) (record { spelled = spelled; sorted = sorted; regions = regions })
+    let well_typed : IsWellTyped (unit_tree c.args.unit) = c.in_ok-types.ensures.well_typed (no_items c.in_ok-types.types.items (search rules)) in
+    let regions : HasRegions (unit_tree c.args.unit) = subst (λ (items : List ItemInMemory). HasRegions (unit_tree items)) c.of-typed.ensures (c.in_ok-paths.ensures.accepted (no_items c.in_ok-paths.paths.items (search rules))) in
+    none_told text (unit_tree c.args.unit) (map entry_of c.new.result.items) (record { spelled = spelled; well_typed = well_typed; regions = regions })
     (λ long.
     let same : true ≡ false =
     sym (subst (λ (items : List ItemInMemory). IsTooLong (unit_tree items)) (sym (c.of-checked.ensures ∙ c.of-typed.ensures)) long) ∙ (sym c.has_long_function.ensures ∙ c.if-has_long_function.false) in

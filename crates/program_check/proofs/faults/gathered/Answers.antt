@@ -3,7 +3,7 @@ use Rattle.std.proofs.lemmas.Result.{IfOk-weaker}
 use Rattle.syntax.specs.Views.{unit_tree}
 use Rattle.program_check.specs.AllFaults.{entry_of, IsAlone}
 use Rattle.program_check.specs.Errors.{of_scan}
-use Rattle.program_check.proofs.Acceptances.{parse_accepts, is_sorted, has_regions}
+use Rattle.program_check.proofs.Acceptances.{parse_accepts, is_well_typed, has_regions}
 use Rattle.program_check.proofs.CheckLemmas.{none_is_long}
 use Rattle.program_check.proofs.AllFaultsLemmas.{scan_alone, parse_alone, none_of_memory}
 use Rattle.program_check.proofs.faults.gathered.Goals as goal
@@ -23,7 +23,7 @@ returns-in-Err-clause-none c = λ p.
 pub returns-in-Ok-parse-clause-none : goal.returns-in-Ok-parse-clause-none
 returns-in-Ok-parse-clause-none c = λ p.
     let same : p.unit ≡ unit_tree c.in-Ok-parse.unit = cc (c.in-Ok-parse.ensures.only p.unit p.of_program.spelled) in
-    c.faults_of_unit.ensures.none (is_sorted c.args.text.now p.unit (unit_tree c.in-Ok-parse.unit) p.of_program same) (has_regions c.args.text.now p.unit (unit_tree c.in-Ok-parse.unit) p.of_program same)
+    c.faults_of_unit.ensures.none (is_well_typed c.args.text.now p.unit (unit_tree c.in-Ok-parse.unit) p.of_program same) (has_regions c.args.text.now p.unit (unit_tree c.in-Ok-parse.unit) p.of_program same)
     (none_is_long c.args.text.now (unit_tree c.in-Ok-parse.unit) p (sym same))
 
 pub returns-clause-all : goal.returns-clause-all

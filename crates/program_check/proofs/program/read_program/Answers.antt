@@ -2,7 +2,7 @@ use Rattle.std.proofs.Common.{◌≡◌, ap, sym, ◌∙◌}
 use Rattle.syntax.specs.Views.{unit_tree}
 use Rattle.program_check.specs.Errors.{of_types, of_regions}
 use Rattle.program_check.proofs.Refusals.{scan_refusal, parse_refusal, types_refusal, regions_refusal}
-use Rattle.program_check.proofs.Acceptances.{parse_accepts, is_sorted, has_regions}
+use Rattle.program_check.proofs.Acceptances.{parse_accepts, is_well_typed, has_regions}
 use Rattle.program_check.proofs.program.read_program.Goals as goal
 
 pub returns-in-Err-clause-fault : goal.returns-in-Err-clause-fault
@@ -19,7 +19,7 @@ returns-in-Err-parse-clause-fault c =
 pub returns-in-Err-type_unit-clause-only : goal.returns-in-Err-type_unit-clause-only
 returns-in-Err-type_unit-clause-only c = λ unit p.
     let same : unit ≡ unit_tree c.in-Ok-parse.unit = cc (c.in-Ok-parse.ensures.only unit p.spelled) in
-    rw c.from-in-Err-type_unit.ensures (ap of_types (c.in-Err-type_unit.ensures.only (is_sorted c.args.text.now unit (unit_tree c.in-Ok-parse.unit) p same)))
+    rw c.from-in-Err-type_unit.ensures (ap of_types (c.in-Err-type_unit.ensures.only (is_well_typed c.args.text.now unit (unit_tree c.in-Ok-parse.unit) p same)))
 
 pub returns-in-Err-type_unit-clause-fault : goal.returns-in-Err-type_unit-clause-fault
 returns-in-Err-type_unit-clause-fault c =
@@ -38,5 +38,5 @@ returns-clause-only c = λ unit p.
 
 pub returns-clause-fault : goal.returns-clause-fault
 returns-clause-fault c =
-    rw c.from-in-Err-check.ensures (regions_refusal c.args.text.now (unit_tree c.in-Ok-parse.unit) c.in-Err-check.error c.in-Ok-parse.ensures.found c.in-Ok-type_unit.ensures.sorted
+    rw c.from-in-Err-check.ensures (regions_refusal c.args.text.now (unit_tree c.in-Ok-parse.unit) c.in-Err-check.error c.in-Ok-parse.ensures.found c.in-Ok-type_unit.ensures.well_typed
     (rw c.in-Ok-type_unit.ensures.same at c.in-Err-check.ensures.first))

@@ -4,12 +4,12 @@ use Rattle.syntax.specs.declared.unit.Item.{Item as ItemInMemory}
 use Rattle.syntax.specs.Parts.{functions_of}
 use Rattle.syntax.specs.Views.{item_tree, unit_tree}
 use Rattle.regions.specs.Findings.{Refuses, items_fault, first_fault}
-use Rattle.regions.proofs.OnceLemmas.{sorted_once}
+use Rattle.regions.proofs.OnceLemmas.{typed_once}
 use Rattle.regions.proofs.UnitLemmas.{accepted-all, accepted-memory, fault-first, fault-broken, items-fault}
 use Rattle.regions.proofs.checked.check.Goals as goal
 
 pub check_items-requires : goal.check_items-requires
-check_items-requires c = sorted_once (unit_tree c.items.result.now) c.items.ensures.sorted
+check_items-requires c = typed_once (unit_tree c.items.result.now) c.items.ensures.well_typed
 
 pub of-requires : goal.of-requires
 of-requires c =

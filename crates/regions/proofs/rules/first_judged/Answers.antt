@@ -7,7 +7,7 @@ use Rattle.region_rules.specs.RegionRules.{own_rules}
 use Rattle.region_rules.specs.RegionStates.{RegionState}
 use Rattle.region_states.specs.StateEffects.{EffectCall, made_value}
 use Rattle.region_states.specs.Judgements.{judged, first_judged}
-use Rattle.regions.proofs.Ways.{IsFirst, first_at, none_first}
+use Rattle.regions.proofs.Paths.{IsFirst, first_at, none_first}
 use Rattle.regions.proofs.rules.first_judged.Goals as goal
 
 -- the rule at this place of the list is broken, and none before it

@@ -5,8 +5,8 @@ use Rattle.syntax.specs.declared.unit.Item.{Item as ItemInMemory}
 use Rattle.syntax.specs.Views.{item_tree}
 use Rattle.regions.specs.Findings.{items_fault}
 use Rattle.region_states.specs.NewNames.{ItemOnce}
-use Rattle.regions.specs.Ways.{Found}
-use Rattle.regions.proofs.WayLemmas.{item_next}
+use Rattle.regions.specs.Paths.{Found}
+use Rattle.regions.proofs.PathLemmas.{item_next}
 use Rattle.regions.proofs.walk.check_each.Goals as goal
 
 pub check_item-requires : goal.check_item-requires

@@ -116,7 +116,7 @@ pub answer_or_trap-answer-requires : goal.answer_or_trap-answer-requires
 answer_or_trap-answer-requires c = c.requires.grown
 
 pub refuse_object-requires : goal.refuse_object-requires
-refuse_object-requires c = c.requires.ways
+refuse_object-requires c = c.requires.branches
 
 pub returns-then-turn-clause-range : goal.returns-then-turn-clause-range
 returns-then-turn-clause-range c = c.refuse_object.ensures.range

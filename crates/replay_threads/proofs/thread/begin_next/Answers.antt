@@ -12,7 +12,7 @@ use Rattle.replay_tasks.proofs.RangeLemmas.{body_in_range}
 use Rattle.replay_threads.proofs.thread.begin_next.Goals as goal
 
 pub begin_call-requires : goal.begin_call-requires
-begin_call-requires c = body_in_range c.args.functions.now c.args.name.now c.in-Some.found.function.now c.requires.tree c.requires.sorted (search rules)
+begin_call-requires c = body_in_range c.args.functions.now c.args.name.now c.in-Some.found.function.now c.requires.tree c.requires.well_typed (search rules)
 
 pub returns : goal.returns
 returns c = λ call named given_are.
@@ -29,7 +29,7 @@ returns c = λ call named given_are.
       activation = begun.activation;
       is = begun.is;
       tasks = begun.tasks;
-      variables = begun.variables ∙ entry_once (unit_tree c.args.functions.now) c.requires.sorted c.args.name.now (function_tree f) found class given ∙ ap (λ (vs : List ObjectValue). (f.class_name, LocalRef 1 (Some class)) ∷ parameter_variables (zip (function_tree f).parameters vs)) (sym given_are);
+      variables = begun.variables ∙ entry_once (unit_tree c.args.functions.now) c.requires.well_typed c.args.name.now (function_tree f) found class given ∙ ap (λ (vs : List ObjectValue). (f.class_name, LocalRef 1 (Some class)) ∷ parameter_variables (zip (function_tree f).parameters vs)) (sym given_are);
       frames = begun.frames ∙ ap (λ (vs : List ObjectValue). let frame : Frame = entry_frame (class ∷ filter_map named_object vs) in frame ∷ []) (sym given_are);
       range = begun.range;
     }

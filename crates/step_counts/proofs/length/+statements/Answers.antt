@@ -49,25 +49,25 @@ after_form-returns-in_err-after_number-in-While-clause-some t c = λ line. rw c.
 pub after_form-returns-in_err-after_number-in-While-clause-none : goal.after_form-returns-in_err-after_number-in-While-clause-none
 after_form-returns-in_err-after_number-in-While-clause-none t c = λ line. rw (c.from_residual-in_err-after_number-in-While.ensures, c.in-While.is) (omega (arith, c.in_err-after_number-in-While.ensures.none))
 
-pub after_way-returns-in_err-after_block-clause-some : goal.after_way-returns-in_err-after_block-clause-some
-after_way-returns-in_err-after_block-clause-some t c = rw c.from_residual.ensures tt
+pub after_path-returns-in_err-after_block-clause-some : goal.after_path-returns-in_err-after_block-clause-some
+after_path-returns-in_err-after_block-clause-some t c = rw c.from_residual.ensures tt
 
-pub after_way-returns-in_err-after_block-clause-none : goal.after_way-returns-in_err-after_block-clause-none
-after_way-returns-in_err-after_block-clause-none t c = rw c.from_residual.ensures (omega (arith, c.in_err-after_block.ensures.none))
+pub after_path-returns-in_err-after_block-clause-none : goal.after_path-returns-in_err-after_block-clause-none
+after_path-returns-in_err-after_block-clause-none t c = rw c.from_residual.ensures (omega (arith, c.in_err-after_block.ensures.none))
 
 -- ---- where something may be left
 
 pub after_first-returns-clause-some : goal.after_first-returns-clause-some
-after_first-returns-clause-some t c = some_by c.after_way.result _ _ (λ x e. omega (arith, e, c.in_ok-after_test.ensures.some)) c.after_way.ensures.some
+after_first-returns-clause-some t c = some_by c.after_path.result _ _ (λ x e. omega (arith, e, c.in_ok-after_test.ensures.some)) c.after_path.ensures.some
 
 pub after_first-returns-clause-none : goal.after_first-returns-clause-none
-after_first-returns-clause-none t c = none_by c.after_way.result _ _ (λ e. omega (arith, e, c.in_ok-after_test.ensures.some)) c.after_way.ensures.none
+after_first-returns-clause-none t c = none_by c.after_path.result _ _ (λ e. omega (arith, e, c.in_ok-after_test.ensures.some)) c.after_path.ensures.none
 
-pub after_way-returns-clause-some : goal.after_way-returns-clause-some
-after_way-returns-clause-some t c = some_by c.after_one.result _ _ (λ x e. omega (arith, e, c.in_ok-after_block.ensures.some)) c.after_one.ensures.some
+pub after_path-returns-clause-some : goal.after_path-returns-clause-some
+after_path-returns-clause-some t c = some_by c.after_one.result _ _ (λ x e. omega (arith, e, c.in_ok-after_block.ensures.some)) c.after_one.ensures.some
 
-pub after_way-returns-clause-none : goal.after_way-returns-clause-none
-after_way-returns-clause-none t c = none_by c.after_one.result _ _ (λ e. omega (arith, e, c.in_ok-after_block.ensures.some)) c.after_one.ensures.none
+pub after_path-returns-clause-none : goal.after_path-returns-clause-none
+after_path-returns-clause-none t c = none_by c.after_one.result _ _ (λ e. omega (arith, e, c.in_ok-after_block.ensures.some)) c.after_one.ensures.none
 
 pub after_form-returns-in_ok-after_first-in-If-clause-some : goal.after_form-returns-in_ok-after_first-in-If-clause-some
 after_form-returns-in_ok-after_first-in-If-clause-some t c = λ line. rw c.in-If.is (some_by c.after_one.result _ _ (λ x e. omega (arith, e, c.in_ok-after_first-in-If.ensures.some)) c.after_one.ensures.some)
@@ -76,16 +76,16 @@ pub after_form-returns-in_ok-after_first-in-If-clause-none : goal.after_form-ret
 after_form-returns-in_ok-after_first-in-If-clause-none t c = λ line. rw c.in-If.is (none_by c.after_one.result _ _ (λ e. omega (arith, e, c.in_ok-after_first-in-If.ensures.some)) c.after_one.ensures.none)
 
 pub after_form-returns-in_ok-after_first-in-IfElse-clause-some : goal.after_form-returns-in_ok-after_first-in-IfElse-clause-some
-after_form-returns-in_ok-after_first-in-IfElse-clause-some t c = λ line. rw c.in-IfElse.is (some_by c.after_way.result _ _ (λ x e. omega (arith, e, c.in_ok-after_first-in-IfElse.ensures.some)) c.after_way.ensures.some)
+after_form-returns-in_ok-after_first-in-IfElse-clause-some t c = λ line. rw c.in-IfElse.is (some_by c.after_path.result _ _ (λ x e. omega (arith, e, c.in_ok-after_first-in-IfElse.ensures.some)) c.after_path.ensures.some)
 
 pub after_form-returns-in_ok-after_first-in-IfElse-clause-none : goal.after_form-returns-in_ok-after_first-in-IfElse-clause-none
-after_form-returns-in_ok-after_first-in-IfElse-clause-none t c = λ line. rw c.in-IfElse.is (none_by c.after_way.result _ _ (λ e. omega (arith, e, c.in_ok-after_first-in-IfElse.ensures.some)) c.after_way.ensures.none)
+after_form-returns-in_ok-after_first-in-IfElse-clause-none t c = λ line. rw c.in-IfElse.is (none_by c.after_path.result _ _ (λ e. omega (arith, e, c.in_ok-after_first-in-IfElse.ensures.some)) c.after_path.ensures.none)
 
 pub after_form-returns-in_ok-after_number-in-While-clause-some : goal.after_form-returns-in_ok-after_number-in-While-clause-some
-after_form-returns-in_ok-after_number-in-While-clause-some t c = λ line. rw c.in-While.is (some_by c.after_way-in-While.result _ _ (λ x e. omega (arith, e, c.in_ok-after_number-in-While.ensures.some)) c.after_way-in-While.ensures.some)
+after_form-returns-in_ok-after_number-in-While-clause-some t c = λ line. rw c.in-While.is (some_by c.after_path-in-While.result _ _ (λ x e. omega (arith, e, c.in_ok-after_number-in-While.ensures.some)) c.after_path-in-While.ensures.some)
 
 pub after_form-returns-in_ok-after_number-in-While-clause-none : goal.after_form-returns-in_ok-after_number-in-While-clause-none
-after_form-returns-in_ok-after_number-in-While-clause-none t c = λ line. rw c.in-While.is (none_by c.after_way-in-While.result _ _ (λ e. omega (arith, e, c.in_ok-after_number-in-While.ensures.some)) c.after_way-in-While.ensures.none)
+after_form-returns-in_ok-after_number-in-While-clause-none t c = λ line. rw c.in-While.is (none_by c.after_path-in-While.result _ _ (λ e. omega (arith, e, c.in_ok-after_number-in-While.ensures.some)) c.after_path-in-While.ensures.none)
 
 pub after_form-returns-in_default : goal.after_form-returns-in_default
 after_form-returns-in_default t c = record { some = c.after_plain.ensures.some; none = c.after_plain.ensures.none }

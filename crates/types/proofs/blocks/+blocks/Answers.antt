@@ -7,7 +7,7 @@ use Rattle.syntax.specs.Parts.{statements_of, statements_within, names_declared,
 use Rattle.syntax.specs.Tree.{Test, Block, IfElse}
 use Rattle.syntax.specs.Views.{form_tree, block_tree, result_tree, stmt_tree, test_tree}
 use Rattle.syntax.proofs.Blocks.{block_is, statements_tree}
-use Rattle.type_rules.specs.SortRules.{places_of, with_declared}
+use Rattle.type_rules.specs.TypeRules.{places_of, with_declared}
 use Rattle.types.specs.AllFaults.{told_at}
 use Rattle.types.specs.Faults.{Tells, IsAbove, scope_of, found, statement_place, places_inside}
 use Rattle.types.proofs.KeptLemmas.{tells-none, tells-next, left-all, left-next, left-none}

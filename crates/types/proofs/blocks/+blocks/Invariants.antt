@@ -3,7 +3,7 @@ use Rattle.syntax.specs.declared.stmt.Block.{out-Block}
 use Rattle.syntax.specs.Parts.{statements_of, names_declared}
 use Rattle.syntax.specs.Views.{block_tree, result_tree}
 use Rattle.syntax.proofs.Blocks.{statements_tree}
-use Rattle.type_rules.specs.SortRules.{places_of}
+use Rattle.type_rules.specs.TypeRules.{places_of}
 use Rattle.types.specs.Faults.{IsAbove, scope_of, found}
 use Rattle.types.proofs.KeptLemmas.{IsLeft}
 use Rattle.types.proofs.blocks.+blocks.Given as goal

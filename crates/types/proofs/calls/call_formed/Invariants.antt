@@ -2,7 +2,7 @@ use Rattle.std.proofs.Common.{◌≡◌, drop, map, flat_map}
 use Rattle.std.specs.List.{list_all}
 use Rattle.syntax.specs.Parts.{argument_expressions}
 use Rattle.syntax.specs.Views.{argument_tree}
-use Rattle.type_rules.specs.SortRules.{is_formed}
+use Rattle.type_rules.specs.TypeRules.{is_formed}
 use Rattle.types.specs.Faults.{scope_of}
 use Rattle.types.proofs.calls.call_formed.Given as goal
 

@@ -2,7 +2,7 @@ use Rattle.std.proofs.Common.{◌≡◌, drop, map}
 use Rattle.std.specs.List.{list_any}
 use Rattle.syntax.specs.Views.{argument_tree}
 use Rattle.types.specs.Faults.{scope_of}
-use Rattle.type_rules.specs.Sorts.{is_unknown}
+use Rattle.type_rules.specs.ExprTypes.{is_unknown}
 use Rattle.type_rules.specs.Uses.{argument_uses}
 use Rattle.types.proofs.calls.call_unknown.Given as goal
 

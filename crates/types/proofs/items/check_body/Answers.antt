@@ -2,7 +2,7 @@ use Rattle.std.proofs.Common.{List, ap, subst}
 use Rattle.std.proofs.lemmas.Result.{on_ok_weaker}
 use Rattle.base.specs.Bytes.{Identifier}
 use Rattle.syntax.specs.Views.{block_tree, result_tree}
-use Rattle.type_rules.specs.SortRules.{places_of}
+use Rattle.type_rules.specs.TypeRules.{places_of}
 use Rattle.types.specs.Faults.{Tells, scope_of, found}
 use Rattle.types.proofs.KeptLemmas.{tells-next}
 use Rattle.types.proofs.items.check_body.Goals as goal

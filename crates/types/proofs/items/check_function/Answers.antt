@@ -1,9 +1,9 @@
 use Rattle.std.proofs.Common.{◌-◌, ◌++◌, drop, take, length, sym, ap, subst, ◌∙◌}
 use Rattle.syntax.specs.Views.{block_tree, result_tree}
-use Rattle.type_rules.specs.declared.sort.Sort.{Sort as SortInMemory}
+use Rattle.type_rules.specs.declared.ty.ExprType.{ExprType as TypeInMemory}
 use Rattle.std.proofs.lemmas.Result.{on_ok_weaker}
 use Rattle.base.specs.Bytes.{ByName}
-use Rattle.type_rules.specs.SortRules.{places_of}
+use Rattle.type_rules.specs.TypeRules.{places_of}
 use Rattle.types.specs.Faults.{Tells, scope_of, found, head_faults}
 use Rattle.types.proofs.BlockLemmas.{forgotten}
 use Rattle.types.proofs.ItemLemmas.{found-function}
@@ -24,5 +24,5 @@ returns-clause-tells c =
 pub returns-clause-restored : goal.returns-clause-restored
 returns-clause-restored c =
     on_ok_weaker c.check_body-checked.result
-    (λ e. c.leave.ensures ∙ ap (λ (k : ByName SortInMemory). drop (length k - c.len-outside.result) k) e ∙ ap (λ n. drop (length c.enter.new.known - n) c.enter.new.known) c.len-outside.ensures ∙ forgotten _ _ c.in_ok-enter.ensures.above)
+    (λ e. c.leave.ensures ∙ ap (λ (k : ByName TypeInMemory). drop (length k - c.len-outside.result) k) e ∙ ap (λ n. drop (length c.enter.new.known - n) c.enter.new.known) c.len-outside.ensures ∙ forgotten _ _ c.in_ok-enter.ensures.above)
     c.check_body-checked.ensures.restored

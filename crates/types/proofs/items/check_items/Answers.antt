@@ -1,6 +1,6 @@
 use Rattle.std.proofs.Common.{◌+◌, ◌++◌, map, drop, sym, ap, ap₂, ◌∙◌}
 use Rattle.syntax.specs.Views.{item_tree}
-use Rattle.type_rules.specs.SortRules.{item_places}
+use Rattle.type_rules.specs.TypeRules.{item_places}
 use Rattle.types.specs.Faults.{found, scope_of, own_places}
 use Rattle.types.proofs.KeptLemmas.{left-next, left-none}
 use Rattle.types.proofs.PlaceLemmas.{found-none, past}

@@ -1,6 +1,6 @@
 use Rattle.std.proofs.Common.{drop, map}
 use Rattle.syntax.specs.Views.{item_tree}
-use Rattle.type_rules.specs.SortRules.{item_places}
+use Rattle.type_rules.specs.TypeRules.{item_places}
 use Rattle.types.specs.Faults.{found, scope_of}
 use Rattle.types.proofs.KeptLemmas.{IsLeft}
 use Rattle.types.proofs.items.check_items.Given as goal

@@ -1,6 +1,6 @@
 use Rattle.std.proofs.Common.{subst, sym, ap, ◌∙◌}
 use Rattle.syntax.specs.Views.{result_tree, stmt_tree}
-use Rattle.type_rules.specs.SortRules.{sort_rules}
+use Rattle.type_rules.specs.TypeRules.{typing_rules}
 use Rattle.types.specs.Faults.{Finds, scope_of, refused_of}
 use Rattle.types.proofs.StatementLemmas.{statement-faults, line-of}
 use Rattle.types.proofs.statements.check_statement.Goals as goal
@@ -12,5 +12,5 @@ returns c =
     let taken = c.args.taken.now in
     let s = stmt_tree c.args.stmt.now in
     subst (λ xs. Finds c.check_form.result xs)
-    (sym (statement-faults returned known taken s ∙ ap (λ line. refused_of returned known taken s line sort_rules) (line-of c.args.stmt.now.line c.args.stmt.now.form)))
+    (sym (statement-faults returned known taken s ∙ ap (λ line. refused_of returned known taken s line typing_rules) (line-of c.args.stmt.now.line c.args.stmt.now.form)))
     c.check_form.ensures

@@ -14,11 +14,11 @@ string_line-requires c = parts_are c.args.bytes.now c.args.words.now no_word c.i
 pub returns-then-eq : goal.returns-then-eq
 returns-then-eq c = c.string_line.ensures ∙ sym (by_string c.args.bytes.now c.args.words.now no_word c.in-len1-up.len_at_least c.requires (cc))
 
-pub returns-then-are_some : goal.returns-then-are_some
-returns-then-are_some c =
-    let e = by_kind c.args.bytes.now c.args.words.now no_word c.in-len1-up.len_at_least c.requires true (cc) (sym c.if-are_some.ensures) in
+pub returns-then-are_nonempty : goal.returns-then-are_nonempty
+returns-then-are_nonempty c =
+    let e = by_kind c.args.bytes.now c.args.words.now no_word c.in-len1-up.len_at_least c.requires true (cc) (sym c.if-are_nonempty.ensures) in
     subst (λ read. IfOk c.line_of_kind.result (λ line. option_map line_view line ≡ read)) (sym e) c.line_of_kind.ensures
 
-pub returns-else-are_some : goal.returns-else-are_some
-returns-else-are_some c =
-    sym (by_kind c.args.bytes.now c.args.words.now no_word c.in-len1-up.len_at_least c.requires false (cc) (sym c.if-are_some.ensures))
+pub returns-else-are_nonempty : goal.returns-else-are_nonempty
+returns-else-are_nonempty c =
+    sym (by_kind c.args.bytes.now c.args.words.now no_word c.in-len1-up.len_at_least c.requires false (cc) (sym c.if-are_nonempty.ensures))

@@ -1,5 +1,5 @@
 use Rattle.std.proofs.Common.{sym, ap, length, ◌∙◌, arith}
-use Rattle.classes.specs.Rest.{rest_from}
+use Rattle.classes.specs.LayoutsLeft.{rest_from}
 use Rattle.classes.proofs.Walks.{none_first, next_own}
 use Rattle.classes.specs.FieldViews.{field_id_view}
 use Rattle.classes.proofs.layout_fields.LayoutFields.next.Goals as goal

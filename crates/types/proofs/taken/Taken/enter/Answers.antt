@@ -1,6 +1,6 @@
 use Rattle.std.proofs.Common.{◌+◌, ◌||◌, List, [], ◌∷◌, ◌++◌, drop, sym, ap, ap₂, ◌∙◌, append_assoc}
 use Rattle.base.specs.Bytes.{Identifier}
-use Rattle.type_rules.specs.SortRules.{has_repeated}
+use Rattle.type_rules.specs.TypeRules.{has_repeated}
 use Rattle.types.proofs.ItemLemmas.{item_next}
 use Rattle.types.proofs.TakenLemmas.{repeated_more}
 use Rattle.types.proofs.taken.Taken.enter.Goals as goal

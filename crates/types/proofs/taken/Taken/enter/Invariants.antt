@@ -1,5 +1,5 @@
 use Rattle.std.proofs.Common.{◌≡◌, ◌++◌, drop}
-use Rattle.type_rules.specs.SortRules.{has_repeated}
+use Rattle.type_rules.specs.TypeRules.{has_repeated}
 use Rattle.types.proofs.taken.Taken.enter.Given as goal
 
 abbrev pub invariant-loop-name : goal.invariant-loop-name

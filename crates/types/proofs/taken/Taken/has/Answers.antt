@@ -1,6 +1,6 @@
 use Rattle.std.proofs.Common.{List, is_some, ap, ◌∙◌}
 use Rattle.base.specs.Bytes.{Identifier}
-use Rattle.type_rules.specs.SortRules.{has_name}
+use Rattle.type_rules.specs.TypeRules.{has_name}
 use Rattle.types.proofs.TakenLemmas.{is_found}
 use Rattle.types.proofs.taken.Taken.has.Goals as goal
 

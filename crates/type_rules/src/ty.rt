@@ -1,0 +1,67 @@
+//! The types of names and expressions.
+
+ghost use Rattle.std.specs.Prelude.{◌≡◌};
+ghost use Rattle.syntax.specs.Views.{variable_type_tree, parameter_type_tree, static_type_tree};
+ghost use Rattle.type_rules.specs.TypeRules.{variable_type, parameter_type, static_type};
+ghost use Rattle.type_rules.specs.TypeViews.{type_value};
+
+use syntax::{ElementType, ParameterType, StaticType, VariableType};
+
+/// What a name or an expression is.
+#[derive(Clone, Copy)]
+pub enum ExprType {
+    /// A number from 0 to 4294967295.
+    Word,
+    /// A number from -2147483648 to 2147483647.
+    Jint,
+    /// A `jboolean`.
+    Flag,
+    /// What comparisons and logic give, which no variable holds.
+    Truth,
+    /// A local reference.
+    Ref,
+    /// A reference that all functions share.
+    Global,
+    /// A weak reference that all functions share.
+    Weak,
+    FieldId,
+    MethodId,
+    /// A buffer, and whether it may be written.
+    Buffer(ElementType, bool),
+    /// A local array, and its size.
+    Array(ElementType, u32),
+}
+
+/// The type of a declared variable.
+pub fn variable_type(kind: VariableType) -> ExprType
+    ensures { type_value result ≡ variable_type (variable_type_tree kind) }
+{
+    match kind {
+        VariableType::Uint32 => ExprType::Word,
+        VariableType::Jint | VariableType::Jsize => ExprType::Jint,
+        VariableType::Jboolean => ExprType::Flag,
+        VariableType::JfieldId => ExprType::FieldId,
+        VariableType::JmethodId => ExprType::MethodId,
+        VariableType::Reference(_) => ExprType::Ref,
+    }
+}
+
+/// The type of a parameter.
+pub fn parameter_type(kind: ParameterType) -> ExprType
+    ensures { type_value result ≡ parameter_type (parameter_type_tree kind) }
+{
+    match kind {
+        ParameterType::Jint => ExprType::Jint,
+        ParameterType::Reference(_) => ExprType::Ref,
+    }
+}
+
+/// The type of a static.
+pub fn static_type(kind: StaticType) -> ExprType
+    ensures { type_value result ≡ static_type (static_type_tree kind) }
+{
+    match kind {
+        StaticType::Reference(_) => ExprType::Global,
+        StaticType::Weak => ExprType::Weak,
+    }
+}
