@@ -27,7 +27,6 @@ pub(crate) struct Entries {
     nothing: OwnFields,
 }
 
-// Written out, and not derived, so that crates above needn't prove it again.
 impl Drop for Entries {
     fn drop(self) {
         let Entries { classes, nothing } = self;

@@ -17,7 +17,6 @@ pub struct OwnFields {
     types: IndexMap<Vec<u8>, FieldType>,
 }
 
-// Written out, and not derived, so that crates above needn't prove it again.
 impl Drop for OwnFields {
     fn drop(self) {
         let OwnFields { types } = self;

@@ -22,7 +22,6 @@ pub struct ClassTable {
     pub(crate) classes: Entries,
 }
 
-// Written out, and not derived, so that crates above needn't prove it again.
 impl Drop for ClassTable {
     fn drop(self) {
         let ClassTable { classes } = self;

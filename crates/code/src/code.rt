@@ -19,7 +19,6 @@ pub struct Code {
     slots: SlotCounts,
 }
 
-// Written out, and not derived, so that crates above needn't prove it again.
 impl Drop for Code {
     fn drop(self) {
         let Code { instrs, slots: _ } = self;

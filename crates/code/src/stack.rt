@@ -10,7 +10,6 @@ pub struct Stack {
     words: ArrayVec<u32, 64>,
 }
 
-// Written out, and not derived, so that crates above needn't prove it again.
 impl Drop for Stack {
     fn drop(self) {
         let Stack { words } = self;

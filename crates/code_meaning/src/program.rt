@@ -11,7 +11,6 @@ pub struct Program<'a> {
     codes: Vec<Code>,
 }
 
-// Written out, and not derived, so that crates above needn't prove it again.
 impl Drop for Program<'_> {
     fn drop(self) {
         let Program { checked: _, codes } = self;

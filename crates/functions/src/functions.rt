@@ -25,7 +25,6 @@ pub struct Functions<'a> {
     by_name: IndexMap<&'a [u8], NumberedFunction<'a>>,
 }
 
-// Written out, and not derived, so that crates above needn't prove it again.
 impl Drop for Functions<'_> {
     fn drop(self) {
         let Functions { items: _, by_name } = self;

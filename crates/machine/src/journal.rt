@@ -54,7 +54,6 @@ pub struct Journal {
     cleared: Vec<Vec<ObjectId>>,
 }
 
-// Written out, and not derived, so that crates above needn't prove it again.
 impl Drop for Journal {
     fn drop(self) {
         let Journal { notes, cleared } = self;

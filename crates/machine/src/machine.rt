@@ -70,7 +70,6 @@ pub struct Machine<'a> {
     journal: Journal,
 }
 
-// Written out, and not derived, so that crates above needn't prove it again.
 impl Drop for Machine<'_> {
     fn drop(self) {
         let Machine {

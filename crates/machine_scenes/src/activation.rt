@@ -16,7 +16,6 @@ pub struct Slots {
     pub buffers: Vec<Buffer>,
 }
 
-// Written out, and not derived, so that crates above needn't prove it again.
 impl Drop for Slots {
     fn drop(self) {
         let Slots {
@@ -42,7 +41,6 @@ pub struct Activation {
     pub locals: Locals,
 }
 
-// Written out, and not derived, so that crates above needn't prove it again.
 impl Drop for Activation {
     fn drop(self) {
         let Activation {

@@ -26,7 +26,6 @@ pub struct Store {
     pub monitors: Monitors,
 }
 
-// Written out, and not derived, so that crates above needn't prove it again.
 impl Drop for Store {
     fn drop(self) {
         let Store {

@@ -25,7 +25,6 @@ pub struct Thread {
     pub ending: Ending,
 }
 
-// Written out, and not derived, so that crates above needn't prove it again.
 impl Drop for Thread {
     fn drop(self) {
         let Thread {

@@ -15,7 +15,6 @@ pub struct Holders<'a> {
     counts: IndexMap<&'a [u8], usize>,
 }
 
-// Written out, and not derived, so that crates above needn't prove it again.
 impl Drop for Holders<'_> {
     fn drop(self) {
         let Holders { counts } = self;

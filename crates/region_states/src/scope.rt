@@ -13,7 +13,6 @@ pub struct Names<'a> {
     places: IndexSet<&'a [u8]>,
 }
 
-// Written out, and not derived, so that crates above needn't prove it again.
 impl Drop for Names<'_> {
     fn drop(self) {
         let Names { places } = self;

@@ -14,7 +14,6 @@ pub struct Locals<'a> {
     pub frames: Frames,
 }
 
-// Written out, and not derived, so that crates above needn't prove it again.
 impl Drop for Locals<'_> {
     fn drop(self) {
         let Locals { variables, frames } = self;

@@ -11,7 +11,6 @@ pub struct Shared<'a> {
     pub monitors: Monitors,
 }
 
-// Written out, and not derived, so that a crate above drops it by a call and doesn't prove it anew.
 impl Drop for Shared<'_> {
     fn drop(self) {
         let Shared {

@@ -40,7 +40,6 @@ pub struct Work<'a> {
     pub outer: Vec<Outer<'a>>,
 }
 
-// Written out, and not derived, so that crates above needn't prove it again.
 impl Drop for Work<'_> {
     fn drop(self) {
         let Work { task, rest, outer } = self;

@@ -89,7 +89,6 @@ pub enum Task<'a> {
     ReturnValue(Evaluation<'a>),
 }
 
-// Written out, and not derived, so that crates above needn't prove it again.
 impl Drop for Task<'_> {
     fn drop(self) {
         match self {

@@ -27,7 +27,6 @@ pub struct Statics<'a> {
     held: IndexMap<&'a [u8], StaticReference>,
 }
 
-// Written out, and not derived, so that a crate above drops them by a call and doesn't prove it anew.
 impl Drop for Statics<'_> {
     fn drop(self) {
         let Statics { held } = self;

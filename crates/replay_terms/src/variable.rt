@@ -61,7 +61,6 @@ pub struct Variables<'a> {
     in_use: BuffersInUse,
 }
 
-// Written out, and not derived, so that a crate above drops them by a call and doesn't prove it anew.
 impl Drop for Variables<'_> {
     fn drop(self) {
         let Variables {

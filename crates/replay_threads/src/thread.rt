@@ -50,7 +50,6 @@ pub struct Thread<'a> {
     pub ending: Ending,
 }
 
-// Written out, and not derived, so that crates above needn't prove it again.
 impl Drop for Thread<'_> {
     fn drop(self) {
         let Thread {

@@ -61,7 +61,6 @@ pub struct Unit {
     items: Vec<Item>,
 }
 
-// Written out, and not derived, so that crates above needn't prove it again.
 impl Drop for Unit {
     fn drop(self) {
         let Unit { items } = self;

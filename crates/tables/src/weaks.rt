@@ -38,7 +38,6 @@ pub struct Weaks {
     end: usize,
 }
 
-// Written out, and not derived, so that crates above needn't prove it again.
 impl Drop for Weaks {
     fn drop(self) {
         let Weaks { slots, end: _ } = self;

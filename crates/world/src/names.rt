@@ -16,7 +16,6 @@ pub struct ObjectNames {
     classes: IndexMap<Vec<u8>, ClassId>,
 }
 
-// Written out, and not derived, so that what holds it drops it by a call and doesn't prove it anew.
 impl Drop for ObjectNames {
     fn drop(self) {
         let ObjectNames { classes } = self;

@@ -63,7 +63,6 @@ pub enum Line<'a> {
     Call(CallWords<'a>),
 }
 
-// Written out, and not derived, so that crates above needn't prove it again.
 impl Drop for Line<'_> {
     fn drop(self) {
         match self {

@@ -13,7 +13,6 @@ pub struct Object {
     values: Vec<ObjectValue>,
 }
 
-// Written out, and not derived, so that crates above needn't prove it again.
 impl Drop for Object {
     fn drop(self) {
         let Object { class: _, values } = self;

@@ -16,7 +16,6 @@ pub struct Call {
     arguments: Vec<ObjectValue>,
 }
 
-// Written out, and not derived, so that crates above needn't prove it again.
 impl Drop for Call {
     fn drop(self) {
         let Call {
@@ -84,7 +83,6 @@ pub struct World {
     threads: Vec<Vec<Call>>,
 }
 
-// Written out, and not derived, so that crates above needn't prove it again.
 impl Drop for World {
     fn drop(self) {
         let World {
