@@ -179,7 +179,7 @@ static FAULTS_40: [Explanation; 3] = [
     Explanation {
         number: 40,
         title: b"branches leave different states",
-        text: b"fault 40: branches leave different states\n\nWhere the branches of an if join, each variable has to be in the same state on both, and the same number of frames pushed;\nat the end of a while's body, the same as before the loop. What may be done after it can't depend on the path that was\ntaken. The line is that of the if or while. Do the same on the other path.\n\n    JNIEXPORT void JNICALL Java_A_f(JNIEnv *env, jclass cls, jobject object, jint n)\n    {\n        if (n != 0) {\n            (*env)->DeleteLocalRef(env, object);\n        }\n        return;\n    }\n\nfault 40 line 3\n",
+        text: b"fault 40: branches leave different states\n\nWhere the branches of an if join, each variable has to be in the same state on both, and the same number of frames\npushed; at the end of a while's body, the same as before the loop. What may be done after it can't depend on the path\nthat was taken. The line is that of the if or while. Do the same on the other path.\n\n    JNIEXPORT void JNICALL Java_A_f(JNIEnv *env, jclass cls, jobject object, jint n)\n    {\n        if (n != 0) {\n            (*env)->DeleteLocalRef(env, object);\n        }\n        return;\n    }\n\nfault 40 line 3\n",
     },
     Explanation {
         number: 41,
