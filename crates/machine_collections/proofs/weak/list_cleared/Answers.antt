@@ -54,7 +54,7 @@ returns c =
     let given : names_of c.push_objects.new.objects.items ≡ c.dedup.new.self.items =
     c.push_objects.ensures ∙ ap (λ (l : List ObjectId). names_of l ++ c.deref.result.now) c.requires.cleared.0 ∙ c.deref.ensures.value in
     subst (λ (l : List ℕ). ListsNames all l) (sym given) (subst (λ (l : List ℕ). ListsNames l c.dedup.new.self.items) pushed (record {
-      rising = rw is (IsStrictlyIncreasing-dedup _ c.sort_unstable.ensures.well_typed);
+      rising = rw is (IsStrictlyIncreasing-dedup _ c.sort_unstable.ensures.sorted);
       sound = λ x h. Contains-permutation _ _ x (IsPermutation-sym _ _ moved) (Contains-from_dedup _ _ x (rw is at h));
       complete = λ x h. rw is (Contains-dedup_nat _ x (Contains-permutation _ _ x moved h));
     }))
