@@ -4,7 +4,10 @@
 mod fault;
 mod journal;
 mod machine;
+mod plain_steps;
 mod rows;
+mod run;
+mod step;
 mod turn;
 
 pub use fault::{ReportFault, RunFault};

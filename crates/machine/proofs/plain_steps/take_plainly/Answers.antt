@@ -1,0 +1,49 @@
+use Rattle.std.proofs.Common.{◌≡◌, true, false, refl, arith}
+use Rattle.machine_threads.specs.Callers.{beside_callers}
+use Rattle.machine_steps.proofs.Waits.{function_there}
+use Rattle.machine.proofs.FreeSteps.{none_taken, stands_now}
+use Rattle.machine.proofs.plain_steps.take_plainly.Goals as goal
+
+pub code_at-code-requires : goal.code_at-code-requires
+code_at-code-requires c =
+    let a = c.requires.stands in
+    let p = c.args.program.now in
+    let store = c.args.store.now in
+    let journal = c.args.journal.now.entries in
+    let t = c.args.thread.now in
+    let m = stands_now p a.0 store a.1 a.2 a.3 journal c.args.k t a.4 0 t journal (none_taken p a.0 store a.1 a.2 a.3 journal c.args.k t a.4) in
+    function_there p a.0 store (beside_callers m.0 m.3) c.args.k m.1 m.2 t m.3 c.in-Some.activation m.4.0 m.4.1 c.in-Some.is m.4.2
+
+pub take_in_code-requires-clause-stands : goal.take_in_code-requires-clause-stands
+take_in_code-requires-clause-stands c =
+    let a = c.requires.stands in (
+      c.args.program.now,
+      a.0,
+      a.1,
+      a.2,
+      a.3,
+      c.args.thread.now,
+      record {
+        goes_on = a.4;
+        in_progress = c.in-Some.is;
+        of_function = c.code_at-code.ensures.code;
+      },
+    )
+
+pub returns-in-None : goal.returns-in-None
+returns-in-None c = record {
+  most = omega arith;
+  went = λ w threads index printed h. rw c.requires.goes (none_taken c.args.program.now w c.args.store.now threads index printed c.args.journal.now.entries c.args.k c.args.thread.now h);
+  ready = λ is. absurd (let clash : false ≡ true = is in cc);
+}
+
+pub returns-in-Some : goal.returns-in-Some
+returns-in-Some c = record {
+  most = c.take_in_code.ensures.most;
+  went = λ w threads index printed h. c.take_in_code.ensures.went c.args.program.now w threads index printed c.args.thread.now (record {
+    goes_on = h;
+    in_progress = c.in-Some.is;
+    of_function = c.code_at-code.ensures.code;
+  });
+  ready = λ is. let h = c.take_in_code.ensures.ready is in (h.0, h.1, refl, h.2);
+}
