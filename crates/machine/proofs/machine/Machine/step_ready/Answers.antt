@@ -3,7 +3,7 @@ use Rattle.semantics.specs.State.{State}
 use Rattle.semantics.specs.Step.{is_blocked}
 use Rattle.machine.specs.Run.{Run, is_finished, replay_of}
 use Rattle.machine.proofs.Steps.{can_awake}
-use Rattle.machine.proofs.step.Machine.step_ready.Goals as goal
+use Rattle.machine.proofs.machine.Machine.step_ready.Goals as goal
 
 -- a journal leads to one state
 same_state : (r : Run) (s t : State) → replay_of r ≡ Some s → replay_of r ≡ Some t → s ≡ t

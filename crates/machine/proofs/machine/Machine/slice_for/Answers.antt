@@ -5,7 +5,7 @@ use Rattle.semantics.specs.declared.schedule.ScheduleWord.TheVariants.{Slice}
 use Rattle.machine.specs.declared.fault.RunFault.TheVariants as running
 use Rattle.machine.specs.Run.{Run, RunsAlong, RunsInto, replay_of}
 use Rattle.machine.proofs.Runs.{begun, none_yet, replicate_rest, sliced_once, taken_more}
-use Rattle.machine.proofs.run.Machine.slice_for.Goals as goal
+use Rattle.machine.proofs.machine.Machine.slice_for.Goals as goal
 
 pub loop-left-init : goal.loop-left-init
 loop-left-init c =

@@ -13,8 +13,8 @@ use Rattle.machine.specs.Run.{AdvancesAndNotes, CanAdvance, Corresponds, Run, Co
 use Rattle.machine_scenes.specs.declared.store.Store.{Store}
 use Rattle.machine.proofs.Steps.{counted_from}
 use Rattle.machine.proofs.Turns.{Ready, next, ready, turn_here}
-use Rattle.machine.proofs.step.Machine.step_now.Goals as goal
-use Rattle.machine.proofs.step.Machine.step_now.Goals.{After-from}
+use Rattle.machine.proofs.machine.Machine.step_now.Goals as goal
+use Rattle.machine.proofs.machine.Machine.step_now.Goals.{After-from}
 
 -- ---- where the thread can step
 

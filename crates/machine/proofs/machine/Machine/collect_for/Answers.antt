@@ -4,7 +4,7 @@ use Rattle.semantics.specs.declared.schedule.ScheduleWord.TheVariants.{Collect}
 use Rattle.machine.specs.Run.{IsOrderly, Run, RunsAlong, replay_of}
 use Rattle.machine.proofs.Collected.{orderly}
 use Rattle.machine.proofs.Runs.{collected_often, collection_refused, none_yet}
-use Rattle.machine.proofs.run.Machine.collect_for.Goals as goal
+use Rattle.machine.proofs.machine.Machine.collect_for.Goals as goal
 
 pub returns-then-times-eq0-clause-ok : goal.returns-then-times-eq0-clause-ok
 returns-then-times-eq0-clause-ok c =

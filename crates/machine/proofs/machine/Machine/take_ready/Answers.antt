@@ -4,7 +4,7 @@ use Rattle.machine.specs.declared.turn.Turn.{Turn}
 use Rattle.machine.specs.declared.turn.Turn.TheVariants as turn
 use Rattle.machine.specs.Run.{Run, TurnHolds}
 use Rattle.machine.proofs.Runs.{turned}
-use Rattle.machine.proofs.run.Machine.take_ready.Goals as goal
+use Rattle.machine.proofs.machine.Machine.take_ready.Goals as goal
 
 -- a turn for which the journal has room isn't refused as one that it has no room for
 never_full : (old new : Run) (k : ℕ) (t : Turn) → steps_in old.journal < 1000000 → TurnHolds old k new t → t ≡ turn.Full → ⊥

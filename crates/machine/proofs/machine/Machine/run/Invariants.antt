@@ -1,7 +1,7 @@
 use Rattle.std.proofs.Common.{IsSome}
 use Rattle.machine.specs.Run.{RunsAlong, replay_of}
 use Rattle.machine.proofs.Runs.{words_to}
-use Rattle.machine.proofs.run.Machine.run.Given as goal
+use Rattle.machine.proofs.machine.Machine.run.Given as goal
 
 abbrev pub invariant-loop-repetition : goal.invariant-loop-repetition
 invariant-loop-repetition l = record {

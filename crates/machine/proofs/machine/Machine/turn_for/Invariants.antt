@@ -1,12 +1,12 @@
 use Rattle.std.proofs.Common.{◌-◌, ◌≤◌, IsSome, replicate}
-use Rattle.semantics.specs.declared.schedule.ScheduleWord.TheVariants.{Slice}
+use Rattle.semantics.specs.declared.schedule.ScheduleWord.TheVariants.{Turn}
 use Rattle.machine.specs.Run.{RunsAlong, replay_of}
-use Rattle.machine.proofs.run.Machine.slice_for.Given as goal
+use Rattle.machine.proofs.machine.Machine.turn_for.Given as goal
 
 abbrev pub invariant-loop-left : goal.invariant-loop-left
 invariant-loop-left l = record {
   most : l.left ≤ l.fn.times;
-  along : RunsAlong l.fn.self l.self (replicate (l.fn.times - l.left) Slice);
+  along : RunsAlong l.fn.self l.self (replicate (l.fn.times - l.left) (Turn l.fn.k));
   runs : IsSome (replay_of l.self);
 }
 

@@ -5,7 +5,7 @@ use Rattle.semantics_safety.specs.Owners.{owners_after}
 use Rattle.machine.specs.Run.{Run, replay_of}
 use Rattle.machine.proofs.Runs.{missing_waits}
 use Rattle.machine_threads.proofs.ThreadLoads.{agree_length}
-use Rattle.machine.proofs.run.Machine.has_thread.Goals as goal
+use Rattle.machine.proofs.machine.Machine.has_thread.Goals as goal
 
 pub returns-then-k-gt0-clause-none : goal.returns-then-k-gt0-clause-none
 returns-then-k-gt0-clause-none c e =

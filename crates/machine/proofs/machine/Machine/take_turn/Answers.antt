@@ -1,5 +1,5 @@
 use Rattle.machine.proofs.Runs.{turned}
-use Rattle.machine.proofs.run.Machine.take_turn.Goals as goal
+use Rattle.machine.proofs.machine.Machine.take_turn.Goals as goal
 
 pub returns-in_default : goal.returns-in_default
 returns-in_default c = record {

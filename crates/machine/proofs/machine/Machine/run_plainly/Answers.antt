@@ -10,8 +10,8 @@ use Rattle.semantics.specs.declared.event.Stop.{Stop}
 use Rattle.machine.specs.Run.{CanGoOn, Corresponds, Run, RunsAlong, WentOn, replay_of, seen}
 use Rattle.machine.proofs.Runs.{none_yet}
 use Rattle.machine.proofs.Steps.{awake_here, counted_from, is_live, none_held, not_stopped, thread_there, threads_of}
-use Rattle.machine.proofs.run.Machine.run_plainly.Goals as goal
-use Rattle.machine.proofs.run.Machine.run_plainly.Goals.{After-index_mut-thread, After-is_some, After-take_plainly}
+use Rattle.machine.proofs.machine.Machine.run_plainly.Goals as goal
+use Rattle.machine.proofs.machine.Machine.run_plainly.Goals.{After-index_mut-thread, After-is_some, After-take_plainly}
 
 there : (c : After-index_mut-thread) → slice_get c.self.inside.threads.items (c.from-index.result - 1) ≡ Some c.index_mut-thread.result.now
 there c = thread_there c.self.inside.threads.items c.args.k c.from-index.result _ c.index_mut-thread.result.now c.from-index.ensures c.requires.counted c.requires.is_thread (threads_of _ _ _ c.self.invariant.count c.self.view_is) c.index_mut-thread.ensures.value

@@ -2,7 +2,7 @@ use Rattle.std.proofs.Common.{Err, IsSome, ap, refl, subst, ◌∙◌}
 use Rattle.std.proofs.lemmas.Result.{err_from_is_err_and}
 use Rattle.machine.specs.Run.{Run, replay_of}
 use Rattle.machine.proofs.Runs.{none_yet, one_repetition, part_of_repetition}
-use Rattle.machine.proofs.run.Machine.run.Goals as goal
+use Rattle.machine.proofs.machine.Machine.run.Goals as goal
 
 pub loop-repetition-init : goal.loop-repetition-init
 loop-repetition-init c =
