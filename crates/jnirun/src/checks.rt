@@ -9,18 +9,16 @@ use crate::serving::words_of;
 use cli_commands::{
     DONE, FileFault, Files, REFUSED, Reason, Source, fail, fail_of, say_fault_of, say_of, tell,
 };
-use places::Place;
-use program_check::{RunError, check_text, detail_of};
+use program_check::{FaultPlace, RunError, check_text};
 use sinks::Sink;
 use std::alloc::Global;
 
 /// Writes the line of a fault of a program, and tells where and why it is refused.
 fn refuse_one<O: Sink, E: Sink>(
-    alloc: Global,
     name: &str,
     program: &[u8],
     number: u32,
-    place: Place,
+    place: FaultPlace,
     out: &mut O,
     err: &mut E,
 ) -> Result<u8, u8>
@@ -29,20 +27,21 @@ fn refuse_one<O: Sink, E: Sink>(
     ensures { FailsCheck program.now number place
         → SaysOrFails name.now program.now (O.written out.old) (O.written out.new) (E.written err.old) (E.written err.new) result }
 {
-    match say_fault_of(out, name.as_bytes(), number, place) {
+    let at = place.place();
+    match say_fault_of(out, name.as_bytes(), number, at) {
         Ok(()) => {
             let source = Source {
                 name: name.as_bytes(),
                 text: program,
             };
-            let detail = detail_of(alloc, program);
+            let detail = place.into_detail();
             let reason = Reason {
                 kind: b"error",
                 number,
                 words: words_of(number),
                 detail: detail.as_bytes(),
             };
-            let _ = tell(err, source, place, reason);
+            let _ = tell(err, source, at, reason);
             Ok(REFUSED)
         }
         Err(_) => Err(fail(err, b"writer\n")),
@@ -64,7 +63,6 @@ fn pass_one<O: Sink, E: Sink>(name: &str, out: &mut O, err: &mut E) -> Result<u8
 
 /// Says how it went with a program, and answers its status, or that of all where no more of them are checked.
 fn say_outcome<O: Sink, E: Sink>(
-    alloc: Global,
     name: &str,
     program: &[u8],
     outcome: Result<(), RunError>,
@@ -78,9 +76,9 @@ fn say_outcome<O: Sink, E: Sink>(
 {
     match outcome {
         Ok(()) => pass_one(name, out, err),
-        Err(RunError::Fault(number, place)) => refuse_one(
-            alloc, name, program, number, place, out, err,
-        ),
+        Err(RunError::Fault(number, place)) => {
+            refuse_one(name, program, number, place, out, err)
+        }
         Err(RunError::Memory) => Err(fail(err, b"memory\n")),
         Err(RunError::Writer) => Err(fail(err, b"writer\n")),
     }
@@ -104,7 +102,7 @@ fn check_one<F: Files, O: Sink, E: Sink>(
     match files.read(alloc, name) {
         Ok(program) => {
             let outcome = check_text(alloc, &program);
-            say_outcome(alloc, name, &program, outcome, out, err)
+            say_outcome(name, &program, outcome, out, err)
         }
         Err(FileFault::Memory) => Err(fail(err, b"memory\n")),
         Err(FileFault::File) => Ok(fail_of(err, name.as_bytes(), b"file\n")),

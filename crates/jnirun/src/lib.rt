@@ -17,7 +17,7 @@ pub use cli_commands::{
     fail, say,
 };
 pub use places::{Place, Text};
-pub use program_check::{RunError, check_text};
+pub use program_check::{FaultPlace, RunError, check_text};
 pub use replay::TrapAt;
 pub use replay_trace::Keeping;
 pub use replaying::{replay_text, runs_are_replayed};

@@ -15,10 +15,10 @@ ghost use Rattle.world_schedules.specs.ScheduleText.{IsScheduleText};
 ghost use Rattle.world.specs.ReadingWorlds.{world_of_text};
 ghost use Rattle.replay.specs.TrapAt.{trap_at};
 
-use crate::errors::{of_load, of_lower, of_reading, of_report};
+use crate::errors::{of_load, of_lower, of_report, of_schedule, of_world};
+use crate::telling::with_misfit;
 use lower::{Program, lower};
 use machine::{Machine, RunFault};
-use places::Text;
 use program_check::{RunError, read_program};
 use region_rules::Checked;
 use replay::TrapAt;
@@ -120,7 +120,7 @@ fn run_world<W: Sink>(
     let threads = thread_count(&world);
     match read_schedule(alloc, schedule_text, threads) {
         Ok(schedule) => run_by(alloc, lowered, world, &schedule, out),
-        Err(error) => Err(of_reading(Text::Schedule, error)),
+        Err(error) => Err(of_schedule(alloc, schedule_text, threads, error)),
     }
 }
 
@@ -141,10 +141,13 @@ fn run_checked<W: Sink>(
 {
     match lower(alloc, checked) {
         Ok(lowered) => match read_world(alloc, world_text) {
-            Ok(world) => run_world(alloc, lowered, world, schedule_text, out),
-            Err(error) => Err(of_reading(Text::World, error)),
+            Ok(world) => {
+                let outcome = run_world(alloc, lowered, world, schedule_text, out);
+                with_misfit(alloc, checked, world_text, outcome)
+            }
+            Err(error) => Err(of_world(error)),
         },
-        Err(error) => Err(of_lower(error)),
+        Err(error) => Err(of_lower(checked, error)),
     }
 }
 

@@ -11,14 +11,13 @@ ghost use Rattle.jnirun.specs.Serve.{TextsWrite, TextsEarn, passed, fault_words,
 
 use crate::replaying::replay_text;
 use crate::run::run_text;
-use crate::telling::detail_at;
 use crate::working::work_text;
 use cli_commands::{
     Command, DONE, FileFault, Files, REFUSED, Reason, Source, Texts, fail, read_texts, say,
     say_fault, tell,
 };
 use places::{Place, Text};
-use program_check::{RunError, check_text};
+use program_check::{FaultPlace, RunError, check_text};
 use replay::TrapAt;
 use sinks::Sink;
 use std::alloc::Global;
@@ -109,13 +108,12 @@ pub(crate) fn words_of(number: u32) -> &'static [u8]
     }
 }
 
-/// Writes the line of a fault, and tells where and why a text is refused. To tell it the text is read once more.
+/// Writes the line of a fault, and tells where and why a text is refused.
 fn refuse<O: Sink, E: Sink>(
-    alloc: Global,
     command: Command<'_>,
     texts: &Texts,
     number: u32,
-    place: Place,
+    place: FaultPlace,
     out: &mut O,
     err: &mut E,
 ) -> u8
@@ -125,21 +123,22 @@ fn refuse<O: Sink, E: Sink>(
         → ServesTexts command.entry texts.now.program.items texts.now.world.items texts.now.order.items
         (O.written out.old) (O.written out.new) (E.written err.old) (E.written err.new) result }
 {
-    match say_fault(out, number, place) {
+    let at = place.place();
+    match say_fault(out, number, at) {
         Ok(()) => {
-            let text = place.text();
+            let text = at.text();
             let source = Source {
                 name: command.name_of(text).as_bytes(),
                 text: texts.of(text),
             };
-            let detail = detail_at(alloc, texts, number, place);
+            let detail = place.into_detail();
             let reason = Reason {
                 kind: b"error",
                 number,
                 words: words_of(number),
                 detail: detail.as_bytes(),
             };
-            let _ = tell(err, source, place, reason);
+            let _ = tell(err, source, at, reason);
             REFUSED
         }
         Err(_) => fail(err, b"writer\n"),
@@ -148,7 +147,6 @@ fn refuse<O: Sink, E: Sink>(
 
 /// Says how it went with the texts of a command, and answers the status.
 pub(crate) fn tell_outcome<O: Sink, E: Sink>(
-    alloc: Global,
     command: Command<'_>,
     texts: &Texts,
     outcome: Result<Option<TrapAt>, RunError>,
@@ -168,9 +166,7 @@ pub(crate) fn tell_outcome<O: Sink, E: Sink>(
             tell_trap(command, &texts.program, trap, err);
             DONE
         }
-        Err(RunError::Fault(number, place)) => refuse(
-            alloc, command, texts, number, place, out, err,
-        ),
+        Err(RunError::Fault(number, place)) => { refuse(command, texts, number, place, out, err) }
         Err(RunError::Memory) => fail(err, b"memory\n"),
         Err(RunError::Writer) => fail(err, b"writer\n"),
     }
@@ -220,7 +216,7 @@ pub fn serve_sequential<F: Files, O: Sink, E: Sink>(
     match read_or_tell(alloc, command, files, err) {
         Ok(texts) => {
             let outcome = run_texts(alloc, command, &texts, out);
-            tell_outcome(alloc, command, &texts, outcome, out, err)
+            tell_outcome(command, &texts, outcome, out, err)
         }
         Err(status) => status,
     }
@@ -247,7 +243,7 @@ pub fn serve<F: Files, O: Sink, E: Sink, R: Threads + Wait + Sync>(
     match read_or_tell(alloc, command, files, err) {
         Ok(texts) => {
             let outcome = work_text(rt, alloc, &texts.program, &texts.world, out);
-            tell_outcome(alloc, command, &texts, outcome, out, err)
+            tell_outcome(command, &texts, outcome, out, err)
         }
         Err(status) => status,
     }

@@ -1,61 +1,63 @@
-//! What is told of a fault beside its title: the texts are read once more.
+//! What is told where a program and a world don't go together, in words that no contract fixes.
 
-use crate::run::thread_count;
-use cli_commands::Texts;
-use machine::RunFault;
+ghost use Rattle.std.specs.Prelude.{◌≡◌};
+
 use nearest::Nearest;
 use places::{Detail, Place, Text};
-use program_check::{detail_of, read_program};
+use program_check::{FaultPlace, RunError};
 use region_rules::Checked;
+use replay::TrapAt;
 use semantics::ObjectValue;
 use std::alloc::Global;
 use syntax::{Function, Item, Parameter, ParameterType};
-use world::{entry_detail, journal_detail, read_world, schedule_detail, world_detail};
+use world::read_world;
 use world_values::{Call, World};
 
-/// What was found where a text is refused, by the fault's number and its place, in words that no contract fixes.
-/// There are none where memory is refused.
-pub(crate) fn detail_at(alloc: Global, texts: &Texts, number: u32, place: Place) -> Detail {
-    if Some(number) == RunFault::Full.number() {
-        return Detail::of(b"at most 1000000 steps");
-    }
-    match place {
-        Place::Line(Text::Program, _) => detail_of(alloc, &texts.program),
-        Place::Line(Text::World, line) => detail_of_world(alloc, texts, line),
-        Place::Line(Text::Schedule, line) => match threads_of(alloc, &texts.world) {
-            Some(threads) => schedule_detail(alloc, &texts.order, line, threads),
-            None => Detail::none(),
-        },
-        Place::Line(Text::Journal, line) => match threads_of(alloc, &texts.world) {
-            Some(threads) => journal_detail(alloc, &texts.order, line, threads),
-            None => Detail::none(),
-        },
-        Place::Entry(entry) => entry_detail(&texts.order, entry),
+/// The outcome of a run of a program whose world was read. Where these two don't go together, what was found is told: the world,
+/// which the machine has taken, is read once more.
+pub(crate) fn with_misfit(
+    alloc: Global,
+    checked: &Checked,
+    world_text: &[u8],
+    outcome: Result<Option<TrapAt>, RunError>,
+) -> Result<Option<TrapAt>, RunError>
+    ensures { result ≡ outcome }
+{
+    match outcome {
+        Err(RunError::Fault(number, place)) => {
+            let told = told_misfit(alloc, checked, world_text, place);
+            Err(RunError::Fault(number, told))
+        }
+        other => other,
     }
 }
 
-/// How many threads a world has, which was read before. None where memory is refused.
-fn threads_of(alloc: Global, text: &[u8]) -> Option<u8> {
-    match read_world(alloc, text) {
-        Ok(world) => Some(thread_count(&world)),
-        Err(_) => None,
-    }
-}
-
-/// What was found where a world is refused: its own fault, or what doesn't go with the program on this line, a call or else
-/// the line of the heap.
-fn detail_of_world(alloc: Global, texts: &Texts, line: usize) -> Detail {
-    let Ok(world) = read_world(alloc, &texts.world) else {
-        return world_detail(alloc, &texts.world);
+/// The place of a fault, which is told where it is one of the world.
+fn told_misfit(alloc: Global, checked: &Checked, world_text: &[u8], place: FaultPlace) -> FaultPlace
+    ensures { result ≡ place }
+{
+    let at = place.place();
+    let Place::Line(Text::World, line) = at else {
+        return place;
     };
-    let Some(call) = call_on(&world, line) else {
-        return Detail::of(
+    match read_world(alloc, world_text) {
+        Ok(world) => FaultPlace::told(at, misfit_detail(alloc, checked, &world, line)),
+        Err(_) => place,
+    }
+}
+
+/// What was found on a line of a world that doesn't go with the program: a call or else the heap.
+pub(crate) fn misfit_detail(
+    alloc: Global,
+    checked: &Checked,
+    world: &World,
+    line: usize,
+) -> Detail {
+    match call_on(world, line) {
+        Some(call) => detail_of_call(alloc, checked, call),
+        None => Detail::of(
             b"found no methods, wanted heap N methods: the program calls GetStaticMethodID",
-        );
-    };
-    match read_program(alloc, &texts.program) {
-        Ok(checked) => detail_of_call(alloc, &checked, call),
-        Err(_) => Detail::none(),
+        ),
     }
 }
 

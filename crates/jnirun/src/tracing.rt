@@ -6,11 +6,10 @@ ghost use Rattle.cli_commands.specs.Commands.{runs_workers};
 ghost use Rattle.replay_trace.specs.Traces.{GoesOn};
 ghost use Rattle.jnirun.specs.Traces.{ServesTraced};
 
-use crate::errors::of_reading;
+use crate::errors::of_world;
 use crate::serving::{read_or_tell, run_texts, tell_outcome};
 use crate::working::work_text;
 use cli_commands::{Command, DONE, Files, Texts, Trace};
-use places::Text;
 use program_check::{RunError, read_program};
 use region_rules::Checked;
 use replay_trace::{Keeping, Told, tell_lack, tell_nothing, trace_line};
@@ -37,7 +36,7 @@ fn read_again(alloc: Global, texts: &Texts) -> Result<Read, RunError> {
     let checked = read_program(alloc, &texts.program)?;
     match read_world(alloc, &texts.world) {
         Ok(world) => Ok((checked, world)),
-        Err(error) => Err(of_reading(Text::World, error)),
+        Err(error) => Err(of_world(error)),
     }
 }
 
@@ -83,7 +82,7 @@ pub fn trace_sequential<F: Files, O: Sink, E: Sink>(
     match read_or_tell(alloc, command, files, err) {
         Ok(texts) => {
             let outcome = run_texts(alloc, command, &texts, out);
-            let status = tell_outcome(alloc, command, &texts, outcome, out, err);
+            let status = tell_outcome(command, &texts, outcome, out, err);
             tell_run(alloc, &texts, which, status, out.last_line(), err);
             status
         }
@@ -112,7 +111,7 @@ pub fn trace_all<F: Files, O: Sink, E: Sink, R: Threads + Wait + Sync>(
     match read_or_tell(alloc, command, files, err) {
         Ok(texts) => {
             let outcome = work_text(rt, alloc, &texts.program, &texts.world, out);
-            let status = tell_outcome(alloc, command, &texts, outcome, out, err);
+            let status = tell_outcome(command, &texts, outcome, out, err);
             tell_run(alloc, &texts, which, status, out.last_line(), err);
             status
         }

@@ -35,12 +35,16 @@ pub extern "C" fn jnirun_check(alloc: Global, text: &[u8], fault: &mut Fault) ->
     *fault = Fault { number: 0, line: 0 };
     match check_text(alloc, text) {
         Ok(()) => ACCEPTED,
-        Err(RunError::Fault(number, Place::Line(_text, line))) => {
-            *fault = Fault { number, line };
-            REFUSED
-        }
+        Err(RunError::Fault(number, place)) => match place.place() {
+            Place::Line(_text, line) => {
+                *fault = Fault { number, line };
+                REFUSED
+            }
+            // A check reads no journal.
+            Place::Entry(_) => unreachable!(),
+        },
         Err(RunError::Memory) => MEMORY,
-        // A check reads no journal, and has no writer.
-        Err(RunError::Fault(_, Place::Entry(_)) | RunError::Writer) => unreachable!(),
+        // Nor has it a writer.
+        Err(RunError::Writer) => unreachable!(),
     }
 }

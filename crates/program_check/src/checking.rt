@@ -21,7 +21,7 @@ pub fn check_text(alloc: Global, program_text: &[u8]) -> Result<(), RunError>
 {
     let checked = read_program(alloc, program_text)?;
     if has_long_function(&checked) {
-        return Err(too_long());
+        return Err(too_long(&checked));
     }
     Ok(())
 }

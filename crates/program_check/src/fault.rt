@@ -1,12 +1,19 @@
 //! Why a text is refused, or there is no whole report.
 
 ghost use Rattle.std.specs.Prelude.{◌≡◌};
+ghost use Rattle.places.specs.declared.place.Place.TheVariants.{Line};
+ghost use Rattle.places.specs.declared.place.Text.TheVariants as which;
+ghost use Rattle.scan.specs.Spelling.{Spells};
 ghost use Rattle.program_check.specs.Errors.{of_scan, of_parse, of_types, of_regions, too_long};
 
+use crate::detail::{detail_of_length, detail_of_types};
+use crate::fault_place::FaultPlace;
 use parse_lexemes::ParseError;
-use places::{Place, Text};
+use places::{Detail, Place, Text};
+use region_rules::Checked;
 use regions::CheckError;
-use scan::ScanError;
+use scan::{ScanError, Token};
+use std::alloc::Global;
 use thiserror::Error;
 use types::TypeError;
 
@@ -14,78 +21,81 @@ use types::TypeError;
 const TOO_LONG: u32 = 51;
 
 /// Why a text is refused, or there is no whole report.
-#[derive(Clone, Copy, Debug, PartialEq, Eq, Error)]
+#[derive(Debug, Drop, Error)]
 pub enum RunError {
     /// Host memory was refused.
     #[error("out of memory")]
     Memory,
-    /// A text is refused: the number of the fault, and its place, which tells the text.
+    /// A text is refused: the number of the fault, and its place, which tells the text, with what was found there.
     #[error("fault {0} {1}")]
-    Fault(u32, Place),
+    Fault(u32, FaultPlace),
     /// The writer of the report failed.
     #[error("the writer failed")]
     Writer,
 }
 
-impl From<ScanError> for RunError {
-    ghost from_gives = { λ error e. e ≡ of_scan error };
+/// The error of a fault of this number on a line of the program, where this was found.
+fn on_line(number: u32, line: usize, detail: Detail) -> RunError
+    ensures { result ≡ RunError.Fault number (Line which.Program line) }
+{
+    let place = Place::Line(Text::Program, line);
+    RunError::Fault(number, FaultPlace::told(place, detail))
+}
 
-    fn from(error: ScanError) -> RunError {
-        match error {
-            ScanError::Memory => RunError::Memory,
-            ScanError::Fault(fault) => RunError::Fault(
-                fault.rule.number(),
-                Place::Line(Text::Program, fault.line.line()),
-            ),
+/// The error of a text that has no tokens.
+pub(crate) fn of_scan(text: &[u8], error: ScanError) -> RunError
+    ensures { result ≡ of_scan error }
+{
+    let detail = error.detail(text);
+    match error {
+        ScanError::Memory => RunError::Memory,
+        ScanError::Fault(fault) => on_line(fault.rule.number(), fault.line.line(), detail),
+    }
+}
+
+/// The error of a text whose tokens, which are these, form no program.
+pub(crate) fn of_parse(text: &[u8], tokens: &[Token], error: ParseError) -> RunError
+    ensures { result ≡ of_parse error }
+{
+    let detail = error.detail(text, tokens);
+    match error {
+        ParseError::Memory => RunError::Memory,
+        ParseError::Fault(fault) => on_line(fault.rule.number(), fault.line.line(), detail),
+    }
+}
+
+/// The error of a text whose unit, of which these are the tokens, breaks a rule on names and types.
+pub(crate) fn of_types(alloc: Global, text: &[u8], tokens: &[Token], error: TypeError) -> RunError
+    requires { Spells text.now tokens.now }
+    ensures { result ≡ of_types error }
+{
+    match error {
+        TypeError::Memory => RunError::Memory,
+        TypeError::Fault(fault) => {
+            let number = fault.rule.number();
+            let line = fault.line.number();
+            on_line(number, line, detail_of_types(alloc, text, tokens, fault))
         }
     }
 }
 
-impl From<ParseError> for RunError {
-    ghost from_gives = { λ error e. e ≡ of_parse error };
-
-    fn from(error: ParseError) -> RunError {
-        match error {
-            ParseError::Memory => RunError::Memory,
-            ParseError::Fault(fault) => RunError::Fault(
-                fault.rule.number(),
-                Place::Line(Text::Program, fault.line.line()),
-            ),
-        }
-    }
-}
-
-impl From<TypeError> for RunError {
-    ghost from_gives = { λ error e. e ≡ of_types error };
-
-    fn from(error: TypeError) -> RunError {
-        match error {
-            TypeError::Memory => RunError::Memory,
-            TypeError::Fault(fault) => RunError::Fault(
-                fault.rule.number(),
-                Place::Line(Text::Program, fault.line.number()),
-            ),
-        }
-    }
-}
-
-impl From<CheckError> for RunError {
-    ghost from_gives = { λ error e. e ≡ of_regions error };
-
-    fn from(error: CheckError) -> RunError {
-        match error {
-            CheckError::Memory => RunError::Memory,
-            CheckError::Fault(fault) => RunError::Fault(
-                fault.rule.number(),
-                Place::Line(Text::Program, fault.line.number()),
-            ),
+/// The error of a text whose unit breaks a rule on buffers, references, frames and returns.
+pub(crate) fn of_regions(error: CheckError) -> RunError
+    ensures { result ≡ of_regions error }
+{
+    match error {
+        CheckError::Memory => RunError::Memory,
+        CheckError::Fault(fault) => {
+            let number = fault.rule.number();
+            let line = fault.line.number();
+            on_line(number, line, fault.line.into_detail())
         }
     }
 }
 
 /// The error of a program with a function that is too long, which has no line.
-pub fn too_long() -> RunError
+pub fn too_long(checked: &Checked) -> RunError
     ensures { result ≡ too_long }
 {
-    RunError::Fault(TOO_LONG, Place::Line(Text::Program, 0))
+    on_line(TOO_LONG, 0, detail_of_length(checked))
 }

@@ -12,9 +12,8 @@ ghost use Rattle.type_rules.specs.TypeRules.{IsWellTyped};
 ghost use Rattle.types.specs.Faults.{fault_of as type_of};
 ghost use Rattle.regions.specs.Findings.{fault_of as region_of};
 
-use crate::detail::detail_of_length;
-use crate::fault::{RunError, too_long};
-use crate::meant::{asked, asks_for_names};
+use crate::fault::{RunError, of_parse, of_scan, too_long};
+use crate::meant::{function_asked, name_asked};
 use parse::parse;
 use places::{Detail, Place, Text};
 use region_rules::Checked;
@@ -23,7 +22,7 @@ use scan::scan;
 use std::alloc::{AllocError, Global};
 use step_counts::has_long_function;
 use syntax::Unit;
-use types::{TypeFault, Typed, type_faults};
+use types::{TypeFault, TypeRule, Typed, type_faults};
 
 /// The most faults of a text of which it is sought which name may be meant, since each is sought in its whole function.
 const MOST_ASKED: usize = 64;
@@ -37,7 +36,7 @@ pub struct ToldFault {
 }
 
 /// The fault of this error, alone.
-fn alone(alloc: Global, error: RunError, detail: Detail) -> Result<Vec<ToldFault>, AllocError>
+fn alone(alloc: Global, error: RunError) -> Result<Vec<ToldFault>, AllocError>
     ensures { IfOk result (λ faults. IsAlone error (map entry_of faults.items)) }
 {
     match error {
@@ -45,8 +44,8 @@ fn alone(alloc: Global, error: RunError, detail: Detail) -> Result<Vec<ToldFault
             let mut faults = Vec::new(alloc);
             faults.push(ToldFault {
                 number,
-                place,
-                detail,
+                place: place.place(),
+                detail: place.into_detail(),
             })?;
             Ok(faults)
         }
@@ -61,10 +60,10 @@ fn told_type(alloc: Global, unit: &Unit, fault: TypeFault, before: usize) -> Tol
     let rule = fault.rule;
     let line = fault.line.number();
     let found = fault.line.into_detail();
-    let detail = if before < MOST_ASKED && asks_for_names(rule) {
-        asked(alloc, unit, rule, line, &found)
-    } else {
-        found
+    let detail = match rule {
+        TypeRule::UnknownName if before < MOST_ASKED => name_asked(alloc, unit, line, &found),
+        TypeRule::UnknownFunction if before < MOST_ASKED => function_asked(alloc, &found),
+        _ => found,
     };
     ToldFault {
         number: rule.number(),
@@ -130,8 +129,7 @@ fn faults_of_unit(alloc: Global, unit: Unit) -> Result<Vec<ToldFault>, AllocErro
     }
     let checked = Checked::of(typed);
     if has_long_function(&checked) {
-        let detail = detail_of_length(&checked);
-        return alone(alloc, too_long(), detail);
+        return alone(alloc, too_long(&checked));
     }
     Ok(Vec::new(alloc))
 }
@@ -143,17 +141,11 @@ fn gathered(alloc: Global, text: &[u8]) -> Result<Vec<ToldFault>, AllocError>
 {
     let tokens = match scan(alloc, text) {
         Ok(tokens) => tokens,
-        Err(error) => {
-            let detail = error.detail(text);
-            return alone(alloc, RunError::from(error), detail);
-        }
+        Err(error) => return alone(alloc, of_scan(text, error)),
     };
     match parse(alloc, text, &tokens) {
         Ok(unit) => faults_of_unit(alloc, unit),
-        Err(error) => {
-            let detail = error.detail(text, &tokens);
-            alone(alloc, RunError::from(error), detail)
-        }
+        Err(error) => alone(alloc, of_parse(text, &tokens, error)),
     }
 }
 

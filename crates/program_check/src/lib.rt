@@ -4,12 +4,13 @@
 mod checking;
 mod detail;
 mod fault;
+mod fault_place;
 mod faults;
 mod meant;
 mod program;
 
 pub use checking::check_text;
-pub use detail::detail_of;
 pub use fault::{RunError, too_long};
+pub use fault_place::FaultPlace;
 pub use faults::{ToldFault, all_faults};
 pub use program::read_program;

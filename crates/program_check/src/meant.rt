@@ -5,7 +5,6 @@ use nearest::Nearest;
 use places::Detail;
 use std::alloc::Global;
 use syntax::{Block, Form, Function, Item, Name, Unit};
-use types::TypeRule;
 
 /// The most blocks around a statement: those that may be nested, and the body of the function.
 const MOST_BLOCKS: usize = 33;
@@ -134,25 +133,18 @@ fn offer_names<'a>(alloc: Global, nearest: &mut Nearest<'_, 'a>, unit: &'a Unit,
     }
 }
 
-/// Whether this rule is broken by a name that isn't known.
-pub(crate) fn asks_for_names(rule: TypeRule) -> bool {
-    matches!(rule, TypeRule::UnknownName | TypeRule::UnknownFunction)
-}
-
 /// What is told of a name that isn't known, on this line of a unit, and which name may be meant.
-pub(crate) fn asked(
-    alloc: Global,
-    unit: &Unit,
-    rule: TypeRule,
-    line: usize,
-    detail: &Detail,
-) -> Detail {
+pub(crate) fn name_asked(alloc: Global, unit: &Unit, line: usize, detail: &Detail) -> Detail {
     let told = detail.as_bytes();
     let mut nearest = Nearest::to(told);
-    match rule {
-        TypeRule::UnknownName => offer_names(alloc, &mut nearest, unit, line),
-        TypeRule::UnknownFunction => offer_functions(alloc, &mut nearest),
-        _ => {}
-    }
+    offer_names(alloc, &mut nearest, unit, line);
+    nearest.asked_after(Detail::of(told), b"")
+}
+
+/// What is told of a function of the JNI that isn't known, and which one may be meant.
+pub(crate) fn function_asked(alloc: Global, detail: &Detail) -> Detail {
+    let told = detail.as_bytes();
+    let mut nearest = Nearest::to(told);
+    offer_functions(alloc, &mut nearest);
     nearest.asked_after(Detail::of(told), b"")
 }

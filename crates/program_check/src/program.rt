@@ -6,7 +6,7 @@ ghost use Rattle.syntax.specs.Views.{unit_tree};
 ghost use Rattle.program_check.specs.Programs.{IsProgram};
 ghost use Rattle.program_check.specs.Passes.{IsRefusal, IsUnitOr};
 
-use crate::fault::RunError;
+use crate::fault::{RunError, of_parse, of_regions, of_scan, of_types};
 use parse::parse;
 use regions::{Checked, check};
 use scan::scan;
@@ -22,18 +22,18 @@ pub fn read_program(alloc: Global, text: &[u8]) -> Result<Checked, RunError>
 {
     let tokens = match scan(alloc, text) {
         Ok(tokens) => tokens,
-        Err(error) => return Err(RunError::from(error)),
+        Err(error) => return Err(of_scan(text, error)),
     };
     let unit = match parse(alloc, text, &tokens) {
         Ok(unit) => unit,
-        Err(error) => return Err(RunError::from(error)),
+        Err(error) => return Err(of_parse(text, &tokens, error)),
     };
     let typed = match type_unit(alloc, unit) {
         Ok(typed) => typed,
-        Err(error) => return Err(RunError::from(error)),
+        Err(error) => return Err(of_types(alloc, text, &tokens, error)),
     };
     match check(alloc, typed) {
         Ok(checked) => Ok(checked),
-        Err(error) => Err(RunError::from(error)),
+        Err(error) => Err(of_regions(error)),
     }
 }

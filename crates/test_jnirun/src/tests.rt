@@ -9,6 +9,7 @@ use std::alloc::Global;
 use std::io;
 use std::io::{ErrorKind, Write};
 use std::sync::Wait;
+use std::test::Fail;
 use std::thread::Threads;
 
 const PROGRAM: &[u8] = b"JNIEXPORT jint JNICALL Java_A_f(JNIEnv *env, jclass cls) { return 0; }";
@@ -116,27 +117,28 @@ fn served(
 }
 
 #[test]
-fn texts(rt: HostRuntime) {
+fn texts(rt: HostRuntime) -> Result<(), Fail> {
     let mut ran = StdSink::new(writer_of(&rt, 4096, 4096));
     let mut worked = StdSink::new(writer_of(&rt, 4096, 4096));
     let mut replayed = StdSink::new(writer_of(&rt, 4096, 4096));
-    assert!(rt; check_text(rt.alloc(), PROGRAM) == Ok(()));
-    assert!(rt; run_text(rt.alloc(), PROGRAM, WORLD, b"1*9", &mut ran) == Ok(None));
-    assert!(rt; work_text(&rt, rt.alloc(), PROGRAM, WORLD, &mut worked) == Ok(None));
-    assert!(rt; replay_text(rt.alloc(), PROGRAM, WORLD, b"1 1 1", &mut replayed) == Ok(None));
+    check_text(rt.alloc(), PROGRAM)?;
+    assert!(rt; run_text(rt.alloc(), PROGRAM, WORLD, b"1*9", &mut ran)?.is_none());
+    assert!(rt; work_text(&rt, rt.alloc(), PROGRAM, WORLD, &mut worked)?.is_none());
+    assert!(rt; replay_text(rt.alloc(), PROGRAM, WORLD, b"1 1 1", &mut replayed)?.is_none());
     assert!(rt; ran.into_inner().taken.as_slice() == REPORT);
     assert!(rt; worked.into_inner().taken.as_slice() == REPORT);
     assert!(rt; replayed.into_inner().taken.as_slice() == REPORT);
+    Ok(())
 }
 
 // A trap is the answer, and is told; where standard error fails, a beginning of it.
 #[test]
-fn traps(rt: HostRuntime) {
+fn traps(rt: HostRuntime) -> Result<(), Fail> {
     let mut ran = StdSink::new(writer_of(&rt, 4096, 4096));
     let mut replayed = StdSink::new(writer_of(&rt, 4096, 4096));
-    let trap = Ok(Some(TrapAt { number: 1, line: 3 }));
-    assert!(rt; run_text(rt.alloc(), TRAPPING, WORLD, b"1*9", &mut ran) == trap);
-    assert!(rt; replay_text(rt.alloc(), TRAPPING, WORLD, b"1 1 1 1", &mut replayed) == trap);
+    let trap = Some(TrapAt { number: 1, line: 3 });
+    assert!(rt; run_text(rt.alloc(), TRAPPING, WORLD, b"1*9", &mut ran)? == trap);
+    assert!(rt; replay_text(rt.alloc(), TRAPPING, WORLD, b"1 1 1 1", &mut replayed)? == trap);
     let told =
         b"p:3: trap 1: a division or a remainder by zero\n     put_jint((jint)(1u / 0u)); return; }\n".as_slice();
     for (room, said) in [(4096, told), (10, &told[..10])] {
@@ -147,6 +149,7 @@ fn traps(rt: HostRuntime) {
                 && err.as_slice() == said
         );
     }
+    Ok(())
 }
 
 // Each output is one that takes a byte a call.

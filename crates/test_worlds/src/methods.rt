@@ -45,8 +45,11 @@ fn a_world_without(rt: HostRuntime) -> Result<(), Fail> {
 /// The number of the fault of a text, and its line; zeros where it is accepted.
 fn fault_of(alloc: Global, text: &[u8]) -> (u32, usize) {
     match read_world(alloc, text) {
-        Err(ReadError::Fault(fault)) => (fault.rule.number(), fault.line),
-        _ => (0, 0),
+        Err(error) => match error.error() {
+            ReadError::Fault(fault) => (fault.rule.number(), fault.line),
+            ReadError::Memory => (0, 0),
+        },
+        Ok(_) => (0, 0),
     }
 }
 

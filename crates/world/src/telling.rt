@@ -1,17 +1,14 @@
-//! What is told of the first fault of a world's text, for its reader; no contract says which words these are.
+//! What is told of a line of a world that is refused, for its reader; no contract says which words these are.
 
 use crate::builder::WorldBuilder;
 use crate::rules::is_known;
-use crate::text::begun;
-use base::limits::{LEAST_CELLS, MOST_CELLS};
 use class_rules::ClassId;
 use classes::table::ClassTable;
 use nearest::Nearest;
 use places::Detail;
 use std::alloc::Global;
 use world_lines::{
-    FieldWords, Line, ObjectWords, Value, cells_added, heap_of_line, is_class_allowed, name_given,
-    read_line, values_of,
+    FieldWords, Line, ObjectWords, Value, cells_added, is_class_allowed, name_given, values_of,
 };
 use world_schedules::{Rule, Split};
 
@@ -35,7 +32,7 @@ static FORMS: [(&[u8], &[u8]); 9] = [
 ];
 
 /// A line that has none of the forms.
-fn formless(line: &[u8]) -> Detail {
+pub(crate) fn formless(line: &[u8]) -> Detail {
     let word = Split::new(line, b' ').next().unwrap_or(b"");
     for (first, form) in &FORMS {
         if *first == word {
@@ -43,23 +40,6 @@ fn formless(line: &[u8]) -> Detail {
         }
     }
     Detail::of(b"found ").quoted(word)
-}
-
-/// What no line says, by the first line, of the heap; or what is told of that line, which is nothing where memory is refused.
-fn builder_of(alloc: Global, number: usize, line: &[u8]) -> Result<WorldBuilder, Detail> {
-    match heap_of_line(alloc, line) {
-        Err(_) => Err(Detail::none()),
-        Ok(None) => Err(Detail::of(b"wanted `heap CELLS` first")),
-        Ok(Some((cells, methods))) => {
-            if cells < u64::from(LEAST_CELLS) || cells > u64::from(MOST_CELLS) {
-                return Err(Detail::of(b"wanted 512 to 1048576 cells"));
-            }
-            match begun(alloc, number, cells as u32, methods) {
-                Ok(builder) => Ok(builder),
-                Err(_) => Err(Detail::none()),
-            }
-        }
-    }
 }
 
 /// Puts a value as a line writes it.
@@ -262,7 +242,12 @@ fn roomless(builder: &WorldBuilder, line: &Line<'_>) -> Detail {
 }
 
 /// What is told of a line that breaks a rule after the lines before it.
-fn line_detail(alloc: Global, builder: &WorldBuilder, line: &Line<'_>, rule: Rule) -> Detail {
+pub(crate) fn line_detail(
+    alloc: Global,
+    builder: &WorldBuilder,
+    line: &Line<'_>,
+    rule: Rule,
+) -> Detail {
     match rule {
         Rule::NameTaken => taken(line),
         Rule::Superclass => superclass(alloc, &builder.classes, line),
@@ -273,73 +258,4 @@ fn line_detail(alloc: Global, builder: &WorldBuilder, line: &Line<'_>, rule: Rul
         Rule::Limit => limited(builder, line),
         Rule::Heap => roomless(builder, line),
     }
-}
-
-/// Takes a line, where it breaks no rule. Where it does, that is told, or nothing where memory is refused.
-fn take_or_tell(
-    alloc: Global,
-    builder: &mut WorldBuilder,
-    number: usize,
-    bytes: &[u8],
-) -> Option<Detail> {
-    match read_line(alloc, bytes) {
-        Err(_) => Some(Detail::none()),
-        Ok(None) => Some(formless(bytes)),
-        Ok(Some(line)) => match builder.least_rule(&line) {
-            Some(rule) => Some(line_detail(alloc, builder, &line, rule)),
-            None => match builder.take(alloc, number, &line) {
-                Ok(()) => None,
-                Err(_) => Some(Detail::none()),
-            },
-        },
-    }
-}
-
-/// What is told at the end of a world's text, whose lines break no rule.
-fn end_detail(builder: &Option<WorldBuilder>) -> Detail {
-    match builder {
-        None => Detail::of(b"the text is empty"),
-        Some(builder) => {
-            if builder.threads.is_empty() {
-                Detail::of(b"there is no thread")
-            } else {
-                Detail::none()
-            }
-        }
-    }
-}
-
-/// Takes a line that isn't empty, the first of which begins the world.
-fn take_any(
-    alloc: Global,
-    builder: &mut Option<WorldBuilder>,
-    number: usize,
-    line: &[u8],
-) -> Option<Detail> {
-    if let Some(builder) = builder {
-        return take_or_tell(alloc, builder, number, line);
-    }
-    match builder_of(alloc, number, line) {
-        Ok(begun) => {
-            *builder = Some(begun);
-            None
-        }
-        Err(detail) => Some(detail),
-    }
-}
-
-/// What was found at the first fault of a world's text. There are no words where the text earns none, and where memory
-/// is refused.
-pub fn world_detail(alloc: Global, text: &[u8]) -> Detail {
-    let mut builder = None;
-    let mut number: usize = 0;
-    for line in Split::new(text, b'\n') {
-        number = number.saturating_add(1);
-        if !line.is_empty() {
-            if let Some(detail) = take_any(alloc, &mut builder, number, line) {
-                return detail;
-            }
-        }
-    }
-    end_detail(&builder)
 }

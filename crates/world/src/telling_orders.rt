@@ -1,8 +1,9 @@
-//! What is told of the first fault of a schedule's or a journal's text, for its reader; no contract says which words these are.
+//! What is told of a fault of a schedule or a journal, for its reader; no contract says which words these are.
 
 use places::Detail;
+use semantics::{Entry, EntryKind, ObjectId};
 use std::alloc::{AllocError, Global};
-use world_schedules::{ReadError, Rule, Split, read_journal, read_schedule};
+use world_schedules::{ReadError, Rule, Split, TextFault, read_journal, read_schedule};
 
 /// What a text of words is.
 #[derive(Clone, Copy)]
@@ -55,25 +56,23 @@ fn first_word<'t>(
     Ok(None)
 }
 
-/// What is told of a line whose words break a rule by themselves.
+/// What is told of a line that breaks this rule, if one of its words breaks it by itself.
 fn line_detail(
     alloc: Global,
     order: Order,
     line: &[u8],
     threads: u8,
+    rule: Rule,
 ) -> Result<Option<Detail>, AllocError> {
-    if let Some(word) = first_word(alloc, order, line, threads, true)? {
-        return Ok(Some(Detail::of(b"found ").quoted(word)));
+    let is_form = matches!(rule, Rule::Form);
+    let Some(word) = first_word(alloc, order, line, threads, is_form)? else {
+        return Ok(None);
+    };
+    let found = Detail::of(b"found ").quoted(word);
+    if is_form {
+        return Ok(Some(found));
     }
-    match first_word(alloc, order, line, threads, false)? {
-        Some(word) => Ok(Some(
-            Detail::of(b"found ")
-                .quoted(word)
-                .words(b", threads are ")
-                .number(usize::from(threads)),
-        )),
-        None => Ok(None),
-    }
+    Ok(Some(found.words(b", threads are ").number(usize::from(threads))))
 }
 
 /// The line of this number, counted from 1.
@@ -98,9 +97,9 @@ fn limit_of(order: Order) -> &'static [u8] {
 
 /// What was found on the line of the first fault of a text of words: where each word keeps its own rules, there are too many.
 /// There are no words where memory is refused.
-fn order_detail(alloc: Global, order: Order, text: &[u8], line: usize, threads: u8) -> Detail {
-    let found = match line_at(text, line) {
-        Some(bytes) => line_detail(alloc, order, bytes, threads),
+fn order_detail(alloc: Global, order: Order, text: &[u8], fault: TextFault, threads: u8) -> Detail {
+    let found = match line_at(text, fault.line) {
+        Some(bytes) => line_detail(alloc, order, bytes, threads, fault.rule),
         None => Ok(None),
     };
     match found {
@@ -110,30 +109,37 @@ fn order_detail(alloc: Global, order: Order, text: &[u8], line: usize, threads: 
     }
 }
 
-/// What was found at the first fault of a schedule's text, which is on this line, for a world of this number of
-/// threads. There are no words where memory is refused.
-pub fn schedule_detail(alloc: Global, text: &[u8], line: usize, threads: u8) -> Detail {
-    order_detail(alloc, Order::Schedule, text, line, threads)
+/// What was found at the first fault of a schedule's text, which is this one, for a world of this number of threads: the
+/// words of its line are read once more. There are none where memory is refused.
+pub fn schedule_detail(alloc: Global, text: &[u8], fault: TextFault, threads: u8) -> Detail {
+    order_detail(alloc, Order::Schedule, text, fault, threads)
 }
 
-/// What was found at the first fault of a journal's text, which is on this line, for a world of this number of threads.
-/// There are no words where memory is refused.
-pub fn journal_detail(alloc: Global, text: &[u8], line: usize, threads: u8) -> Detail {
-    order_detail(alloc, Order::Journal, text, line, threads)
+/// What was found at the first fault of a journal's text, as of a schedule's.
+pub fn journal_detail(alloc: Global, text: &[u8], fault: TextFault, threads: u8) -> Detail {
+    order_detail(alloc, Order::Journal, text, fault, threads)
 }
 
-/// The word of an entry of a journal, counted from 1.
-pub fn entry_detail(text: &[u8], entry: usize) -> Detail {
-    let mut left = entry;
-    for line in Split::new(text, b'\n') {
-        for word in Split::new(line, b' ') {
-            if !word.is_empty() {
-                left = left.saturating_sub(1);
-                if left == 0 {
-                    return Detail::of(b"found ").quoted(word);
-                }
-            }
-        }
+/// Puts the names of objects, with commas between them.
+fn with_objects(detail: Detail, objects: &[ObjectId]) -> Detail {
+    let mut detail = detail;
+    let mut mark: &[u8] = b"~";
+    for object in objects {
+        detail = detail.words(mark).number(object.number);
+        mark = b",";
     }
-    Detail::none()
+    detail
+}
+
+/// The word of an entry of a journal.
+pub fn entry_detail(entry: &Entry) -> Detail {
+    let found = Detail::of(b"found `");
+    let found = match entry.kind() {
+        EntryKind::Step { thread, refused } => {
+            let mark: &[u8] = if *refused { b"!" } else { b"" };
+            found.number(usize::from(*thread)).words(mark)
+        }
+        EntryKind::Clearing(objects) => with_objects(found, objects),
+    };
+    found.words(b"`")
 }

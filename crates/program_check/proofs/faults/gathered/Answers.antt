@@ -11,13 +11,13 @@ use Rattle.program_check.proofs.faults.gathered.Goals as goal
 pub returns-in-Err-clause-all : goal.returns-in-Err-clause-all
 returns-in-Err-clause-all c =
     IfOk-weaker c.alone.result _ _
-    (λ faults h. scan_alone c.args.text.now c.in-Err.error (map entry_of faults.items) c.in-Err.ensures.fault (subst (λ e. IsAlone e (map entry_of faults.items)) c.from.ensures h))
+    (λ faults h. scan_alone c.args.text.now c.in-Err.error (map entry_of faults.items) c.in-Err.ensures.fault (subst (λ e. IsAlone e (map entry_of faults.items)) c.of_scan.ensures h))
     c.alone.ensures
 
 pub returns-in-Err-clause-none : goal.returns-in-Err-clause-none
 returns-in-Err-clause-none c = λ p.
     IfOk-weaker c.alone.result _ _
-    (λ faults h. none_of_memory c.from.result faults.items (c.from.ensures ∙ ap of_scan (c.in-Err.ensures.only p.of_program.spelled.0 p.of_program.spelled.1)) h)
+    (λ faults h. none_of_memory c.of_scan.result faults.items (c.of_scan.ensures ∙ ap of_scan (c.in-Err.ensures.only p.of_program.spelled.0 p.of_program.spelled.1)) h)
     c.alone.ensures
 
 pub returns-in-Ok-parse-clause-none : goal.returns-in-Ok-parse-clause-none
@@ -31,11 +31,11 @@ returns-clause-all c =
     IfOk-weaker c.alone-in-Err-parse.result _ _
     (λ faults h.
     parse_alone c.args.text.now c.in-Ok.tokens.items c.in-Err-parse.error (map entry_of faults.items) c.in-Ok.ensures.found (rw c.deref.ensures.value at c.in-Err-parse.ensures.exact)
-    (subst (λ e. IsAlone e (map entry_of faults.items)) c.from-in-Err-parse.ensures h))
+    (subst (λ e. IsAlone e (map entry_of faults.items)) c.of_parse.ensures h))
     c.alone-in-Err-parse.ensures
 
 pub returns-clause-none : goal.returns-clause-none
 returns-clause-none c = λ p.
     IfOk-weaker c.alone-in-Err-parse.result _ _
-    (λ faults h. none_of_memory c.from-in-Err-parse.result faults.items (c.from-in-Err-parse.ensures ∙ parse_accepts p.unit c.in-Err-parse.error (c.in-Err-parse.ensures.only p.unit p.of_program.spelled)) h)
+    (λ faults h. none_of_memory c.of_parse.result faults.items (c.of_parse.ensures ∙ parse_accepts p.unit c.in-Err-parse.error (c.in-Err-parse.ensures.only p.unit p.of_program.spelled)) h)
     c.alone-in-Err-parse.ensures

@@ -6,7 +6,8 @@ use Rattle.world.proofs.ReadingGathered.{text_left, no_heap, heap_stops, heap_ta
 use Rattle.world.proofs.text.read_world.Goals as goal
 
 pub returns-in_default-clause-read : goal.returns-in_default-clause-read
-returns-in_default-clause-read c = no_heap c.args.text.now (sym (text_left c.new-lines.result c.args.text.now c.new-lines.ensures.parts) ∙ c.in_default.ensures.line)
+returns-in_default-clause-read c =
+    rw c.told.ensures (no_heap c.args.text.now (sym (text_left c.new-lines.result c.args.text.now c.new-lines.ensures.parts) ∙ c.in_default.ensures.line))
 
 pub returns-in_err-cells-clause-read : goal.returns-in_err-cells-clause-read
 returns-in_err-cells-clause-read c =

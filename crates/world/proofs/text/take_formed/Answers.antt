@@ -9,8 +9,9 @@ use Rattle.world.proofs.text.take_formed.Goals as goal
 pub returns-in-Some : goal.returns-in-Some
 unfolding gathered_read
 returns-in-Some c =
-    ap (λ rule. ruled c.args.number rule (with_line (gathered_of c.args.builder.now) c.args.number (line_view c.args.line.now))) (sym c.in-Some.ensures)
-    ∙ ap (λ rule. Err (record { rule = rule; line = c.args.number })) (held_same c.in-Some.rule)
+    rw c.told.ensures
+    (ap (λ rule. ruled c.args.number rule (with_line (gathered_of c.args.builder.now) c.args.number (line_view c.args.line.now))) (sym c.in-Some.ensures)
+    ∙ ap (λ rule. Err (record { rule = rule; line = c.args.number })) (held_same c.in-Some.rule))
 
 pub returns : goal.returns
 unfolding gathered_read
