@@ -1,4 +1,4 @@
-pub mod FindsLemmas
+pub mod JudgedLemmas
 pub mod KeptLemmas
 pub mod RuleLemmas
 pub mod TypeLemmas

@@ -1,6 +1,6 @@
 -- What a check of some rules finds: the first that is broken.
 use Rattle.std.specs.Prelude.{◌≡◌, ℕ, Bool, true, false, not, ◌||◌, List, [], ◌∷◌, ◌++◌, map, take, flat_map, Option, Some, None, Result, Ok, Err}
-use Rattle.std.specs.Option.{is_some}
+use Rattle.std.specs.Option.{is_some, option_map}
 use Rattle.base.specs.Bytes.{Identifier, ByName}
 use Rattle.class_rules.specs.Mangling.{unmangle}
 use Rattle.places.specs.declared.fault.Fault.{Fault as FaultAt}
@@ -61,6 +61,10 @@ Refuses (Fault f) broken = first broken ≡ Some (fault_of f)
 abbrev pub Finds : {A : Type 0} → Result A TypeError → Faults → Type 0
 Finds (Ok x) broken = broken ≡ []
 Finds (Err e) broken = Refuses e broken
+
+-- no rule is broken, or this one is the first, on this line
+abbrev pub Judges : Option RuleInMemory → ℕ → Faults → Type 0
+Judges rule line broken = first broken ≡ option_map (λ r. (line, rule_of r)) rule
 
 -- the fact of the broken rule, unless memory ran out
 abbrev pub IfBroken : TypeError → (TypeFault → Type 0) → Type 0

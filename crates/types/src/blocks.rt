@@ -6,7 +6,7 @@ ghost use Rattle.syntax.specs.Views.{form_tree, block_tree, result_tree};
 ghost use Rattle.type_rules.specs.TypeRules.{places_of, with_declared};
 ghost use Rattle.types.specs.Faults.{Tells, IsAbove, scope_of, found, places_inside};
 
-use crate::fault::{TypeFault, keep};
+use crate::fault::TypeFault;
 use crate::statements::{check_statement, declared};
 use crate::taken::Taken;
 use std::alloc::AllocError;
@@ -85,8 +85,7 @@ pub(crate) fn check_block<'a: 'n, 'n>(
 {
     let outside = known.len();
     for stmt in &block.statements {
-        let found = check_statement(known, taken, returns, stmt);
-        keep(all, faults, found)?;
+        check_statement(known, taken, returns, stmt, all, faults)?;
         check_inside(known, taken, returns, &stmt.form, all, faults)?;
     }
     known.leave(outside);

@@ -1,6 +1,6 @@
 //! The rules at a statement.
 
-ghost use Rattle.std.specs.Prelude.{◌≡◌, ℕ, List, [], ◌∷◌, not, ◌&&◌, ◌||◌, Some};
+ghost use Rattle.std.specs.Prelude.{◌≡◌, ℕ, List, [], ◌∷◌, not, ◌&&◌, ◌||◌, Some, OnOk, take};
 ghost use Rattle.std.specs.List.{list_all};
 ghost use Rattle.std.specs.Option.{option_map};
 ghost use Rattle.base.specs.Options.{some_passes};
@@ -11,10 +11,11 @@ ghost use Rattle.syntax.specs.Views.{expr_tree, right_side_tree, test_tree, form
 ghost use Rattle.jni.specs.JniFunction.{function_named};
 ghost use Rattle.jni.specs.Table.{function_value};
 ghost use Rattle.type_rules.specs.ExprTypes.{type_in, is_unknown, type_of, has_elements, is_index, is_jint, call_arguments_fit};
-ghost use Rattle.type_rules.specs.TypeRules.{is_formed, value_sets, right_side_sets, buffer_begins, test_fits, return_fits, statement_fits, copies_reference, typing_rules, UnknownName, DeclaredTwice, TypeMisfit, UnknownFunction, ArgumentCount, ReferenceCopied, BadMode, ReadOnlyWrite, breaks_type_rule, broken_at};
+ghost use Rattle.type_rules.specs.TypeRules.{is_formed, value_sets, right_side_sets, buffer_begins, test_fits, return_fits, statement_fits, copies_reference, typing_rules, UnknownName, DeclaredTwice, TypeMisfit, UnknownFunction, ArgumentCount, ReferenceCopied, BadMode, ReadOnlyWrite, breaks_type_rule};
 ghost use Rattle.types.specs.Called.{function_in, call_of_test, declared};
 ghost use Rattle.type_rules.specs.TypeViews.{type_value};
-ghost use Rattle.types.specs.Faults.{Faults, Refuses, scope_of, Finds, statement_place, refused_of};
+ghost use Rattle.types.specs.AllFaults.{told_at};
+ghost use Rattle.types.specs.Faults.{Faults, scope_of, Judges, Tells, statement_place, refused_of};
 ghost use Rattle.type_rules.specs.Uses.{right_uses, test_uses, uses};
 
 use crate::calls::{
@@ -22,7 +23,7 @@ use crate::calls::{
     may_be_dropped, may_be_tested,
 };
 use crate::expressions::{has_unknown, is_null, name_type, type_of};
-use crate::fault::{TypeError, TypeRule, refuse_if, told};
+use crate::fault::{TypeError, TypeFault, TypeRule, keep};
 use crate::scope::{is_unknown, type_in};
 use crate::taken::Taken;
 use crate::telling::statement_detail;
@@ -30,6 +31,8 @@ use crate::ty::{
     has_elements, is_flag, is_index, is_jint, is_read_only, is_ref, is_truth, is_word,
 };
 use jni::{JniFunction, function_named};
+use places::{Fault, Line};
+use std::alloc::AllocError;
 use syntax::{Call, ElementType, Expr, Form, Name, ResultType, RightSide, Stmt, Test};
 use type_rules::{ExprType, Known, own_call, variable_type};
 
@@ -334,118 +337,111 @@ fn writes_read_only(known: &Known<'_, ExprType>, form: &Form) -> bool
     }
 }
 
-/// What a statement may not do although its types fit.
-#[tactic(auto, using(crate::proofs::FindsLemmas::finds_rules))]
-fn check_uses(
+/// The first rule that a statement breaks although its types fit.
+fn misused(
     known: &Known<'_, ExprType>,
     form: &Form,
     function: Option<JniFunction>,
-    line: usize,
-) -> Result<(), TypeError>
+) -> Option<TypeRule>
     requires { (line : ℕ) → option_map function_value function ≡ function_in (own_call (form_tree line form.now)) }
-    ensures { (returns : ReturnType) (taken : List Identifier) → Finds result (refused_of returns (scope_of known.now)
-        taken (form_tree line form.now) line (ReferenceCopied ∷ BadMode ∷ ReadOnlyWrite ∷ [])) }
+    ensures { (returns : ReturnType) (taken : List Identifier) (line : ℕ) → Judges result line (refused_of returns
+        (scope_of known.now) taken (form_tree line form.now) line (ReferenceCopied ∷ BadMode ∷ ReadOnlyWrite ∷ [])) }
 {
-    refuse_if(
-        copies_reference(known, form),
-        TypeRule::ReferenceCopied,
-        line,
-    )?;
-    refuse_if(has_bad_mode(form, function), TypeRule::BadMode, line)?;
-    refuse_if(writes_read_only(known, form), TypeRule::ReadOnlyWrite, line)
+    if copies_reference(known, form) {
+        return Some(TypeRule::ReferenceCopied);
+    }
+    if has_bad_mode(form, function) {
+        return Some(TypeRule::BadMode);
+    }
+    if writes_read_only(known, form) {
+        return Some(TypeRule::ReadOnlyWrite);
+    }
+    None
 }
 
-/// The function that a statement calls, the number of its arguments, and the rules after these.
-#[tactic(auto, using(crate::proofs::FindsLemmas::finds_rules))]
-fn check_call(
+/// The first rule that a statement breaks of those on the function that it calls, the number of its arguments, and the rules
+/// after these.
+fn miscalled(
     known: &Known<'_, ExprType>,
     form: &Form,
     function: Option<JniFunction>,
-    line: usize,
-) -> Result<(), TypeError>
+) -> Option<TypeRule>
     requires { (line : ℕ) → option_map function_value function ≡ function_in (own_call (form_tree line form.now)) }
-    ensures { (returns : ReturnType) (taken : List Identifier) → Finds result (refused_of returns (scope_of known.now)
-        taken (form_tree line form.now) line
+    ensures { (returns : ReturnType) (taken : List Identifier) (line : ℕ) → Judges result line (refused_of returns
+        (scope_of known.now) taken (form_tree line form.now) line
         (UnknownFunction ∷ ArgumentCount ∷ ReferenceCopied ∷ BadMode ∷ ReadOnlyWrite ∷ [])) }
 {
-    refuse_if(
-        calls_unknown(form, function),
-        TypeRule::UnknownFunction,
-        line,
-    )?;
-    refuse_if(miscounts(form, function), TypeRule::ArgumentCount, line)?;
-    check_uses(known, form, function, line)
+    if calls_unknown(form, function) {
+        return Some(TypeRule::UnknownFunction);
+    }
+    if miscounts(form, function) {
+        return Some(TypeRule::ArgumentCount);
+    }
+    misused(known, form, function)
 }
 
-/// The first rule that a statement on this line breaks, without the blocks inside it. All rules are judged, in the
-/// order of their numbers.
-#[tactic(auto, using(crate::proofs::FindsLemmas::finds_rules))]
-fn judge_form(
+/// The first rule that a statement breaks, without the blocks inside it. All rules are judged, in the order of their
+/// numbers.
+fn first_broken(
     known: &Known<'_, ExprType>,
     taken: &Taken<'_>,
     returns: ResultType,
     form: &Form,
-    line: usize,
-) -> Result<(), TypeError>
-    ensures { Finds result (refused_of (result_tree returns) (scope_of known.now) taken.now (form_tree line form.now)
-        line typing_rules) }
+) -> Option<TypeRule>
+    ensures { (line : ℕ) → Judges result line (refused_of (result_tree returns) (scope_of known.now) taken.now
+        (form_tree line form.now) line typing_rules) }
 {
     let function = function_called(form);
     let misfits = misfits(known, returns, form, function);
-    refuse_if(
-        names_unknown(known, form, misfits),
-        TypeRule::UnknownName,
-        line,
-    )?;
-    refuse_if(declares_taken(taken, form), TypeRule::DeclaredTwice, line)?;
-    refuse_if(misfits, TypeRule::TypeMisfit, line)?;
-    check_call(known, form, function, line)
+    if names_unknown(known, form, misfits) {
+        return Some(TypeRule::UnknownName);
+    }
+    if declares_taken(taken, form) {
+        return Some(TypeRule::DeclaredTwice);
+    }
+    if misfits {
+        return Some(TypeRule::TypeMisfit);
+    }
+    miscalled(known, form, function)
 }
 
-/// A fault of a statement, with what is told of it.
-fn with_detail(
-    error: TypeError,
+/// Keeps the fault of a statement that breaks a rule, with what is told of it.
+#[cold]
+fn keep_broken(
     known: &Known<'_, ExprType>,
     returns: ResultType,
-    form: &Form,
-) -> TypeError
-    ensures { (broken : Faults) → Refuses error broken → Refuses result broken }
+    stmt: &Stmt,
+    rule: TypeRule,
+    all: bool,
+    faults: &mut Vec<TypeFault>,
+) -> Result<(), AllocError>
+    ensures { (broken : Faults) → Judges (Some rule) stmt.now.line broken
+        → OnOk result (Tells all faults.old.items faults.new.items (take 1 broken)) }
 {
-    match error {
-        TypeError::Memory => TypeError::Memory,
-        TypeError::Fault(fault) => {
-            let detail = statement_detail(known, returns, form, fault.rule);
-            told(fault, detail)
-        }
-    }
+    let fault = Fault {
+        rule,
+        line: Line::told(
+            stmt.line,
+            statement_detail(known, returns, &stmt.form, rule),
+        ),
+    };
+    keep(all, faults, Err(TypeError::Fault(fault)))
 }
 
-/// A statement on this line, without the blocks inside it.
-fn check_form(
-    known: &Known<'_, ExprType>,
-    taken: &Taken<'_>,
-    returns: ResultType,
-    form: &Form,
-    line: usize,
-) -> Result<(), TypeError>
-    ensures { Finds result (refused_of (result_tree returns) (scope_of known.now) taken.now (form_tree line form.now)
-        line typing_rules) }
-{
-    match judge_form(known, taken, returns, form, line) {
-        Ok(()) => Ok(()),
-        Err(error) => Err(with_detail(error, known, returns, form)),
-    }
-}
-
-/// A statement of a function with this result, where these names are known and these are taken.
+/// Keeps what is found at a statement of a function with this result, where these names are known and these are taken.
 pub(crate) fn check_statement(
     known: &Known<'_, ExprType>,
     taken: &Taken<'_>,
     returns: ResultType,
     stmt: &Stmt,
-) -> Result<(), TypeError>
-    ensures { Finds result (broken_at (statement_place (result_tree returns) (scope_of known.now) taken.now
-        (stmt_tree stmt.now))) }
+    all: bool,
+    faults: &mut Vec<TypeFault>,
+) -> Result<(), AllocError>
+    ensures { OnOk result (Tells all faults.old.items faults.new.items (told_at (statement_place (result_tree returns)
+        (scope_of known.now) taken.now (stmt_tree stmt.now)))) }
 {
-    check_form(known, taken, returns, &stmt.form, stmt.line)
+    match first_broken(known, taken, returns, &stmt.form) {
+        Some(rule) => keep_broken(known, returns, stmt, rule, all, faults),
+        None => Ok(()),
+    }
 }

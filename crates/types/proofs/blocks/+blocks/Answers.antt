@@ -44,7 +44,7 @@ check_block-loop-stmt-preserved t c =
           left-next c.args.all c.args.faults.now.items c.loop-stmt.faults.items c.check_inside.new.faults.items _ _ _ _ c.loop-stmt.invariant.tells
           (found-rest returned known taken items i s end_line c.loop-stmt-test.true c.stmt-item.is
           ∙ ap₂ (λ k names. (told_at (statement_place returned known taken (stmt_tree s)) ++ found (places_inside returned known taken (stmt_tree s))) ++ found (places_of returned k names (statements_tree (drop (i + 1) items) end_line))) (sym (inside.scope s.line)) (sym (inside.taken s.line)))
-          (tells-next c.args.all c.loop-stmt.faults.items c.keep.new.faults.items c.check_inside.new.faults.items _ _ (c.in_ok-keep.ensures _ c.check_statement-found.ensures) (inside.tells s.line));
+          (tells-next c.args.all c.loop-stmt.faults.items c.check_statement.new.faults.items c.check_inside.new.faults.items _ _ c.in_ok-check_statement.ensures (inside.tells s.line));
       taken =
           c.loop-stmt.invariant.taken ∙ declared-rest taken items i s end_line c.loop-stmt-test.true c.stmt-item.is
           ∙ ap (λ (names : List Identifier). names ++ names_declared (statements_of (statements_tree (drop (i + 1) items) end_line))) (sym (inside.taken s.line));

@@ -5,8 +5,9 @@ use Rattle.syntax.specs.Parts.{null_tested}
 use Rattle.syntax.specs.Views.{expr_tree, binary_tree}
 use Rattle.type_rules.specs.ExprTypes.{type_of, binary_type, group, null_test_type}
 use Rattle.types.specs.Faults.{scope_of}
-use Rattle.types.proofs.TypeLemmas.{not-null}
-use Rattle.types.proofs.expressions.+type_of.Goals as goal
+use Rattle.types.specs.ValueTypes.{of_value}
+use Rattle.types.proofs.TypeLemmas.{not-null, binary-of_value}
+use Rattle.types.proofs.expressions.+value_type_of.Goals as goal
 
 pub returns-else-is_null_test : goal.returns-else-is_null_test
 returns-else-is_null_test t c =
@@ -18,7 +19,8 @@ returns-else-is_null_test t c =
     let same = c.deref-in-Binary.ensures in
     c.binary_type.ensures
     ∙ ap₂ (binary_type (group op))
-    (c.type_of-in-Binary.ensures ∙ ap (λ (o : ExprInMemory × ExprInMemory). type_of scope (left o)) same)
-    (c.type_of-in-Binary-2.ensures ∙ ap (λ (o : ExprInMemory × ExprInMemory). type_of scope (right o)) same)
-    ∙ sym (not-null scope op (left operands) (right operands) (sym (c.if-is_null_test.ensures ∙ ap (λ e. is_some (null_test_type scope (null_tested (expr_tree e)))) c.in-Binary.is)))
-    ∙ ap (λ e. type_of scope (expr_tree e)) (sym c.in-Binary.is)
+    (c.value_type_of-in-Binary.ensures ∙ ap (λ (o : ExprInMemory × ExprInMemory). of_value (type_of scope (left o))) same)
+    (c.value_type_of-in-Binary-2.ensures ∙ ap (λ (o : ExprInMemory × ExprInMemory). of_value (type_of scope (right o))) same)
+    ∙ binary-of_value (group op) (type_of scope (left operands)) (type_of scope (right operands))
+    ∙ ap of_value (sym (not-null scope op (left operands) (right operands) (sym (c.if-is_null_test.ensures ∙ ap (λ e. is_some (null_test_type scope (null_tested (expr_tree e)))) c.in-Binary.is))))
+    ∙ ap (λ e. of_value (type_of scope (expr_tree e))) (sym c.in-Binary.is)
