@@ -1,6 +1,6 @@
 //! The paths through a function.
 
-ghost use Rattle.std.specs.Prelude.{◌≡◌, ◌≤◌, ◌++◌, ℕ, List, Option, map, length, OnOk, IfOk};
+ghost use Rattle.std.specs.Prelude.{◌≡◌, ◌≤◌, ◌++◌, ℕ, List, Option, Err, map, length, OnOk, IfOk};
 ghost use Rattle.std.specs.Option.{option_to_list};
 ghost use Rattle.base.specs.Bytes.{Identifier};
 ghost use Rattle.std.specs.List.{AllByRecursion};
@@ -11,7 +11,7 @@ ghost use Rattle.region_rules.specs.Regions.{where_true, where_false};
 ghost use Rattle.regions.specs.Paths.{Found, join_paths, path_of, path_of_block};
 ghost use Rattle.region_states.specs.StatesInMemory.{names_of, Grows};
 ghost use Rattle.region_states.specs.NewNames.{own_names, AreNew, DeclaresNew, DeclareNew, DeclaresOnce, ItemOnce};
-ghost use Rattle.regions.specs.Findings.{Finds, fault_of, function_fault, item_fault, items_fault, items_faults};
+ghost use Rattle.regions.specs.Findings.{Finds, fault_of, rule_of, function_fault, item_fault, items_fault, items_faults};
 ghost use Rattle.regions.specs.Walks.{PathOrFault, path_value, Goes, Branches, Awaits, go_on, plain_path, inner_path};
 
 use crate::fault::{CheckError, RegionFault, RegionRule};
@@ -48,6 +48,7 @@ fn end(state: &mut FlowState, count: usize, path: Path, line: usize) -> Result<P
 }
 
 /// The path after a statement without blocks.
+#[inline(always)]
 fn plain_path<'a>(state: &mut FlowState<'a>, form: &'a Form) -> Result<Path, CheckError>
     requires { (line : ℕ) → AreNew (names_of state.old) (own_names (form_tree line form.now)) }
     ensures goes { (line : ℕ) → Goes result state.new (plain_path state.old (form_tree line form.now)) }
@@ -110,6 +111,7 @@ fn other_path<'a>(
 
 /// The path after a statement on this line that keeps the rules itself.
 #[cycle(walk)]
+#[inline(never)]
 fn inner_path<'a>(
     alloc: Global,
     state: &mut FlowState<'a>,
@@ -137,6 +139,15 @@ fn inner_path<'a>(
     }
 }
 
+/// The fault of a statement that breaks a rule itself.
+#[cold]
+fn refuse_statement(state: &FlowState, stmt: &Stmt, rule: RegionRule) -> Result<Path, CheckError>
+    ensures fault { (after : RegionState) → Goes result after (Err (stmt.now.line, rule_of rule)) }
+    ensures never { IfOk result (λ _. ⊥) }
+{
+    refuse(rule, stmt.line, statement_detail(state, &stmt.form, rule))
+}
+
 /// The path after a statement.
 #[cycle(walk)]
 fn stmt_path<'a>(
@@ -149,8 +160,13 @@ fn stmt_path<'a>(
     ensures names { IfOk result (λ _. names_of state.new ≡ names_of state.old ++ own_names (stmt_tree stmt.now)) }
 {
     match first_broken(state, &stmt.form) {
-        Some(rule) => refuse(rule, stmt.line, statement_detail(state, &stmt.form, rule)),
-        None => inner_path(alloc, state, stmt.line, &stmt.form),
+        Some(rule) => refuse_statement(state, stmt, rule),
+        None => match &stmt.form {
+            Form::If(..) | Form::IfElse(..) | Form::While(..) => {
+                inner_path(alloc, state, stmt.line, &stmt.form)
+            }
+            _ => plain_path(state, &stmt.form),
+        },
     }
 }
 

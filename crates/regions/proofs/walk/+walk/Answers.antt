@@ -20,7 +20,7 @@ use Rattle.region_states.specs.StatesInMemory.{names_of}
 use Rattle.regions.specs.Walks.{PathOrFault, path_value, Branches, Awaits, go_on, inner_path}
 use Rattle.regions.specs.Paths.{join_paths, path_of_block}
 use Rattle.region_states.proofs.NameLemmas.{where_true_names, where_false_names}
-use Rattle.regions.proofs.PathLemmas.{Goes-along, Stops-along, first_stops, stmt_goes, go_fault, past, if_ok_weaker, if_ok_always, branch_awaits, passed_names, stmt_fault, stmt_next, go_rest, go_step, after_line, turn_is_join}
+use Rattle.regions.proofs.PathLemmas.{plain_is, plain_new, Goes-along, Stops-along, first_stops, stmt_goes, go_fault, past, if_ok_weaker, if_ok_always, branch_awaits, passed_names, stmt_fault, stmt_next, go_rest, go_step, after_line, turn_is_join}
 use Rattle.regions.proofs.walk.+walk.Goals as goal
 
 -- ---- the loop over a block's statements
@@ -130,17 +130,30 @@ block_path-returns-clause-names t c = c.end.ensures.names c.args.state.now c.loo
 
 pub stmt_path-returns-in-Some-clause-goes : goal.stmt_path-returns-in-Some-clause-goes
 stmt_path-returns-in-Some-clause-goes t c =
-    stmt_fault c.refuse.result c.args.state.now c.args.state.now c.args.stmt.now (rule_of c.in-Some.rule) (c.in-Some.ensures c.args.stmt.now.line) (c.refuse.ensures.fault c.args.state.now)
+    stmt_fault c.refuse_statement.result c.args.state.now c.args.state.now c.args.stmt.now (rule_of c.in-Some.rule) (c.in-Some.ensures c.args.stmt.now.line) (c.refuse_statement.ensures.fault c.args.state.now)
 
 pub stmt_path-returns-in-Some-clause-names : goal.stmt_path-returns-in-Some-clause-names
-stmt_path-returns-in-Some-clause-names t c = if_ok_weaker c.refuse.result (λ w h. absurd h) c.refuse.ensures.never
+stmt_path-returns-in-Some-clause-names t c = if_ok_weaker c.refuse_statement.result (λ w h. absurd h) c.refuse_statement.ensures.never
 
-pub stmt_path-returns-in-None-clause-goes : goal.stmt_path-returns-in-None-clause-goes
-stmt_path-returns-in-None-clause-goes t c =
+pub stmt_path-returns-in-If-clause-goes : goal.stmt_path-returns-in-If-clause-goes
+stmt_path-returns-in-If-clause-goes t c =
     stmt_goes c.inner_path.result c.inner_path.new.state c.args.state.now c.args.stmt.now (c.in-None.ensures c.args.stmt.now.line) c.inner_path.ensures.goes
 
-pub stmt_path-returns-in-None-clause-names : goal.stmt_path-returns-in-None-clause-names
-stmt_path-returns-in-None-clause-names t c = c.inner_path.ensures.names
+pub stmt_path-returns-in-If-clause-names : goal.stmt_path-returns-in-If-clause-names
+stmt_path-returns-in-If-clause-names t c = c.inner_path.ensures.names
+
+pub stmt_path-plain_path-requires : goal.stmt_path-plain_path-requires
+stmt_path-plain_path-requires t c =
+    plain_new (names_of c.args.state.now) c.args.stmt.now.line c.args.stmt.now.form (c.in_default.not-If, c.in_default.not-IfElse, c.in_default.not-While) c.requires
+
+pub stmt_path-returns-in_default-clause-goes : goal.stmt_path-returns-in_default-clause-goes
+stmt_path-returns-in_default-clause-goes t c =
+    let line = c.args.stmt.now.line in
+    stmt_goes c.plain_path.result c.plain_path.new.state c.args.state.now c.args.stmt.now (c.in-None.ensures line)
+    (Goes-along c.plain_path.result c.plain_path.new.state _ _ (plain_is c.args.state.now line c.args.stmt.now.form (c.in_default.not-If, c.in_default.not-IfElse, c.in_default.not-While)) (c.plain_path.ensures.goes line))
+
+pub stmt_path-returns-in_default-clause-names : goal.stmt_path-returns-in_default-clause-names
+stmt_path-returns-in_default-clause-names t c = c.plain_path.ensures.names c.args.stmt.now.line
 
 -- ---- first branches
 
