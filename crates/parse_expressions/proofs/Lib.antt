@@ -6,3 +6,4 @@ pub mod Openings
 pub mod Primaries
 pub mod JniCalls
 pub mod Commas
+pub mod Numbers

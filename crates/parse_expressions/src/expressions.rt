@@ -1,8 +1,9 @@
 //! Expressions, by the levels of their operators (ISO/IEC 9899:1999, 6.5).
 
-ghost use Rattle.std.specs.Prelude.{◌≡◌, ℕ, ◌+◌, ◌≤◌, ◌<◌, Result, IfOk, IfSome, is_ok};
+ghost use Rattle.std.specs.Prelude.{◌≡◌, ℕ, ◌+◌, ◌≤◌, ◌<◌, Result, Ok, IfOk, IfSome, is_ok};
 ghost use Rattle.std.specs.Option.{option_map};
 ghost use Rattle.syntax.specs.Limits.{operator_level};
+ghost use Rattle.syntax.specs.Tree.{Number};
 ghost use Rattle.syntax.specs.Views.{constant_tree, prefix_tree, binary_tree, expr_tree};
 ghost use Rattle.parse_lexemes.specs.Results.{Gives};
 ghost use Rattle.parse_expressions.specs.Steps.{made_of, joined_by, right_by, within, opening_view, level_inside, around, ending_at, operand_of, cast_at, paren_opening_at, bracket_at, element_opening_at, starts_deep, opening_at};
@@ -233,6 +234,21 @@ fn operator_within(least: u32, rest: Cursor<'_>) -> Option<BinaryOp>
     }
 }
 
+/// The number that comes next, where no operator of this level or tighter comes after it: its value, and whether it ends in `u`.
+#[inline(always)]
+fn lone_number(least: u32, lexemes: Cursor<'_>) -> Option<(u32, bool)>
+    ensures { IfSome result (λ n. (room : ℕ) → expr_at room least (views lexemes.entry)
+        ≡ Ok (Number n.0 n.1, 0, rest_of (views lexemes.entry))) }
+{
+    match lexemes.shape() {
+        Shape::Number { value, unsigned } => match operator_within(least, lexemes.skip()) {
+            Some(_) => None,
+            None => Some((value, unsigned)),
+        },
+        _ => None,
+    }
+}
+
 /// Whether an operand begins here that holds another expression.
 fn starts_deep(lexemes: Cursor<'_>) -> bool
     ensures { result ≡ starts_deep (views lexemes.entry) }
@@ -372,12 +388,32 @@ fn right_operand(
     if height >= room {
         return Err(lexemes.fault(ParseRule::TooHigh));
     }
-    expression(alloc, room - 1, level(op) + 1, lexemes.skip())
+    let operand = lexemes.skip();
+    // Most right operands are numbers, which no call is needed for.
+    if let Some((value, unsigned)) = lone_number(level(op) + 1, operand) {
+        return Ok((Expr::Number { value, unsigned }, 0, operand.skip()));
+    }
+    expression(alloc, room - 1, level(op) + 1, operand)
 }
 
-/// A prefix with its operand, parentheses, an element, or a primary expression.
+/// A prefix with its operand, parentheses, an element, or a primary expression. Most are numbers, and are told at once.
 #[cycle(expressions)]
 fn operand(alloc: Global, room: u32, lexemes: Cursor<'_>) -> Result<ReadExpr<'_>, ParseError>
+    requires { room ≤ 32 }
+    ensures low { IfOk result (λ x. x.1 ≤ room) }
+    ensures gives { Gives (λ x. (expr_tree x.0, x.1, views x.2)) result (operand_at room (views lexemes.entry)) }
+{
+    match lexemes.shape() {
+        Shape::Number { value, unsigned } => {
+            Ok((Expr::Number { value, unsigned }, 0, lexemes.skip()))
+        }
+        _ => other_operand(alloc, room, lexemes),
+    }
+}
+
+/// An operand, whatever it begins with.
+#[cycle(expressions)]
+fn other_operand(alloc: Global, room: u32, lexemes: Cursor<'_>) -> Result<ReadExpr<'_>, ParseError>
     requires { room ≤ 32 }
     ensures low { IfOk result (λ x. x.1 ≤ room) }
     ensures gives { Gives (λ x. (expr_tree x.0, x.1, views x.2)) result (operand_at room (views lexemes.entry)) }
