@@ -48,17 +48,22 @@ fn is_among(names: &[Spelled<'_>], name: &Name) -> bool
 }
 
 impl<'a> IntNames<'a> {
-    /// Those of a function: of its parameters and of its statements, in text order.
-    pub(crate) fn of(function: &'a Function) -> IntNames<'a>
-        requires { HasFewNames (function_tree function.now) }
-        ensures { result ≡ int_names (function_tree function.now) }
+    pub(crate) fn new() -> IntNames<'a>
+        ensures { result ≡ [] }
     {
-        let mut names = IntNames {
+        IntNames {
             names: ArrayVec::new(),
-        };
-        names.take_parameters(&function.parameters);
-        names.take_block(&function.body);
-        names
+        }
+    }
+
+    /// Those of a function, in place of those before: of its parameters and of its statements, in text order.
+    pub(crate) fn enter(&mut self, function: &'a Function)
+        requires { HasFewNames (function_tree function.now) }
+        ensures { self.new ≡ int_names (function_tree function.now) }
+    {
+        self.names.clear();
+        self.take_parameters(&function.parameters);
+        self.take_block(&function.body);
     }
 
     /// Whether one of them is this one.

@@ -261,21 +261,22 @@ fn after_block(
 }
 
 /// Whether a function has more than 65,535 steps.
-fn is_long_function(function: &Function) -> bool
+fn is_long_function<'a>(ints: &mut IntNames<'a>, function: &'a Function) -> bool
     requires { HasFewNames (function_tree function.now) }
     ensures { result ≡ nat_lt most_steps (function_steps (function_tree function.now)) }
 {
-    let ints = IntNames::of(function);
-    after_block(MOST_STEPS, &ints, function.result, &function.body).is_none()
+    ints.enter(function);
+    after_block(MOST_STEPS, ints, function.result, &function.body).is_none()
 }
 
-fn is_long(item: &Item) -> bool
+/// Whether an item is such a function. The names of its variables are put in the place of those before.
+fn is_long<'a>(ints: &mut IntNames<'a>, item: &'a Item) -> bool
     requires { IsTrue (has_few_names (item_tree item.now)) }
     ensures { result ≡ is_long (item_tree item.now) }
 {
     match item {
         Item::Static(_) => false,
-        Item::Function(function) => is_long_function(function),
+        Item::Function(function) => is_long_function(ints, function),
     }
 }
 
@@ -283,8 +284,9 @@ fn is_long(item: &Item) -> bool
 pub fn has_long_function(checked: &Checked) -> bool
     ensures { result ≡ list_any is_long (unit_tree checked.now).items }
 {
+    let mut ints = IntNames::new();
     for item in checked.items() {
-        if is_long(item) {
+        if is_long(&mut ints, item) {
             return true;
         }
     }
@@ -293,8 +295,9 @@ pub fn has_long_function(checked: &Checked) -> bool
 
 /// The first function that has more than 65,535 steps, for the reader of the fault.
 pub fn long_function(checked: &Checked) -> Option<&Function> {
+    let mut ints = IntNames::new();
     for item in checked.items() {
-        if is_long(item) {
+        if is_long(&mut ints, item) {
             if let Item::Function(function) = item {
                 return Some(function);
             }
