@@ -20,6 +20,7 @@ use Rattle.heap.specs.declared.value.Value.{Value}
 use Rattle.machine_scenes.specs.StoreAgrees.{StoreAgrees}
 use Rattle.machine_answers.specs.declared.answer.Answer.{Answer}
 use Rattle.machine_answers.specs.Answers.{IsAnswer}
+use Rattle.machine_answers.specs.Answers as row
 use Rattle.machine_scenes.specs.NewObjects.{IsMakeable, text_in}
 use Rattle.machine_scenes.specs.Given.{class_of_given, fits_there, name_there}
 use Rattle.machine_scenes.specs.HeapAgrees.{ValueAgrees}
@@ -35,16 +36,16 @@ module _ (both : TwoCalls) where
 
   pub answers_length : Asked both GetArrayLength → (answer : Answer) → Works both GetArrayLength answer → Does both GetArrayLength answer
   unfolding call_effect
-  answers_length h answer is = subst (λ (x : Answer). Does both GetArrayLength x) (sym is) (refl, refl, counted both GetArrayLength h)
+  answers_length h answer is = subst (λ (x : Answer). Does both GetArrayLength x) (sym is) (let it = counted both GetArrayLength h in row.gives (row.int it.0 it.1))
 
   pub answers_string_length : Asked both GetStringLength → (answer : Answer) → Works both GetStringLength answer → Does both GetStringLength answer
   unfolding call_effect
-  answers_string_length h answer is = subst (λ (x : Answer). Does both GetStringLength x) (sym is) (refl, refl, counted both GetStringLength h)
+  answers_string_length h answer is = subst (λ (x : Answer). Does both GetStringLength x) (sym is) (let it = counted both GetStringLength h in row.gives (row.int it.0 it.1))
 
   -- a new array of equal values
-  made_array : (class : ℕ) (v : Value) (u : ObjectValue) → IsMakeable w.classes class → ValueAgrees store.heap v u → (z : ℤ) → IsAnswer w.classes (brought both) store.heap activation.locals NewLocal shared s (new_array class z v) (new_array_effect shared s class z u)
-  made_array class v u makeable agree (pos n) = (refl, refl, refl, refl, record { object = (u, agree, refl); makeable = makeable })
-  made_array class v u makeable agree (negsuc n) = (refl, built_in_class both negative_array_size (omega arith) (omega arith))
+  made_array : (class : ℕ) (v : Value) (u : ObjectValue) → IsMakeable w.classes class → ValueAgrees store.heap v u → (z : ℤ) → IsAnswer w.classes (brought both) store.heap activation.locals shared s (new_array class z v) NewLocal (new_array_effect shared s class z u)
+  made_array class v u makeable agree (pos n) = row.makes (record { object = (u, agree, refl); makeable = makeable })
+  made_array class v u makeable agree (negsuc n) = row.throws (built_in_class both negative_array_size (omega arith) (omega arith))
 
   pub answers_new_array : (T : ElementType) → Asked both (NewArray T) → (answer : Answer) → Works both (NewArray T) answer → Does both (NewArray T) answer
   unfolding call_effect
@@ -71,7 +72,7 @@ module _ (both : TwoCalls) where
       let found : unwrap_or (array_class_of w.classes (name_there store.heap (at both 1))) 0 ≡ array.0 = ap (λ (c : ℕ). unwrap_or (array_class_of w.classes c) 0) name ∙ ap (λ (o : Option ℕ). unwrap_or o 0) array.1 in
       let given : option_map_or (λ (c : ℕ). c) (array_class_of w.classes (object_given args 1)) 0 ≡ array.0 = ap (λ (o : Option ℕ). option_map_or (λ (c : ℕ). c) o 0) array.1 in
       subst (λ (x : Answer). Does both NewObjectArray x) (sym (is ∙ (λ i. new_array (found i) (number_of both NewObjectArray [] (ClassObject ∷ Nullable ∷ []) tt (no_number ClassObject (λ e. cc) (λ e. cc), (no_number Nullable (λ e. cc) (λ e. cc), tt)) refl h i) (held_reference (at both 2)))))
-      (subst (λ (c : ℕ). IsAnswer w.classes (brought both) store.heap activation.locals NewLocal shared s (new_array array.0 (number_given args 0) (held_reference (at both 2))) (new_array_effect shared s c (number_given args 0) (Refers (reference_given args 2)))) (sym given)
+      (subst (λ (c : ℕ). IsAnswer w.classes (brought both) store.heap activation.locals shared s (new_array array.0 (number_given args 0) (held_reference (at both 2))) NewLocal (new_array_effect shared s c (number_given args 0) (Refers (reference_given args 2)))) (sym given)
       (made_array array.0 (held_reference (at both 2)) (Refers (reference_given args 2)) makeable (held_agrees both (at both 2) (reference_given args 2) (agrees both NewObjectArray h 2)) (number_given args 0)))
     where
       first_true : (a b : Bool) → (a && b) ≡ true → a ≡ true
@@ -85,35 +86,35 @@ module _ (both : TwoCalls) where
 
     -- an element is read
     abbrev Reads : Answer → CallEffect → Type 0
-    Reads answer effect = IsAnswer w.classes (brought both) store.heap activation.locals NewLocal shared s answer effect
+    Reads answer effect = IsAnswer w.classes (brought both) store.heap activation.locals shared s answer NewLocal effect
 
     abbrev read : ℕ → CallEffect
     read i = Leaves [] shared s (ReferenceResult (reference_in (value_at shared.heap m i)))
 
     element_read : (z : ℤ) → Reads (element_there store.heap (Some a) (index_there store.heap (Some a) z)) (at_index array_index_out_of_bounds size z read)
-    element_read (negsuc i) = (refl, out_of_bounds)
+    element_read (negsuc i) = row.throws out_of_bounds
     element_read (pos i) =
         subst (λ (l : ℕ). Reads (element_there store.heap (Some a) (if nat_lt i (length (values_at store.heap a)) then Some i else None)) (if nat_lt i l then read i else Throws array_index_out_of_bounds)) count
         (by_test (nat_lt i (length (values_at store.heap a))))
       where
         by_test : (b : Bool) → Reads (element_there store.heap (Some a) (if b then Some i else None)) (if b then read i else Throws array_index_out_of_bounds)
-        by_test true = (refl, refl, reference_read both (Some a) a n m i i refl there same refl agree)
-        by_test false = (refl, out_of_bounds)
+        by_test true = row.gives (row.reference (reference_read both (Some a) a n m i i refl there same refl agree))
+        by_test false = row.throws out_of_bounds
 
     -- an element is written
     abbrev Stores : Answer → CallEffect → Type 0
-    Stores answer effect = IsAnswer w.classes (brought both) store.heap activation.locals GivesNothing shared s answer effect
+    Stores answer effect = IsAnswer w.classes (brought both) store.heap activation.locals shared s answer GivesNothing effect
 
     element_written : (fits : Bool) (v : Value) (q : Reference) → ValueAgrees store.heap v (Refers q) → (z : ℤ)
         → Stores (stores_there store.heap (Some a) fits (index_there store.heap (Some a) z) v) (at_index array_index_out_of_bounds size z (store_effect shared s fits m q))
-    element_written fits v q fit (negsuc i) = (refl, out_of_bounds)
+    element_written fits v q fit (negsuc i) = row.throws out_of_bounds
     element_written fits v q fit (pos i) =
         subst (λ (l : ℕ). Stores (stores_there store.heap (Some a) fits (if nat_lt i (length (values_at store.heap a)) then Some i else None) v) (if nat_lt i l then store_effect shared s fits m q i else Throws array_index_out_of_bounds)) count
         (by_test fits (nat_lt i (length (values_at store.heap a))))
       where
         by_test : (fits b : Bool) → Stores (stores_there store.heap (Some a) fits (if b then Some i else None) v) (if b then store_effect shared s fits m q i else Throws array_index_out_of_bounds)
-        by_test fits false = (refl, out_of_bounds)
-        by_test false true = (refl, built_in_class both array_store_exception (omega arith) (omega arith))
+        by_test fits false = row.throws out_of_bounds
+        by_test false true = row.throws (built_in_class both array_store_exception (omega arith) (omega arith))
         by_test true true = value_written both (Some a) a n m i i v v (Refers q) (Refers q) refl there same refl refl refl fit agree
 
   pub answers_element : Asked both GetObjectArrayElement → trap_of_call w.classes shared s target GetObjectArrayElement args ≡ None → (answer : Answer) → Works both GetObjectArrayElement answer → Does both GetObjectArrayElement answer
@@ -142,4 +143,4 @@ module _ (both : TwoCalls) where
   unfolding call_effect
   answers_string h answer is =
       let text : text_in call.texts 0 ≡ text_given args 0 = ap (λ (l : List (List ℕ)). text_in l 0) h.texts ∙ only_text (unit both) w.classes store.heap (references both) (fields both) call.operands args h.kinds h.given in
-      subst (λ (x : Answer). Does both NewStringUTF x) (sym is) (refl, refl, refl, refl, record { object = ap string_object (sym text); makeable = built_in_class both string_class (omega arith) (omega arith) })
+      subst (λ (x : Answer). Does both NewStringUTF x) (sym is) (row.makes (record { object = ap string_object (sym text); makeable = built_in_class both string_class (omega arith) (omega arith) }))

@@ -8,7 +8,7 @@ use Rattle.jni.specs.Access.{Access, ElementsCopy, ArrayView, CharsCopy, CharsVi
 use Rattle.jni.specs.JniFunction.{GetBuffer, ReleaseBuffer, JniFunction, parameters_for}
 use Rattle.jni.specs.Prototype.{owner, BufferVariable, IsCopy, Mode, NumberArray, StringObject, ParameterKind, NonNull, GivesNothing}
 use Rattle.semantics.specs.Arguments.{ReleaseMode, FreeUncopied, mode_given, variable_given, object_given}
-use Rattle.semantics.specs.CallEffects.{copy_effect, view_effect, release_effect}
+use Rattle.semantics.specs.CallEffects.{release_effect}
 use Rattle.semantics.specs.CallStep.{trap_of_call}
 use Rattle.semantics.specs.CallTable.{call_effect}
 use Rattle.semantics.specs.Heap.{values_of, numbers_of}
@@ -29,60 +29,54 @@ use Rattle.code_meaning.specs.Coding.{mode_code}
 use Rattle.machine_scenes.specs.Buffers.{IsCopyOf, copies_back}
 use Rattle.machine_answers.specs.declared.answer.Answer.{Answer}
 use Rattle.machine_answers.proofs.RegionOperands.{all_words}
-use Rattle.machine_answers.specs.Answers.{IsCopyAcquired, IsViewAcquired, IsAnswer}
+use Rattle.machine_answers.specs.Answers.{IsAnswer, IsCopyAcquired}
+use Rattle.machine_answers.specs.Answers as row
 use Rattle.machine_answers.specs.WorkedOut.{acquires, releases}
 use Rattle.machine_answers.proofs.CallOperands.{GivenObject}
-use Rattle.machine_answers.proofs.TwoCalls.{TwoCalls, unit, references, fields, all, in_use, brought, Asked, Works, Does, object_given_at, object_there}
+use Rattle.machine_answers.proofs.TwoCalls.{TwoCalls, unit, references, fields, all, brought, Asked, Works, Does, object_given_at, object_there}
 
 module _ (both : TwoCalls) where
   open both use {p, w, store, pending, activation, call, others, k, shared, s, target, sound, args}
 
   -- the object of argument 0
   module _ (f : JniFunction) (h : Asked both f) (g : GivenObject (unit both) w.classes store.heap (references both) (fields both) call.operands args 0) where
-    copy_acquired : IsCopyAcquired (brought both) store.heap shared s g.address (copy_effect (in_use both) shared s (object_given args 0) (numbers_of shared.heap (object_given args 0)))
+    abbrev copy_acquired : IsCopyAcquired store.heap shared g.address
     copy_acquired = record {
       name = object_given args 0;
       there = (object_there both g);
       words = all_words store.heap (values_at store.heap g.address) (values_of shared.heap (object_given args 0)) (values_there p w store shared (all both) h.store_agrees g.address (object_given args 0) (object_there both g));
-      is = refl;
     }
-
-    view_acquired : IsViewAcquired (brought both) store.heap shared s g.address (view_effect (in_use both) shared s (object_given args 0))
-    view_acquired = record { name = object_given args 0; there = (object_there both g); is = refl }
 
     -- the buffer of argument 1 is released
     module _ (b : GivenBuffer store.heap (brought both).buffers s.variables call.operands args) where
       released : (mode : ReleaseMode) → (copies_back (mode_code mode) ≡ true → IsCopyOf shared.heap (object_given args 0) b.holds.buffer)
-          → IsAnswer w.classes (brought both) store.heap activation.locals GivesNothing shared s (releases activation.slots.buffers.items (Some g.address) (operand.Buffer b.slot) (mode_code mode)) (release_effect shared s (object_given args 0) (variable_given args 1) mode)
-      released mode copy = (
-        refl,
-        record {
-          variable = variable_given args 1;
-          holds = b.holds;
-          held = ap (λ (o : Option Buffer). unwrap_or o held.Null) b.holds.there;
-          name = object_given args 0;
-          there = (object_there both g);
-          copy = copy;
-          mode = mode;
-          coded = refl;
-          is = refl;
-        },
-      )
+          → IsAnswer w.classes (brought both) store.heap activation.locals shared s (releases activation.slots.buffers.items (Some g.address) (operand.Buffer b.slot) (mode_code mode)) GivesNothing (release_effect shared s (object_given args 0) (variable_given args 1) mode)
+      released mode copy =
+          row.releases (record {
+            variable = variable_given args 1;
+            holds = b.holds;
+            held = ap (λ (o : Option Buffer). unwrap_or o held.Null) b.holds.there;
+            name = object_given args 0;
+            there = (object_there both g);
+            copy = copy;
+            mode = mode;
+            coded = refl;
+          })
 
   pub answers_get_buffer : (access : Access) → Asked both (GetBuffer access) → trap_of_call w.classes shared s target (GetBuffer access) args ≡ None → (answer : Answer) → Works both (GetBuffer access) answer → Does both (GetBuffer access) answer
   unfolding call_effect
   answers_get_buffer (ElementsCopy T) h free answer is =
       let g = object_given_at both (GetBuffer (ElementsCopy T)) [] (NumberArray T) (IsCopy ∷ []) tt refl refl h free in
-      subst (λ (x : Answer). Does both (GetBuffer (ElementsCopy T)) x) (sym (is ∙ ap (acquires (ElementsCopy T)) g.at)) ((ElementsCopy T, refl), copy_acquired (GetBuffer (ElementsCopy T)) h g)
+      subst (λ (x : Answer). Does both (GetBuffer (ElementsCopy T)) x) (sym (is ∙ ap (acquires (ElementsCopy T)) g.at)) (row.acquires_copy (ElementsCopy T, refl) (copy_acquired (GetBuffer (ElementsCopy T)) h g))
   answers_get_buffer ArrayView h free answer is =
       let g = object_given_at both (GetBuffer ArrayView) [] NonNull (IsCopy ∷ []) tt refl refl h free in
-      subst (λ (x : Answer). Does both (GetBuffer ArrayView) x) (sym (is ∙ ap (acquires ArrayView) g.at)) ((ArrayView, refl), view_acquired (GetBuffer ArrayView) h g)
+      subst (λ (x : Answer). Does both (GetBuffer ArrayView) x) (sym (is ∙ ap (acquires ArrayView) g.at)) (row.acquires_view (object_given args 0) (ArrayView, refl) (object_there both g))
   answers_get_buffer CharsCopy h free answer is =
       let g = object_given_at both (GetBuffer CharsCopy) [] StringObject (IsCopy ∷ []) tt refl refl h free in
-      subst (λ (x : Answer). Does both (GetBuffer CharsCopy) x) (sym (is ∙ ap (acquires CharsCopy) g.at)) ((CharsCopy, refl), copy_acquired (GetBuffer CharsCopy) h g)
+      subst (λ (x : Answer). Does both (GetBuffer CharsCopy) x) (sym (is ∙ ap (acquires CharsCopy) g.at)) (row.acquires_copy (CharsCopy, refl) (copy_acquired (GetBuffer CharsCopy) h g))
   answers_get_buffer CharsView h free answer is =
       let g = object_given_at both (GetBuffer CharsView) [] StringObject (IsCopy ∷ []) tt refl refl h free in
-      subst (λ (x : Answer). Does both (GetBuffer CharsView) x) (sym (is ∙ ap (acquires CharsView) g.at)) ((CharsView, refl), view_acquired (GetBuffer CharsView) h g)
+      subst (λ (x : Answer). Does both (GetBuffer CharsView) x) (sym (is ∙ ap (acquires CharsView) g.at)) (row.acquires_view (object_given args 0) (CharsView, refl) (object_there both g))
 
   -- the buffer of elements that is released is a copy of the array
   copy_there : (T : ElementType) → Asked both (ReleaseBuffer (ElementsCopy T)) → (b : GivenBuffer store.heap (brought both).buffers s.variables call.operands args) → IsCopyOf shared.heap (object_given args 0) b.holds.buffer

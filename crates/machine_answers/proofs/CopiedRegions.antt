@@ -11,10 +11,10 @@ use Rattle.heap.specs.declared.value.Value.{Value}
 use Rattle.heap.specs.declared.value.Value.TheVariants as value
 use Rattle.heap.proofs.Changes.{changed}
 use Rattle.heap.proofs.Spaces.{part-changed}
-use Rattle.semantics.specs.CallEffects.{CallEffect, overwritten}
+use Rattle.semantics.specs.CallEffects.{overwritten}
 use Rattle.semantics.specs.Heap.{numbers_of, values_of, number_in, object_at, with_numbers}
 use Rattle.semantics.specs.Object.{Object, ObjectValue, Number}
-use Rattle.semantics.specs.Thread.{Shared, Thread}
+use Rattle.semantics.specs.Thread.{Shared}
 use Rattle.semantics.specs.World.{World}
 use Rattle.code_meaning.specs.Lowered.{Lowered}
 use Rattle.machine_scenes.specs.declared.array_region.ArrayRegion.{ArrayRegion}
@@ -103,7 +103,7 @@ overlaid_agree space (w ∷ ws) (u ∷ us) (suc i) new news h g = (h.0, overlaid
 
 -- ---- the store
 
-module _ (p : Lowered) (w : World) (store : Store) (shared : Shared) (brought : Brought) (s : Thread) (region : ArrayRegion) (effect : CallEffect) (all : Acquired) (h : StoreAgrees p w store shared all) (it : IsCopiedIn brought store.heap shared s region effect) where
+module _ (p : Lowered) (w : World) (store : Store) (shared : Shared) (brought : Brought) (region : ArrayRegion) (all : Acquired) (h : StoreAgrees p w store shared all) (it : IsCopiedIn brought store.heap shared region) where
   abbrev words : List ℕ
   words = words_from brought.numbers region
 

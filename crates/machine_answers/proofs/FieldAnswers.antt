@@ -27,6 +27,7 @@ use Rattle.code_meaning.proofs.ElementWords.{convert_fits, element_words}
 use Rattle.machine_scenes.proofs.Handles.{class_of_field, class_within}
 use Rattle.machine_answers.specs.declared.answer.Answer.{Answer}
 use Rattle.machine_answers.specs.Answers.{IsAnswer}
+use Rattle.machine_answers.specs.Answers as row
 use Rattle.machine_scenes.specs.NewObjects.{IsMakeable}
 use Rattle.machine_answers.specs.Checked.{some_missing, may_be_null}
 use Rattle.machine_scenes.specs.Given.{operand_of, class_of_given, name_there, field_at, field_there}
@@ -41,9 +42,9 @@ use Rattle.machine_answers.proofs.TwoCalls.{TwoCalls, references, fields, brough
 module _ (both : TwoCalls) where
   open both use {p, w, store, pending, activation, call, others, k, owner, shared, s, target, sound, args}
 
-  found_field : (o : Option FieldId) (answer : Answer) → IsFoundField w.classes o answer → IsAnswer w.classes (brought both) store.heap activation.locals GivesField shared s answer (found_field_effect shared s no_such_field_error o)
-  found_field None answer is = subst (λ (x : Answer). IsAnswer w.classes (brought both) store.heap activation.locals GivesField shared s x (found_field_effect shared s no_such_field_error None)) (sym is) (refl, built_in_class both no_such_field_error (omega arith) (omega arith))
-  found_field (Some f) answer is = subst (λ (x : Answer). IsAnswer w.classes (brought both) store.heap activation.locals GivesField shared s x (found_field_effect shared s no_such_field_error (Some f))) (sym is.1) (refl, refl, is.2)
+  found_field : (o : Option FieldId) (answer : Answer) → IsFoundField w.classes o answer → IsAnswer w.classes (brought both) store.heap activation.locals shared s answer GivesField (found_field_effect shared s no_such_field_error o)
+  found_field None answer is = subst (λ (x : Answer). IsAnswer w.classes (brought both) store.heap activation.locals shared s x GivesField (found_field_effect shared s no_such_field_error None)) (sym is) (row.throws (built_in_class both no_such_field_error (omega arith) (omega arith)))
+  found_field (Some f) answer is = subst (λ (x : Answer). IsAnswer w.classes (brought both) store.heap activation.locals shared s x GivesField (found_field_effect shared s no_such_field_error (Some f))) (sym is.1) (row.gives (row.field is.2))
 
   pub answers_field : Asked both GetFieldID → (answer : Answer) → Works both GetFieldID answer → Does both GetFieldID answer
   unfolding call_effect
@@ -55,9 +56,9 @@ module _ (both : TwoCalls) where
       λ i. find_field w.classes (name_of both GetFieldID h 0 i) (one i) (two i) in
       found_field (find_field w.classes (object_given args 0) (text_given args 1) (text_given args 2)) answer (subst (λ (o : Option FieldId). IsFoundField w.classes o answer) same is)
 
-  found_method : (o : Option MethodId) (answer : Answer) → IsMakeable w.classes no_such_method_error → IsFoundMethod (unit both) w.classes o answer → IsAnswer w.classes (brought both) store.heap activation.locals GivesMethod shared s answer (found_method_effect shared s no_such_method_error o)
-  found_method None answer makeable is = subst (λ (x : Answer). IsAnswer w.classes (brought both) store.heap activation.locals GivesMethod shared s x (found_method_effect shared s no_such_method_error None)) (sym is) (refl, makeable)
-  found_method (Some m) answer makeable is = subst (λ (x : Answer). IsAnswer w.classes (brought both) store.heap activation.locals GivesMethod shared s x (found_method_effect shared s no_such_method_error (Some m))) (sym is.1) (refl, refl, is.2)
+  found_method : (o : Option MethodId) (answer : Answer) → IsMakeable w.classes no_such_method_error → IsFoundMethod (unit both) w.classes o answer → IsAnswer w.classes (brought both) store.heap activation.locals shared s answer GivesMethod (found_method_effect shared s no_such_method_error o)
+  found_method None answer makeable is = subst (λ (x : Answer). IsAnswer w.classes (brought both) store.heap activation.locals shared s x GivesMethod (found_method_effect shared s no_such_method_error None)) (sym is) (row.throws makeable)
+  found_method (Some m) answer makeable is = subst (λ (x : Answer). IsAnswer w.classes (brought both) store.heap activation.locals shared s x GivesMethod (found_method_effect shared s no_such_method_error (Some m))) (sym is.1) (row.gives (row.method is.2))
 
   pub answers_method : Asked both GetStaticMethodID → (answer : Answer) → Works both GetStaticMethodID answer → Does both GetStaticMethodID answer
   unfolding call_effect
@@ -132,7 +133,7 @@ module _ (both : TwoCalls) where
       let first = object_given_at both (GetField T) [] NonNull (FieldID ∷ []) tt refl refl h free in
       let place = place_of (GetField T) h (fielded (GetField T) [] NonNull h refl refl missing) in
       let name : object_given args 0 ≡ first.name = ap name_or_zero first.is in
-      subst (λ (x : Answer). Does both (GetField T) x) (sym is) (refl, refl, number_read both (at both 0) first.address first.name (object_given args 0) memory_place (source_place (object_given args 0)) first.at first.named name place h.store_agrees)
+      subst (λ (x : Answer). Does both (GetField T) x) (sym is) (row.gives (number_read both (at both 0) first.address first.name (object_given args 0) memory_place (source_place (object_given args 0)) first.at first.named name place h.store_agrees))
 
   pub answers_set : (T : ElementType) → Asked both (SetField T) → trap_of_call w.classes shared s target (SetField T) args ≡ None → (answer : Answer) → Works both (SetField T) answer → Does both (SetField T) answer
   unfolding call_effect
@@ -153,7 +154,7 @@ module _ (both : TwoCalls) where
       let first = object_given_at both GetObjectField [] NonNull (FieldID ∷ []) tt refl refl h free in
       let place = place_of GetObjectField h (fielded GetObjectField [] NonNull h refl refl missing) in
       let name : object_given args 0 ≡ first.name = ap name_or_zero first.is in
-      subst (λ (x : Answer). Does both GetObjectField x) (sym is) (refl, refl, reference_read both (at both 0) first.address first.name (object_given args 0) memory_place (source_place (object_given args 0)) first.at first.named name place h.store_agrees)
+      subst (λ (x : Answer). Does both GetObjectField x) (sym is) (row.gives (row.reference (reference_read both (at both 0) first.address first.name (object_given args 0) memory_place (source_place (object_given args 0)) first.at first.named name place h.store_agrees)))
 
   pub answers_set_object : Asked both SetObjectField → trap_of_call w.classes shared s target SetObjectField args ≡ None → (answer : Answer) → Works both SetObjectField answer → Does both SetObjectField answer
   unfolding call_effect
@@ -202,7 +203,7 @@ module _ (both : TwoCalls) where
   answers_get_static T h free answer is =
       let missing = none_lacking p w store pending activation call others k owner shared s target (GetStaticField T) args h free in
       let it = holder (GetStaticField T) h (fielded (GetStaticField T) [] ClassObject h refl refl missing) in
-      subst (λ (x : Answer). Does both (GetStaticField T) x) (sym is) (refl, refl, number_read both (class_object store.loaded.items (Some (field_there w.classes (field_at (fields both) (operand_of call.operands 1))).class)) it.address (field_given args 1).class (field_given args 1).class (place_there w.classes (field_at (fields both) (operand_of call.operands 1)) (own_statics w.classes (field_there w.classes (field_at (fields both) (operand_of call.operands 1))).class)) (static_place w.classes (field_given args 1)) it.at_holder it.named_holder refl it.place h.store_agrees)
+      subst (λ (x : Answer). Does both (GetStaticField T) x) (sym is) (row.gives (number_read both (class_object store.loaded.items (Some (field_there w.classes (field_at (fields both) (operand_of call.operands 1))).class)) it.address (field_given args 1).class (field_given args 1).class (place_there w.classes (field_at (fields both) (operand_of call.operands 1)) (own_statics w.classes (field_there w.classes (field_at (fields both) (operand_of call.operands 1))).class)) (static_place w.classes (field_given args 1)) it.at_holder it.named_holder refl it.place h.store_agrees))
 
   pub answers_set_static : (T : ElementType) → Asked both (SetStaticField T) → trap_of_call w.classes shared s target (SetStaticField T) args ≡ None → (answer : Answer) → Works both (SetStaticField T) answer → Does both (SetStaticField T) answer
   unfolding call_effect
@@ -219,7 +220,7 @@ module _ (both : TwoCalls) where
   answers_get_static_object h free answer is =
       let missing = none_lacking p w store pending activation call others k owner shared s target GetStaticObjectField args h free in
       let it = holder GetStaticObjectField h (fielded GetStaticObjectField [] ClassObject h refl refl missing) in
-      subst (λ (x : Answer). Does both GetStaticObjectField x) (sym is) (refl, refl, reference_read both (class_object store.loaded.items (Some (field_there w.classes (field_at (fields both) (operand_of call.operands 1))).class)) it.address (field_given args 1).class (field_given args 1).class (place_there w.classes (field_at (fields both) (operand_of call.operands 1)) (own_statics w.classes (field_there w.classes (field_at (fields both) (operand_of call.operands 1))).class)) (static_place w.classes (field_given args 1)) it.at_holder it.named_holder refl it.place h.store_agrees)
+      subst (λ (x : Answer). Does both GetStaticObjectField x) (sym is) (row.gives (row.reference (reference_read both (class_object store.loaded.items (Some (field_there w.classes (field_at (fields both) (operand_of call.operands 1))).class)) it.address (field_given args 1).class (field_given args 1).class (place_there w.classes (field_at (fields both) (operand_of call.operands 1)) (own_statics w.classes (field_there w.classes (field_at (fields both) (operand_of call.operands 1))).class)) (static_place w.classes (field_given args 1)) it.at_holder it.named_holder refl it.place h.store_agrees)))
 
   pub answers_set_static_object : Asked both SetStaticObjectField → trap_of_call w.classes shared s target SetStaticObjectField args ≡ None → (answer : Answer) → Works both SetStaticObjectField answer → Does both SetStaticObjectField answer
   unfolding call_effect

@@ -19,7 +19,10 @@ use Rattle.code_meaning.specs.Slots.{word_of}
 use Rattle.machine_scenes.specs.declared.store.Store.{Store}
 use Rattle.machine_scenes.specs.Buffers.{Acquired}
 use Rattle.machine_scenes.specs.StoreAgrees.{StoreAgrees}
+use Rattle.machine_answers.specs.declared.answer.Answer.TheVariants as replies
+use Rattle.machine_answers.specs.declared.answer.Given.TheVariants as given
 use Rattle.machine_answers.specs.Answers.{Brought, IsAnswer}
+use Rattle.machine_answers.specs.Answers as row
 use Rattle.tables.specs.Locals.{LocalTable}
 use Rattle.machine_scenes.specs.HeapAgrees.{ReferenceAgrees, ValueAgrees, ValuesAgree}
 use Rattle.machine_answers.specs.WorkedOut.{address_in, value_there, word_in, writes_there}
@@ -126,13 +129,13 @@ module _ (p : Lowered) (w : World) (store : Store) (shared : Shared) (all : Acqu
 
   -- a value that is written
   pub writes : (brought : Brought) (locals : LocalTable) (s : Thread) (a n i : ℕ) (v : Value) (u : ObjectValue) → name_at store.heap a ≡ Some n → ValueAgrees store.heap v u
-      → IsAnswer w.classes brought store.heap locals GivesNothing shared s (writes_there store.heap (Some a) i v) (heap_effect shared s (with_value_at shared.heap n i u))
+      → IsAnswer w.classes brought store.heap locals shared s (writes_there store.heap (Some a) i v) GivesNothing (heap_effect shared s (with_value_at shared.heap n i u))
   writes brought locals s a n i v u there agrees = by_test (nat_lt i (length (values_at store.heap a))) refl
     where
-      by_test : (b : Bool) → nat_lt i (length (values_at store.heap a)) ≡ b → IsAnswer w.classes brought store.heap locals GivesNothing shared s (writes_there store.heap (Some a) i v) (heap_effect shared s (with_value_at shared.heap n i u))
-      by_test true e = rw e (refl, refl, record { name = n; there = there; value = u; agrees = agrees; within = ltb-true i (length (values_at store.heap a)) e; is = refl })
+      by_test : (b : Bool) → nat_lt i (length (values_at store.heap a)) ≡ b → IsAnswer w.classes brought store.heap locals shared s (writes_there store.heap (Some a) i v) GivesNothing (heap_effect shared s (with_value_at shared.heap n i u))
+      by_test true e = rw e (row.writes (record { name = n; there = there; value = u; agrees = agrees; within = ltb-true i (length (values_at store.heap a)) e; is = refl }))
       by_test false e =
           let it = stored a n there in
           let count : length (values_at store.heap a) ≡ length it.object.values = agree_length store.heap (values_at store.heap a) it.object.values it.agree in
           let past : length it.object.values ≤ i = let above = ltb-false i (length (values_at store.heap a)) e in omega (arith, above, count) in
-          rw e (ap (λ (l : Heap). let r : Shared = record shared { heap = l } in r) (unchanged shared.heap n i it.object u it.is past), refl, tt)
+          rw e (subst (λ (l : Heap). IsAnswer w.classes brought store.heap locals shared s (replies.Gives given.Nothing) GivesNothing (heap_effect shared s l)) (sym (unchanged shared.heap n i it.object u it.is past)) (row.gives row.nothing))

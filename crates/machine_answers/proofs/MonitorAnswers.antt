@@ -25,6 +25,7 @@ use Rattle.machine_scenes.proofs.MonitorLaws.{busy, limited, refuses}
 use Rattle.machine_scenes.proofs.ForetoldMonitors.{may_enter, owns}
 use Rattle.machine_answers.specs.declared.answer.Given.TheVariants as given
 use Rattle.machine_answers.specs.Answers.{IsAnswer}
+use Rattle.machine_answers.specs.Answers as row
 use Rattle.machine_scenes.specs.Given.{name_there}
 use Rattle.machine_answers.specs.WorkedOut.{enters, entered_by, leaves, left_by}
 use Rattle.machine_answers.proofs.CallOperands.{same_number}
@@ -38,7 +39,7 @@ module _ (both : TwoCalls) where
   not_owned m h free is = same_number m.owner k (sym (λ i. is_none (free i) && is_owned_by_other k (is i)) ∙ h.ready)
 
   abbrev GivesNumber : Answer → CallEffect → Type 0
-  GivesNumber x effect = IsAnswer w.classes (brought both) store.heap activation.locals GivesInt shared s x effect
+  GivesNumber x effect = IsAnswer w.classes (brought both) store.heap activation.locals shared s x GivesInt effect
 
   pub answers_enter : Asked both MonitorEnter → trap_of_call w.classes shared s target MonitorEnter args ≡ None → (answer : Answer) → Works both MonitorEnter answer → Does both MonitorEnter answer
   unfolding call_effect
@@ -56,10 +57,10 @@ module _ (both : TwoCalls) where
       agree = h.store_agrees.monitors
 
       by_came : (a : ℕ) → name_at store.heap a ≡ Some n → (came : Enter) → entering k (table.monitor_of store.monitors n) ≡ came → GivesNumber (entered_by (record { name = n; address = a }) came) (enter_effect k shared s n (monitor_of shared.monitors n))
-      by_came a there enter.Entered e = let may = may_enter k store.monitors shared.monitors agree n (sym e) in (refl, record { there = there; own = may.own; few = may.few; is = refl })
+      by_came a there enter.Entered e = let may = may_enter k store.monitors shared.monitors agree n (sym e) in row.enters (record { there = there; own = may.own; few = may.few })
       by_came a there enter.Limit e =
           subst (GivesNumber (replies.Gives (given.Number (2 ^ 32 - 1)))) (sym (limited k shared s store.monitors agree n (sym e)))
-          (refl, refl, (refl, record { sfits = omega arith }))
+          (row.gives (row.int refl (record { sfits = omega arith })))
       by_came a there enter.Busy e = let other = busy k shared s store.monitors agree n (sym e) in absurd (other.2 (not_owned other.0 h free other.1))
 
   pub answers_exit : Asked both MonitorExit → trap_of_call w.classes shared s target MonitorExit args ≡ None → (answer : Answer) → Works both MonitorExit answer → Does both MonitorExit answer
@@ -77,7 +78,7 @@ module _ (both : TwoCalls) where
       agree = h.store_agrees.monitors
 
       by_came : (came : Exit) → leaving k (table.monitor_of store.monitors n) ≡ came → GivesNumber (left_by n came) (exit_effect k shared s n (monitor_of shared.monitors n))
-      by_came exit.Left e = let own = owns k store.monitors shared.monitors agree n (sym e) in (refl, record { monitor = own.monitor; owned = own.owned; own = own.own; is = refl })
+      by_came exit.Left e = let own = owns k store.monitors shared.monitors agree n (sym e) in row.exits (record { monitor = own.monitor; owned = own.owned; own = own.own })
       by_came exit.NotOwner e =
           subst (GivesNumber (replies.Throws (class_id illegal_monitor_state))) (sym (refuses k shared s store.monitors agree n (sym e)))
-          (refl, built_in_class both illegal_monitor_state (omega arith) (omega arith))
+          (row.throws (built_in_class both illegal_monitor_state (omega arith) (omega arith)))

@@ -31,6 +31,7 @@ use Rattle.semantics_typing.specs.Objects.{HasNumbers, element_type_of}
 use Rattle.machine_answers.proofs.RegionOperands.{GivenArray, TwoNumbers, array_numbers, count_on, start_on, numbers_alone, slots_there, two_numbers, words_brought, words_there, local_array as given_array}
 use Rattle.std.proofs.lemmas.Bool.{leb-true}
 use Rattle.machine_answers.specs.Answers.{AreWordsOf, IsAnswer}
+use Rattle.machine_answers.specs.Answers as row
 use Rattle.machine_scenes.specs.NewObjects.{IsMakeable}
 use Rattle.machine_answers.specs.Checked.{may_be_null}
 use Rattle.machine_scenes.specs.Given.{HasElements, operand_of, class_there}
@@ -46,7 +47,7 @@ module _ (both : TwoCalls) where
   -- a region of an object at an address, which has so many values, and the local array that the call names
   module _ (exception a m size : ℕ) (makeable : IsMakeable w.classes exception) (there : name_at store.heap a ≡ Some m) (count : length (values_at store.heap a) ≡ size) (agree : StoreAgrees p w store shared (all both)) (array : ArraySlots) (x : Identifier) (given : (brought both).array ≡ Some (x, array)) (has : HasElements activation.slots.numbers.items array (lookup x s.variables)) where
     abbrev Copies : Answer → CallEffect → Type 0
-    Copies answer effect = IsAnswer w.classes (brought both) store.heap activation.locals GivesNothing shared s answer effect
+    Copies answer effect = IsAnswer w.classes (brought both) store.heap activation.locals shared s answer GivesNothing effect
 
     abbrev held_elements : List ℤ
     held_elements = local_array (lookup x s.variables)
@@ -76,32 +77,28 @@ module _ (both : TwoCalls) where
         (by_tests (nat_le (start + k) (length (values_at store.heap a))) (nat_le k array.len) refl refl))
       where
         by_tests : (b c : Bool) → nat_le (start + k) (length (values_at store.heap a)) ≡ b → nat_le k array.len ≡ c → Copies (if b then (if c then answer else replies.Halts OutOfRange) else replies.Throws (class_id exception)) (if b then (if c then effect else Halts trap.OutOfRange) else Throws exception)
-        by_tests false c inside few = (refl, makeable)
-        by_tests true false inside few = refl
+        by_tests false c inside few = row.throws makeable
+        by_tests true false inside few = row.halts
         by_tests true true inside few = does few inside
 
     -- numbers of the object are read
     region_read : (z y : ℤ) → Copies (copies_out exception array (region_in store.heap (Some a) z y array)) (at_region exception size z y (get_region_effect shared s m x))
-    region_read (negsuc i) y = (refl, makeable)
-    region_read (pos i) (negsuc j) = (refl, makeable)
+    region_read (negsuc i) y = row.throws makeable
+    region_read (pos i) (negsuc j) = row.throws makeable
     region_read (pos i) (pos k) =
         subst (λ (answer : Answer). Copies answer (at_region exception size (pos i) (pos k) (get_region_effect shared s m x))) (sym (answer_is (nat_le (i + k) (length (values_at store.heap a)))))
         (tested (replies.CopiesOut (part i k)) _ i k
-        (λ few inside. (
-          refl,
-          record {
-            name = x;
-            array = array;
-            given = given;
-            slot = refl;
-            few = leb-true k array.len few;
-            slots = slots_within k (leb-true k array.len few);
-            within = leb-true (i + k) (length (values_at store.heap a)) inside;
-            numbers = take k (drop i (numbers_of shared.heap m));
-            words = words_there store.heap i k (values_at store.heap a) (values_of shared.heap m) (values_there p w store shared (all both) agree a m there);
-            is = refl;
-          },
-        )))
+        (λ few inside. row.copies_out (record {
+          name = x;
+          array = array;
+          given = given;
+          slot = refl;
+          few = leb-true k array.len few;
+          slots = slots_within k (leb-true k array.len few);
+          within = leb-true (i + k) (length (values_at store.heap a)) inside;
+          numbers = take k (drop i (numbers_of shared.heap m));
+          words = words_there store.heap i k (values_at store.heap a) (values_of shared.heap m) (values_there p w store shared (all both) agree a m there);
+        })))
       where
         answer_is : (b : Bool) → copies_out exception array (if b then Some (part i k) else None) ≡ (if b then (if nat_le k array.len then replies.CopiesOut (part i k) else replies.Halts OutOfRange) else replies.Throws (class_id exception))
         answer_is true = refl
@@ -109,24 +106,20 @@ module _ (both : TwoCalls) where
 
     -- numbers of the local array are written
     region_written : values_of shared.heap m ≡ map Number (numbers_of shared.heap m) → (z y : ℤ) → Copies (copies_in exception array (region_in store.heap (Some a) z y array)) (at_region exception size z y (set_region_effect shared s m x))
-    region_written alone (negsuc i) y = (refl, makeable)
-    region_written alone (pos i) (negsuc j) = (refl, makeable)
+    region_written alone (negsuc i) y = row.throws makeable
+    region_written alone (pos i) (negsuc j) = row.throws makeable
     region_written alone (pos i) (pos k) =
         subst (λ (answer : Answer). Copies answer (at_region exception size (pos i) (pos k) (set_region_effect shared s m x))) (sym (answer_is (nat_le (i + k) (length (values_at store.heap a)))))
         (tested (replies.CopiesIn (part i k)) _ i k
-        (λ few inside. (
-          refl,
-          record {
-            name = m;
-            there = there;
-            slots = slots_within k (leb-true k array.len few);
-            within = leb-true (i + k) (length (values_at store.heap a)) inside;
-            all_numbers = alone;
-            numbers = take k held_elements;
-            words = subst (λ (zs : List ℤ). AreWordsOf (words_from activation.slots.numbers.items (part i k)) (take k zs)) (sym elements_are) (words_brought activation.slots.numbers.items array has.elements has.words k (omega (arith, leb-true k array.len few, has.count)));
-            is = refl;
-          },
-        )))
+        (λ few inside. row.copies_in (record {
+          name = m;
+          there = there;
+          slots = slots_within k (leb-true k array.len few);
+          within = leb-true (i + k) (length (values_at store.heap a)) inside;
+          all_numbers = alone;
+          numbers = take k held_elements;
+          words = subst (λ (zs : List ℤ). AreWordsOf (words_from activation.slots.numbers.items (part i k)) (take k zs)) (sym elements_are) (words_brought activation.slots.numbers.items array has.elements has.words k (omega (arith, leb-true k array.len few, has.count)));
+        })))
       where
         answer_is : (b : Bool) → copies_in exception array (if b then Some (part i k) else None) ≡ (if b then (if nat_le k array.len then replies.CopiesIn (part i k) else replies.Halts OutOfRange) else replies.Throws (class_id exception))
         answer_is true = refl

@@ -12,9 +12,9 @@ use Rattle.class_rules.specs.Grown.{HasMethodError}
 use Rattle.code.specs.Call.{Call}
 use Rattle.heap.specs.Heap.{name_at}
 use Rattle.jni.specs.JniFunction.{JniFunction, parameters_for, prototype}
-use Rattle.jni.specs.Prototype.{ParameterKind, ClassObject, IntNumber, GivesNothing}
+use Rattle.jni.specs.Prototype.{ParameterKind, ClassObject, IntNumber, GivesInt, GivesNothing}
 use Rattle.semantics.specs.Arguments.{Actual, reference_given, object_given, name_or_zero, number_given}
-use Rattle.semantics.specs.CallEffects.{heap_effect, CallEffect}
+use Rattle.semantics.specs.CallEffects.{heap_effect, CallEffect, ScalarResult}
 use Rattle.semantics.specs.CallStep.{trap_of_call}
 use Rattle.semantics.specs.CallTable.{call_effect}
 use Rattle.semantics.specs.Heap.{class_of, values_of, object_at, number_in, value_at, reference_in, with_value_at}
@@ -36,7 +36,8 @@ use Rattle.machine_scenes.specs.StoreAgrees.{StoreAgrees}
 use Rattle.machine_answers.specs.declared.answer.Answer.{Answer}
 use Rattle.machine_scenes.specs.declared.store.Store.{Store}
 use Rattle.machine_scenes.specs.declared.activation.Activation.{Activation}
-use Rattle.machine_answers.specs.Answers.{Brought, IsAnswer}
+use Rattle.machine_answers.specs.declared.answer.Given.TheVariants as given
+use Rattle.machine_answers.specs.Answers.{Brought, GivenAgrees, IsAnswer, int}
 use Rattle.machine_scenes.specs.NewObjects.{IsMakeable}
 use Rattle.machine_answers.specs.Asked.{IsAsked, brought_by, references_of, scene_of}
 use Rattle.machine_scenes.specs.Statics.{References}
@@ -100,7 +101,7 @@ module _ (both : TwoCalls) where
 
   -- the answer is what it does
   abbrev pub Does : JniFunction → Answer → Type 0
-  Does f answer = IsAnswer w.classes brought store.heap activation.locals (prototype f).result shared s answer (call_effect unit w.classes in_use k shared s args f)
+  Does f answer = IsAnswer w.classes brought store.heap activation.locals shared s answer (prototype f).result (call_effect unit w.classes in_use k shared s args f)
 
   abbrev pub at : (i : ℕ) → Option ℕ
   at i = operand_at references (operand_of call.operands i)
@@ -184,12 +185,12 @@ module _ (both : TwoCalls) where
       (size, subst (λ (l : ℕ). FitsSigned w32 (pos l)) size (record { sfits = few }))
 
   -- a number of an object is read
-  pub number_read : (o : Option ℕ) (a n m i j : ℕ) → o ≡ Some a → name_at store.heap a ≡ Some n → m ≡ n → i ≡ j → StoreAgrees p w store shared all → (word_in (value_there store.heap o i) ≡ word_of (Int (number_in (value_at shared.heap m j)))) × FitsSigned w32 (number_in (value_at shared.heap m j))
+  pub number_read : (o : Option ℕ) (a n m i j : ℕ) → o ≡ Some a → name_at store.heap a ≡ Some n → m ≡ n → i ≡ j → StoreAgrees p w store shared all
+      → GivenAgrees unit w.classes store.heap GivesInt (given.Number (word_in (value_there store.heap o i))) (ScalarResult (Int (number_in (value_at shared.heap m j))))
   number_read o a n m i j held there same place agree =
-      let word = word_there p w store shared all agree a n j there in (
-        (λ k. word_in (value_there store.heap (held k) (place k))) ∙ word.word_is ∙ ap (λ (x : ℕ). word_of (Int (number_in (value_at shared.heap x j)))) (sym same),
-        subst (λ (x : ℕ). FitsSigned w32 (number_in (value_at shared.heap x j))) (sym same) word.fits,
-      )
+      let word = word_there p w store shared all agree a n j there in
+      int ((λ k. word_in (value_there store.heap (held k) (place k))) ∙ word.word_is ∙ ap (λ (x : ℕ). word_of (Int (number_in (value_at shared.heap x j)))) (sym same))
+      (subst (λ (x : ℕ). FitsSigned w32 (number_in (value_at shared.heap x j))) (sym same) word.fits)
 
   -- a reference of an object is read
   pub reference_read : (o : Option ℕ) (a n m i j : ℕ) → o ≡ Some a → name_at store.heap a ≡ Some n → m ≡ n → i ≡ j → StoreAgrees p w store shared all → ReferenceAgrees store.heap (address_in (value_there store.heap o i)) (reference_in (value_at shared.heap m j))
@@ -199,10 +200,10 @@ module _ (both : TwoCalls) where
 
   -- a value of an object is written
   pub value_written : (o : Option ℕ) (a n m i j : ℕ) (v v' : Value) (u u' : ObjectValue) → o ≡ Some a → name_at store.heap a ≡ Some n → m ≡ n → i ≡ j → v ≡ v' → u ≡ u' → ValueAgrees store.heap v' u' → StoreAgrees p w store shared all
-      → IsAnswer w.classes brought store.heap activation.locals GivesNothing shared s (writes_there store.heap o i v) (heap_effect shared s (with_value_at shared.heap m j u))
+      → IsAnswer w.classes brought store.heap activation.locals shared s (writes_there store.heap o i v) GivesNothing (heap_effect shared s (with_value_at shared.heap m j u))
   value_written o a n m i j v v' u u' held there same place value is fits agree =
-      subst (λ (x : Answer). IsAnswer w.classes brought store.heap activation.locals GivesNothing shared s x (heap_effect shared s (with_value_at shared.heap m j u))) (sym (λ k. writes_there store.heap (held k) (place k) (value k)))
-      (subst (λ (x : CallEffect). IsAnswer w.classes brought store.heap activation.locals GivesNothing shared s (writes_there store.heap (Some a) j v') x) (sym (λ k. heap_effect shared s (with_value_at shared.heap (same k) j (is k))))
+      subst (λ (x : Answer). IsAnswer w.classes brought store.heap activation.locals shared s x GivesNothing (heap_effect shared s (with_value_at shared.heap m j u))) (sym (λ k. writes_there store.heap (held k) (place k) (value k)))
+      (subst (λ (x : CallEffect). IsAnswer w.classes brought store.heap activation.locals shared s (writes_there store.heap (Some a) j v') GivesNothing x) (sym (λ k. heap_effect shared s (with_value_at shared.heap (same k) j (is k))))
       (writes p w store shared all agree brought activation.locals s a n j v' u' there fits))
 
   -- how a cell holds a reference

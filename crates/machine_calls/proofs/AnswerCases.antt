@@ -1,95 +1,88 @@
--- Which effects an answer can have.
-use Rattle.std.proofs.Common.{◌≡◌, ℕ, [], ◌∷◌, Some, refl, sym, ap}
+-- What is known of a call that has an answer.
+use Rattle.std.proofs.Common.{◌≡◌, ℕ, List, Option, Some, refl, subst}
 use Rattle.base.specs.Bytes.{Identifier}
 use Rattle.class_rules.specs.Class.{Classes}
 use Rattle.class_rules.specs.declared.class_id.ClassId.{ClassId}
-use Rattle.heap.specs.Heap.{Space}
+use Rattle.heap.specs.Heap.{Space, name_at}
 use Rattle.heap.specs.declared.value.Value.{Value}
-use Rattle.jni.specs.Prototype.{ResultKind, NewLocal, GivesNothing}
-use Rattle.semantics.specs.CallEffects.{CallResult, NoResult, NullResult, ScalarResult, ReferenceResult, WeakResult, FieldResult, MethodResult, BufferResult, CallEffect, Throws, Halts, Enters, Leaves, delete_weak_effect}
-use Rattle.semantics.specs.Heap.{next_name}
+use Rattle.jni.specs.Prototype.{ResultKind}
+use Rattle.semantics.specs.declared.trap.Trap.{Trap}
+use Rattle.semantics.specs.CallEffects.{CallResult, CallEffect, Enters, Halts}
+use Rattle.semantics.specs.EventViews.{trap_view}
+use Rattle.semantics.specs.Object.{Object, ObjectValue, Reference}
 use Rattle.semantics.specs.Thread.{Shared, Thread}
-use Rattle.semantics.specs.Object.{Object}
-use Rattle.semantics.specs.Variable.{StaticReference, Empty, Live, Weakly, Cleared, Deleted, assign}
-use Rattle.machine_answers.specs.declared.answer.Given.{Given}
-use Rattle.machine_answers.specs.declared.answer.Answer.TheVariants as answer
-use Rattle.machine_scenes.specs.declared.new_object.New.{New}
 use Rattle.tables.specs.Locals.{LocalTable}
-use Rattle.machine_answers.specs.Answers.{Brought, GivenAgrees, IsAnswer, IsWeak, WritesAt}
+use Rattle.machine_scenes.specs.declared.array_region.ArrayRegion.{ArrayRegion}
+use Rattle.machine_scenes.specs.declared.buffer.Release.{Release}
+use Rattle.machine_scenes.specs.declared.new_object.New.{New}
+use Rattle.machine_scenes.specs.HeapAgrees.{ReferenceAgrees}
+use Rattle.machine_scenes.specs.Locals.{IsKeyOf}
 use Rattle.machine_scenes.specs.NewObjects.{Describes, IsMakeable}
+use Rattle.machine_answers.specs.declared.answer.Given.{Given}
+use Rattle.machine_answers.specs.declared.answer.Answer.{Answer}
+use Rattle.machine_answers.specs.declared.answer.Answer.TheVariants as answer
+use Rattle.machine_answers.specs.Answers.{Brought, GivenAgrees, HoldsObject, HoldsWeakly, IsAnswer, IsCopiedIn, IsCopiedOut, IsCopyAcquired, IsReleased, WritesAt}
+use Rattle.machine_answers.specs.Answers as row
 
-module _ (classes : Classes) (brought : Brought) (space : Space) (locals : LocalTable) (kind : ResultKind) (shared : Shared) (s : Thread) where
-  -- nothing changes, and this is given
-  pub record GivesIt (g : Given) (effect : CallEffect) : Type 0 where
-    pub gave : CallResult
-    pub is : effect ≡ Leaves [] shared s gave
-    pub agrees : GivenAgrees brought.unit classes space kind g gave
+module _ {classes : Classes} {brought : Brought} {space : Space} {locals : LocalTable} {s : Shared} {t : Thread} where
+  -- an answer that is this one
+  pub as_answer : {a b : Answer} {kind : ResultKind} {effect : CallEffect} → a ≡ b → IsAnswer classes brought space locals s t a kind effect → IsAnswer classes brought space locals s t b kind effect
+  as_answer {kind = kind} {effect = effect} same does = subst (λ (x : Answer). IsAnswer classes brought space locals s t x kind effect) same does
 
-  pub gives_it : (g : Given) (effect : CallEffect) → IsAnswer classes brought space locals kind shared s (answer.Gives g) effect → GivesIt g effect
-  gives_it g (Throws c) h = absurd h
-  gives_it g (Halts trap) h = absurd h
-  gives_it g (Enters function arguments) h = absurd h
-  gives_it g (Leaves (o ∷ made) s' t' c) h = absurd h
-  gives_it g (Leaves [] s' t' c) h = record { gave = c; is = (λ i. Leaves [] (h.0 i) (h.1 i) c); agrees = h.2 }
+  pub gave : {g : Given} {kind : ResultKind} {effect : CallEffect} → IsAnswer classes brought space locals s t (answer.Gives g) kind effect → (c : CallResult) × GivenAgrees brought.unit classes space kind g c
+  gave (row.gives {c = c} agrees) = (c, agrees)
 
-  -- a value of an object changes
-  pub record WritesIt (a place : ℕ) (v : Value) (effect : CallEffect) : Type 0 where
-    pub after : Shared
-    pub is : effect ≡ Leaves [] after s NoResult
-    pub kind_is : kind ≡ GivesNothing
-    pub writes : WritesAt space shared after a place v
+  pub written : {a place : ℕ} {v : Value} {kind : ResultKind} {effect : CallEffect} → IsAnswer classes brought space locals s t (answer.Writes a place v) kind effect → (s' : Shared) × WritesAt space s s' a place v
+  written (row.writes {s' = s'} it) = (s', it)
 
-  pub writes_it : (a place : ℕ) (v : Value) (effect : CallEffect) → IsAnswer classes brought space locals kind shared s (answer.Writes a place v) effect → WritesIt a place v effect
-  writes_it a place v (Throws c) h = absurd h
-  writes_it a place v (Halts trap) h = absurd h
-  writes_it a place v (Enters function arguments) h = absurd h
-  writes_it a place v (Leaves (o ∷ made) s' t' c) h = absurd h
-  writes_it a place v (Leaves [] s' t' NoResult) h = record { after = s'; is = (λ i. Leaves [] s' (h.0 i) NoResult); kind_is = h.1; writes = h.2 }
-  writes_it a place v (Leaves [] s' t' NullResult) h = absurd h
-  writes_it a place v (Leaves [] s' t' (ScalarResult z)) h = absurd h
-  writes_it a place v (Leaves [] s' t' (ReferenceResult r)) h = absurd h
-  writes_it a place v (Leaves [] s' t' (WeakResult r)) h = absurd h
-  writes_it a place v (Leaves [] s' t' (FieldResult f)) h = absurd h
-  writes_it a place v (Leaves [] s' t' (MethodResult f)) h = absurd h
-  writes_it a place v (Leaves [] s' t' (BufferResult b)) h = absurd h
+  pub made : {new : New} {kind : ResultKind} {effect : CallEffect} → IsAnswer classes brought space locals s t (answer.Makes new) kind effect → (o : Object) × Describes classes brought.texts space new o
+  made (row.makes {o = o} describes) = (o, describes)
 
-  -- an object is made
-  pub record MakesIt (new : New) (effect : CallEffect) : Type 0 where
-    pub object : Object
-    pub is : effect ≡ Leaves (object ∷ []) shared s (ReferenceResult (Some (next_name shared.heap)))
-    pub kind_is : kind ≡ NewLocal
-    pub describes : Describes classes brought.texts space new object
+  pub thrown : {class : ClassId} {kind : ResultKind} {effect : CallEffect} → IsAnswer classes brought space locals s t (answer.Throws class) kind effect → IsMakeable classes class.number
+  thrown (row.throws makeable) = makeable
 
-  pub makes_it : (new : New) (effect : CallEffect) → IsAnswer classes brought space locals kind shared s (answer.Makes new) effect → MakesIt new effect
-  makes_it new (Throws c) h = absurd h
-  makes_it new (Halts trap) h = absurd h
-  makes_it new (Enters function arguments) h = absurd h
-  makes_it new (Leaves [] s' t' c) h = absurd h
-  makes_it new (Leaves (o ∷ p ∷ made) s' t' c) h = absurd h
-  makes_it new (Leaves (o ∷ []) s' t' NoResult) h = absurd h
-  makes_it new (Leaves (o ∷ []) s' t' NullResult) h = absurd h
-  makes_it new (Leaves (o ∷ []) s' t' (ScalarResult z)) h = absurd h
-  makes_it new (Leaves (o ∷ []) s' t' (WeakResult r)) h = absurd h
-  makes_it new (Leaves (o ∷ []) s' t' (FieldResult f)) h = absurd h
-  makes_it new (Leaves (o ∷ []) s' t' (MethodResult f)) h = absurd h
-  makes_it new (Leaves (o ∷ []) s' t' (BufferResult b)) h = absurd h
-  makes_it new (Leaves (o ∷ []) s' t' (ReferenceResult r)) h = record { object = o; is = (λ i. Leaves (o ∷ []) (h.0 i) (h.1 i) (ReferenceResult (h.3 i))); kind_is = h.2; describes = h.4 }
+  pub raised : {class : ClassId} {place : ℕ} {kind : ResultKind} {effect : CallEffect} → IsAnswer classes brought space locals s t (answer.Raises class place) kind effect → IsMakeable classes class.number
+  raised (row.raises string makeable) = makeable
 
-  -- an exception is made and is pending
-  pub record ThrowsIt (class : ℕ) (effect : CallEffect) : Type 0 where
-    pub is : effect ≡ Throws class
-    pub makeable : IsMakeable classes class
+  pub pending : {a : Option ℕ} {g : Given} {kind : ResultKind} {effect : CallEffect} → IsAnswer classes brought space locals s t (answer.Pends a g) kind effect
+      → ((r : Reference) × ReferenceAgrees space a r) × ((c : CallResult) × GivenAgrees brought.unit classes space kind g c)
+  pending (row.pends {c = c} r agrees of_call) = ((r, agrees), (c, of_call))
 
-  pub throws_it : (class : ClassId) (effect : CallEffect) → IsAnswer classes brought space locals kind shared s (answer.Throws class) effect → ThrowsIt class.number effect
-  throws_it class (Throws c) h = record { is = ap Throws (sym h.0); makeable = h.1 }
-  throws_it class (Halts trap) h = absurd h
-  throws_it class (Enters function arguments) h = absurd h
-  throws_it class (Leaves made s' t' c) h = absurd h
+  pub copied_out : {region : ArrayRegion} {kind : ResultKind} {effect : CallEffect} → IsAnswer classes brought space locals s t (answer.CopiesOut region) kind effect → IsCopiedOut brought space region
+  copied_out (row.copies_out it) = it
 
--- the weak reference that a static holds is ended, cleared or not
-pub weak_deleted : (s : Shared) (t : Thread) (x : Identifier) (r : StaticReference) → IsWeak r → delete_weak_effect s t x (Some r) ≡ Leaves [] (record s { statics = assign x Deleted s.statics }) t NoResult
-weak_deleted s t x (Weakly n) weak = refl
-weak_deleted s t x Cleared weak = refl
-weak_deleted s t x Empty weak = absurd weak
-weak_deleted s t x (Live n) weak = absurd weak
-weak_deleted s t x Deleted weak = absurd weak
+  pub copied_in : {region : ArrayRegion} {kind : ResultKind} {effect : CallEffect} → IsAnswer classes brought space locals s t (answer.CopiesIn region) kind effect → IsCopiedIn brought space s region
+  copied_in (row.copies_in it) = it
+
+  pub copied : {a : ℕ} {kind : ResultKind} {effect : CallEffect} → IsAnswer classes brought space locals s t (answer.AcquiresCopy a) kind effect → IsCopyAcquired space s a
+  copied (row.acquires_copy buffer it) = it
+
+  pub viewed : {a : ℕ} {kind : ResultKind} {effect : CallEffect} → IsAnswer classes brought space locals s t (answer.AcquiresView a) kind effect → (n : ℕ) × (name_at space a ≡ Some n)
+  viewed (row.acquires_view n buffer there) = (n, there)
+
+  pub released : {r : Release} {kind : ResultKind} {effect : CallEffect} → IsAnswer classes brought space locals s t (answer.Releases r) kind effect → IsReleased brought space s t r
+  released (row.releases it) = it
+
+  pub popped : {a : Option ℕ} {kind : ResultKind} {effect : CallEffect} → IsAnswer classes brought space locals s t (answer.Pops a) kind effect → (r : Reference) × ReferenceAgrees space a r
+  popped (row.pops r agrees) = (r, agrees)
+
+  pub deleted : {key : ℕ} {kind : ResultKind} {effect : CallEffect} → IsAnswer classes brought space locals s t (answer.Deletes key) kind effect → (n level : ℕ) × IsKeyOf space locals key n level
+  deleted (row.deletes n level there) = (n, level, there)
+
+  pub made_global : {a : Option ℕ} {kind : ResultKind} {effect : CallEffect} → IsAnswer classes brought space locals s t (answer.MakesGlobal a) kind effect → (r : Reference) × ReferenceAgrees space a r
+  made_global (row.makes_global r agrees) = (r, agrees)
+
+  pub deleted_global : {i : ℕ} {kind : ResultKind} {effect : CallEffect} → IsAnswer classes brought space locals s t (answer.DeletesGlobal i) kind effect → (x : Identifier) × (n : ℕ) × HoldsObject s x i n
+  deleted_global (row.deletes_global x n holds) = (x, n, holds)
+
+  pub made_weak : {a : Option ℕ} {kind : ResultKind} {effect : CallEffect} → IsAnswer classes brought space locals s t (answer.MakesWeak a) kind effect → (r : Reference) × ReferenceAgrees space a r
+  made_weak (row.makes_weak r agrees) = (r, agrees)
+
+  pub deleted_weak : {i : ℕ} {kind : ResultKind} {effect : CallEffect} → IsAnswer classes brought space locals s t (answer.DeletesWeak i) kind effect → (x : Identifier) × HoldsWeakly s x i
+  deleted_weak (row.deletes_weak x holds) = (x, holds)
+
+  pub called : {kind : ResultKind} {effect : CallEffect} → IsAnswer classes brought space locals s t answer.Calls kind effect → (function : Identifier) × (arguments : List ObjectValue) × (effect ≡ Enters function arguments)
+  called (row.calls function arguments) = (function, arguments, refl)
+
+  pub halted : {trap : Trap} {kind : ResultKind} {effect : CallEffect} → IsAnswer classes brought space locals s t (answer.Halts trap) kind effect → effect ≡ Halts (trap_view trap)
+  halted row.halts = refl

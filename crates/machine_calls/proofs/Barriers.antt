@@ -1,5 +1,5 @@
 -- What is carried out stays so once what it writes is noted.
-use Rattle.std.proofs.Common.{◌≡◌, ℕ, false, ◌++◌, Option, Some, None, sym, ap, ◌∙◌, subst}
+use Rattle.std.proofs.Common.{◌≡◌, ℕ, false, List, ◌++◌, Option, Some, None, sym, ap, subst}
 use Rattle.std.specs.Option.{option_to_list}
 use Rattle.syntax.specs.Tree.{SourceUnit}
 use Rattle.syntax.specs.Views.{unit_tree}
@@ -7,22 +7,24 @@ use Rattle.class_rules.specs.Class.{Classes}
 use Rattle.heap.specs.Heap.{Space, IsAddress}
 use Rattle.heap.specs.Marks.{Marks}
 use Rattle.heap.specs.Marking.{MarkingStays}
+use Rattle.heap.specs.declared.value.Value.{Value}
 use Rattle.heap.specs.declared.value.Value.TheVariants.{Block as Refers}
 use Rattle.heap.proofs.Staying.{stays_noted, stays_on, stays_same}
-use Rattle.jni.specs.Prototype.{ResultKind, NewLocal, GivesFlag, GivesInt, GivesField, GivesMethod, GivesNothing}
-use Rattle.semantics.specs.CallEffects.{CallResult, NoResult, NullResult, ScalarResult, ReferenceResult, FieldResult, MethodResult, BufferResult, CallEffect}
+use Rattle.jni.specs.Prototype.{ResultKind}
+use Rattle.semantics.specs.CallEffects.{CallResult, NullResult, BufferResult, CallEffect}
 use Rattle.semantics.specs.CallStep.{static_result}
 use Rattle.semantics.specs.Object.{Reference}
+use Rattle.semantics.specs.Object as meant
 use Rattle.semantics.specs.Thread.{Shared, Thread}
-use Rattle.semantics.specs.Value.{Int, Flag}
 use Rattle.semantics.specs.World.{World}
 use Rattle.code_meaning.specs.Lowered.{Lowered}
+use Rattle.tables.specs.Elements.{OwnedNumbers}
 use Rattle.tables.specs.Locals.{LocalTable}
 use Rattle.machine_scenes.specs.Buffers.{Acquired}
 use Rattle.machine_scenes.specs.declared.buffer.Buffer.{Buffer}
 use Rattle.machine_scenes.specs.declared.store.Store.{Store}
 use Rattle.machine_scenes.specs.Given.{ReferenceIsThere}
-use Rattle.machine_scenes.specs.HeapAgrees.{ReferenceAgrees}
+use Rattle.machine_scenes.specs.HeapAgrees.{ReferenceAgrees, ValueAgrees}
 use Rattle.machine_scenes.specs.Statics.{held}
 use Rattle.machine_scenes.proofs.BlocksOfNames.{is_address}
 use Rattle.machine_scenes.proofs.Noted.{buffer_noted, frames_noted, held_noted, keeps_noted, key_noted, reference_noted, store_noted}
@@ -31,8 +33,9 @@ use Rattle.machine_answers.specs.declared.answer.Answer.TheVariants as answer
 use Rattle.machine_answers.specs.declared.answer.Given.{Given}
 use Rattle.machine_answers.specs.declared.answer.Given.TheVariants as given
 use Rattle.machine_answers.specs.Answers.{GivenAgrees}
+use Rattle.machine_answers.specs.Answers as row
 use Rattle.machine_calls.specs.Barrier.{IsNoted, noted_at, reference_given, written_by}
-use Rattle.machine_calls.specs.CarriedOut.{BufferIsGiven, CarriesOut, IsFresh, ResultAgrees, acquired_after, frames_left, pending_after, result_after, shared_after}
+use Rattle.machine_calls.specs.CarriedOut.{BufferIsGiven, CarriesOut, IsFresh, IsNewCopy, ResultAgrees, acquired_after, frames_left, pending_after, result_after, shared_after}
 
 -- ---- what is noted is there
 
@@ -41,17 +44,21 @@ reference_there space None r h = λ a e. absurd (cc)
 reference_there space (Some b) None h = absurd h
 reference_there space (Some b) (Some n) h = λ a e. let same : b ≡ a = cc in subst (IsAddress space) same (is_address space b n h)
 
-pub given_there : (unit : SourceUnit) (classes : Classes) (space : Space) (kind : ResultKind) (g : Given) (c : CallResult) → GivenAgrees unit classes space kind g c → ReferenceIsThere space (reference_given g)
-given_there unit classes space GivesNothing given.Nothing NoResult h = λ a e. absurd (cc)
-given_there unit classes space GivesInt (given.Number word) (ScalarResult (Int z)) h = λ a e. absurd (cc)
-given_there unit classes space GivesFlag (given.Number word) (ScalarResult (Flag b)) h = λ a e. absurd (cc)
-given_there unit classes space NewLocal (given.Reference a) (ReferenceResult r) h = reference_there space a r h
-given_there unit classes space NewLocal (given.Reference a) NullResult h = λ b e. absurd (let clash : None ≡ Some b = sym h ∙ e in cc)
-given_there unit classes space GivesField (given.FieldId f) (FieldResult g) h = λ a e. absurd (cc)
-given_there unit classes space GivesField (given.FieldId f) NullResult h = λ a e. absurd (cc)
-given_there unit classes space GivesMethod (given.MethodId f) (MethodResult m) h = λ a e. absurd (cc)
-given_there unit classes space GivesMethod (given.MethodId f) NullResult h = λ a e. absurd (cc)
-given_there unit classes space kind g c h = absurd h
+pub given_there : {unit : SourceUnit} {classes : Classes} (space : Space) {kind : ResultKind} {g : Given} {c : CallResult} → GivenAgrees unit classes space kind g c → ReferenceIsThere space (reference_given g)
+given_there space (row.reference {a = a} {r = r} h) = reference_there space a r h
+given_there space h = λ a e. absurd (cc)
+
+-- what a value refers to
+pub value_there : (space : Space) (v : Value) (u : meant.ObjectValue) → ValueAgrees space v u → (b : ℕ) → v ≡ Refers b → IsAddress space b
+value_there space (Refers a) (meant.Refers (Some n)) h b e = let same : a ≡ b = cc in subst (IsAddress space) same (is_address space a n h)
+value_there space (Refers a) (meant.Refers None) h b e = absurd h
+value_there space (Refers a) (meant.Number z) h b e = absurd h
+value_there space v u h b e = absurd (cc)
+
+-- what is given is no new list
+pub no_new_copy : {unit : SourceUnit} {classes : Classes} {space : Space} {kind : ResultKind} {g : Given} {c : CallResult} (copies : List (Option OwnedNumbers)) → GivenAgrees unit classes space kind g c → IsNewCopy copies g
+no_new_copy copies row.nothing = tt
+no_new_copy copies h = tt
 
 -- ---- all that an answer writes is noted
 
@@ -97,17 +104,16 @@ module _ (unit : SourceUnit) (classes : Classes) (store : Store) (o : Option Mar
   abbrev noted_store : Store
   noted_store = record store { heap = record store.heap { marking = o } }
 
-  given_noted : (kind : ResultKind) (g : Given) (c : CallResult) → GivenAgrees unit classes store.heap kind g c → GivenAgrees unit classes noted_store.heap kind g c
-  given_noted GivesNothing given.Nothing NoResult h = h
-  given_noted GivesInt (given.Number word) (ScalarResult (Int z)) h = h
-  given_noted GivesFlag (given.Number word) (ScalarResult (Flag b)) h = h
-  given_noted NewLocal (given.Reference a) (ReferenceResult r) h = reference_noted store.heap o a r h
-  given_noted NewLocal (given.Reference a) NullResult h = h
-  given_noted GivesField (given.FieldId f) (FieldResult g) h = h
-  given_noted GivesField (given.FieldId f) NullResult h = h
-  given_noted GivesMethod (given.MethodId f) (MethodResult m) h = h
-  given_noted GivesMethod (given.MethodId f) NullResult h = h
-  given_noted kind g c h = absurd h
+  given_noted : {kind : ResultKind} {g : Given} {c : CallResult} → GivenAgrees unit classes store.heap kind g c → GivenAgrees unit classes noted_store.heap kind g c
+  given_noted row.nothing = row.nothing
+  given_noted (row.int is fits) = row.int is fits
+  given_noted (row.flag is) = row.flag is
+  given_noted (row.reference {a = a} {r = r} h) = row.reference (reference_noted store.heap o a r h)
+  given_noted row.null_reference = row.null_reference
+  given_noted (row.field h) = row.field h
+  given_noted row.null_field = row.null_field
+  given_noted (row.method h) = row.method h
+  given_noted row.null_method = row.null_method
 
   buffer_given : (b : Buffer) (c : CallResult) → BufferIsGiven store owner b c → BufferIsGiven noted_store owner b c
   buffer_given b (BufferResult s) h = buffer_noted store.heap o store.elements owner b s h
@@ -119,11 +125,11 @@ module _ (unit : SourceUnit) (classes : Classes) (store : Store) (o : Option Mar
   result_noted (given.Global s) kind c h =
       let fresh : IsFresh store s = h.2 in
       (h.0, held_noted store.heap o (held store.globals store.weaks s) (static_result c) h.1, record { live = fresh.live; weak = fresh.weak })
-  result_noted given.Nothing kind c h = given_noted kind given.Nothing c h
-  result_noted (given.Number word) kind c h = given_noted kind (given.Number word) c h
-  result_noted (given.Reference a) kind c h = given_noted kind (given.Reference a) c h
-  result_noted (given.FieldId f) kind c h = given_noted kind (given.FieldId f) c h
-  result_noted (given.MethodId f) kind c h = given_noted kind (given.MethodId f) c h
+  result_noted given.Nothing kind c h = given_noted h
+  result_noted (given.Number word) kind c h = given_noted h
+  result_noted (given.Reference a) kind c h = given_noted h
+  result_noted (given.FieldId f) kind c h = given_noted h
+  result_noted (given.MethodId f) kind c h = given_noted h
 
 module _ (p : Lowered) (w : World) (old : Space) (before : LocalTable) (a : Answer) (kind : ResultKind) (others : Acquired) (owner : ℕ) (shared : Shared) (s : Thread) (effect : CallEffect) where
   pub noted_carries : (store : Store) (o : Option Marks) (pending : Option ℕ) (locals : LocalTable) (g : Given) → MarkingStays store.heap.marking o

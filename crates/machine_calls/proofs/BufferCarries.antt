@@ -17,16 +17,16 @@ use Rattle.heap.proofs.Extents.{layout_pins}
 use Rattle.heap.proofs.Staying.{stays_is, stays_on}
 use Rattle.heap.specs.declared.value.Value.{Value}
 use Rattle.heap.specs.declared.value.Value.TheVariants as value
-use Rattle.jni.specs.Prototype.{ResultKind}
+use Rattle.jni.specs.Prototype.{GivesNothing, ResultKind}
 use Rattle.syntax.specs.Views.{unit_tree}
 use Rattle.semantics.specs.Arguments.{ReleaseMode, CopyBackAndFree, CopyBack, FreeUncopied}
-use Rattle.semantics.specs.CallEffects.{CallEffect, CallResult, Leaves, NoResult, BufferResult, copied_elements, release_effect, with_freed}
+use Rattle.semantics.specs.CallEffects.{CallEffect, CallResult, Leaves, NoResult, BufferResult, copied_elements, copy_effect, release_effect, view_effect, with_freed}
 use Rattle.semantics.specs.Heap.{Heap, numbers_of, object_at, values_of, with_numbers}
 use Rattle.semantics.specs.Object.{Object, Number, Reference}
 use Rattle.semantics.specs.Thread as source
 use Rattle.semantics.specs.Thread.{BuffersInUse, Shared, Thread}
 use Rattle.semantics.specs.Variable as variable
-use Rattle.semantics.specs.Variable.{Variable, Elements, NoBuffer, Copy, View}
+use Rattle.semantics.specs.Variable.{Elements, NoBuffer, Copy, View}
 use Rattle.semantics.specs.World.{World}
 use Rattle.tables.specs.Elements.{OwnedNumbers, lengths, owned}
 use Rattle.tables.specs.Keys.{value_at}
@@ -40,7 +40,9 @@ use Rattle.machine_scenes.specs.declared.buffer.Buffer.{Buffer}
 use Rattle.machine_scenes.specs.declared.buffer.Buffer.TheVariants as held
 use Rattle.machine_scenes.specs.declared.buffer.Release.{Release}
 use Rattle.machine_scenes.specs.declared.store.Store.{Store}
-use Rattle.machine_answers.specs.Answers.{Brought, GivenAgrees, IsAnswer}
+use Rattle.code_meaning.specs.Stands.{IsBufferResult}
+use Rattle.machine_answers.specs.Answers.{Brought, IsAnswer, IsCopyAcquired, IsReleased}
+use Rattle.machine_answers.specs.Answers as row
 use Rattle.machine_answers.specs.BufferChanges.{CanCopyBack, CanGiveUp, GivesUp, MakesCopy, MakesView, MayGiveUp, copied_back, space_back, written_back}
 use Rattle.machine_scenes.specs.Buffers.{Acquired, BufferAgrees, IsCopyOf, SameAcquired, acquired_by, acquired_of, beside, copies_back, gives_up, in_use_of, nothing_acquired}
 use Rattle.machine_calls.specs.CarriedOut.{CarriesOut, CopiesStay, IsPossible, ResultAgrees, acquired_with}
@@ -75,21 +77,21 @@ not_below n m over = by_test (nat_lt n m) refl
     by_test true e = absurd (omega (arith, over, ltb-true n m e))
     by_test false e = refl
 
-module _ (p : Lowered) (w : World) (store : Store) (pending : Option ℕ) (locals : LocalTable) (kind : ResultKind) (others : Acquired) (owner : ℕ) (shared : Shared) (s : Thread) (h : IsPossible p w store pending locals others shared s) (brought : Brought) where
+module _ (p : Lowered) (w : World) (store : Store) (pending : Option ℕ) (locals : LocalTable) (others : Acquired) (owner : ℕ) (shared : Shared) (s : Thread) (h : IsPossible p w store pending locals others shared s) (brought : Brought) where
   -- what the buffers of all threads take
   abbrev all : Acquired
   all = beside others (acquired_by s)
 
-  abbrev Does : Answer → CallEffect → Type 0
-  Does a effect = IsAnswer w.classes brought store.heap locals kind shared s a effect
+  abbrev Does : Answer → ResultKind → CallEffect → Type 0
+  Does a kind effect = IsAnswer w.classes brought store.heap locals shared s a kind effect
 
-  abbrev pub Carries : Answer → CallEffect → Store → Given → Type 0
-  Carries a effect after g = CarriesOut p w store.heap locals a kind others owner shared s effect false after pending locals g
+  abbrev pub Carries : Answer → ResultKind → CallEffect → Store → Given → Type 0
+  Carries a kind effect after g = CarriesOut p w store.heap locals a kind others owner shared s effect false after pending locals g
 
   -- a thread that has the frames and the exception that it had, and objects that stay where they are
-  pub effected : (a : Answer) (after : Store) (g : Given) (s' : Shared) (t : Thread) (c : CallResult) → t.frames ≡ s.frames → t.pending ≡ s.pending → s'.statics ≡ shared.statics → Keeps store.heap shared after.heap s'
-      → StoreAgrees p w after s' (beside others (beside (acquired_by t) (acquired_with c))) → ResultAgrees (unit_tree p.unit) w.classes after owner g kind c → Carries a (Leaves [] s' t c) after g
-  effected a after g s' t c frames pends statics keeps agrees given = record {
+  pub effected : (a : Answer) (kind : ResultKind) (after : Store) (g : Given) (s' : Shared) (t : Thread) (c : CallResult) → t.frames ≡ s.frames → t.pending ≡ s.pending → s'.statics ≡ shared.statics → Keeps store.heap shared after.heap s'
+      → StoreAgrees p w after s' (beside others (beside (acquired_by t) (acquired_with c))) → ResultAgrees (unit_tree p.unit) w.classes after owner g kind c → Carries a kind (Leaves [] s' t c) after g
+  effected a kind after g s' t c frames pends statics keeps agrees given = record {
     store_agrees = subst (λ (x : Shared). StoreAgrees p w after x (beside others (beside (acquired_by t) (acquired_with c)))) (sym same) agrees;
     keeps = subst (λ (x : Shared). Keeps store.heap shared after.heap x) (sym same) keeps;
     pending_agrees = subst (λ (r : Reference). ReferenceAgrees after.heap pending r) (sym pends) (reference_stays store.heap after.heap keeps.names pending s.pending h.pending_agrees);
@@ -106,90 +108,96 @@ module _ (p : Lowered) (w : World) (store : Store) (pending : Option ℕ) (local
 
   -- ---- a copy
 
-  module _ (a : ℕ) (effect : CallEffect) (does : Does (answer.AcquiresCopy a) effect) (uses : brought.in_use ≡ in_use_of all) where
+  module _ (a : ℕ) (kind : ResultKind) (buffer : IsBufferResult kind) (it : IsCopyAcquired store.heap shared a) (uses : brought.in_use ≡ in_use_of all) where
     abbrev numbers : List ℤ
-    numbers = numbers_of shared.heap does.1.name
+    numbers = numbers_of shared.heap it.name
 
     abbrev gives_copy : Bool → CallEffect
-    gives_copy t = Leaves [] shared s (BufferResult (if t then Copy does.1.name numbers else NoBuffer))
+    gives_copy t = Leaves [] shared s (BufferResult (if t then Copy it.name numbers else NoBuffer))
 
-    copy_is : (t : Bool) → nat_le (lengths store.elements + length numbers) 65536 ≡ t → effect ≡ gives_copy t
+    copy_is : (t : Bool) → nat_le (lengths store.elements + length numbers) 65536 ≡ t → copy_effect brought.in_use shared s it.name numbers ≡ gives_copy t
     copy_is t e =
         let used : brought.in_use.copied ≡ lengths store.elements = ap (λ (u : BuffersInUse). u.copied) uses ∙ sym h.store_agrees.buffers.copied in
-        does.1.is ∙ ap gives_copy (ap (λ (n : ℕ). nat_le (n + length numbers) 65536) used ∙ e)
+        ap gives_copy (ap (λ (n : ℕ). nat_le (n + length numbers) 65536) used ∙ e)
 
-    copied : (b : Buffer) (elements : List (Option OwnedNumbers)) → MakesCopy owner numbers store.elements b elements → Carries (answer.AcquiresCopy a) effect (record store { elements = elements }) (given.Buffer b)
+    copied : (b : Buffer) (elements : List (Option OwnedNumbers)) → MakesCopy owner numbers store.elements b elements → Carries (answer.AcquiresCopy a) kind (copy_effect brought.in_use shared s it.name numbers) (record store { elements = elements }) (given.Buffer b)
     copied held.Null elements (over, same) =
-        subst (λ (e : CallEffect). Carries (answer.AcquiresCopy a) e (record store { elements = elements }) (given.Buffer held.Null)) (sym (copy_is false (not_within (lengths store.elements + length numbers) 65536 over)))
-        (subst (λ (l : List (Option OwnedNumbers)). Carries (answer.AcquiresCopy a) (gives_copy false) (record store { elements = l }) (given.Buffer held.Null)) (sym same)
-        (effected (answer.AcquiresCopy a) store (given.Buffer held.Null) shared s (BufferResult NoBuffer) refl refl refl (keeps_same store.heap shared)
-        (agrees_same p w store shared all h.store_agrees (beside others (beside (acquired_by s) nothing_acquired)) (beside_nothing others (acquired_by s))) (does.0, tt)))
+        subst (λ (e : CallEffect). Carries (answer.AcquiresCopy a) kind e (record store { elements = elements }) (given.Buffer held.Null)) (sym (copy_is false (not_within (lengths store.elements + length numbers) 65536 over)))
+        (subst (λ (l : List (Option OwnedNumbers)). Carries (answer.AcquiresCopy a) kind (gives_copy false) (record store { elements = l }) (given.Buffer held.Null)) (sym same)
+        (effected (answer.AcquiresCopy a) kind store (given.Buffer held.Null) shared s (BufferResult NoBuffer) refl refl refl (keeps_same store.heap shared)
+        (agrees_same p w store shared all h.store_agrees (beside others (beside (acquired_by s) nothing_acquired)) (beside_nothing others (acquired_by s))) (buffer, tt)))
     copied (held.Copy key) elements (within, gains, more) =
-        let next : Acquired = beside others (beside (acquired_by s) (acquired_of (Copy does.1.name numbers))) in
-        subst (λ (e : CallEffect). Carries (answer.AcquiresCopy a) e (record store { elements = elements }) (given.Buffer (held.Copy key))) (sym (copy_is true (le-leb (lengths store.elements + length numbers) 65536 within)))
-        (effected (answer.AcquiresCopy a) (record store { elements = elements }) (given.Buffer (held.Copy key)) shared s (BufferResult (Copy does.1.name numbers)) refl refl refl (keeps_same store.heap shared)
+        let next : Acquired = beside others (beside (acquired_by s) (acquired_of (Copy it.name numbers))) in
+        subst (λ (e : CallEffect). Carries (answer.AcquiresCopy a) kind e (record store { elements = elements }) (given.Buffer (held.Copy key))) (sym (copy_is true (le-leb (lengths store.elements + length numbers) 65536 within)))
+        (effected (answer.AcquiresCopy a) kind (record store { elements = elements }) (given.Buffer (held.Copy key)) shared s (BufferResult (Copy it.name numbers)) refl refl refl (keeps_same store.heap shared)
         (agrees_copies p w store shared all h.store_agrees next elements
-        (taken_copy store.heap store.elements elements store.views (length shared.heap) owner does.1.name numbers all next (beside_more others (acquired_by s) (Copy does.1.name numbers)) more h.store_agrees.buffers)) (does.0, gains.has))
+        (taken_copy store.heap store.elements elements store.views (length shared.heap) owner it.name numbers all next (beside_more others (acquired_by s) (Copy it.name numbers)) more h.store_agrees.buffers)) (buffer, gains.has))
     copied (held.View x) elements made = absurd made
 
-    pub acquires_copy : (b : Buffer) (elements : List (Option OwnedNumbers)) → MakesCopy owner (map (cast_signed w32) (words_at store.heap a)) store.elements b elements → Carries (answer.AcquiresCopy a) effect (record store { elements = elements }) (given.Buffer b)
-    acquires_copy b elements made = copied b elements (subst (λ (l : List ℤ). MakesCopy owner l store.elements b elements) (words_back (words_at store.heap a) numbers does.1.words) made)
+  pub acquires_copy : (a : ℕ) {kind : ResultKind} {effect : CallEffect} → Does (answer.AcquiresCopy a) kind effect → brought.in_use ≡ in_use_of all
+      → (b : Buffer) (elements : List (Option OwnedNumbers)) → MakesCopy owner (map (cast_signed w32) (words_at store.heap a)) store.elements b elements → Carries (answer.AcquiresCopy a) kind effect (record store { elements = elements }) (given.Buffer b)
+  acquires_copy a (row.acquires_copy {kind = kind} buffer it) uses b elements made =
+      copied a kind buffer it uses b elements (subst (λ (l : List ℤ). MakesCopy owner l store.elements b elements) (words_back (words_at store.heap a) (numbers_of shared.heap it.name) it.words) made)
 
   -- ---- a view
 
-  module _ (a : ℕ) (effect : CallEffect) (does : Does (answer.AcquiresView a) effect) (uses : brought.in_use ≡ in_use_of all) where
+  module _ (a : ℕ) (kind : ResultKind) (buffer : IsBufferResult kind) (n : ℕ) (there : name_at store.heap a ≡ Some n) (uses : brought.in_use ≡ in_use_of all) where
     abbrev gives_view : Bool → CallEffect
-    gives_view t = Leaves [] shared s (BufferResult (if t then View does.1.name else NoBuffer))
+    gives_view t = Leaves [] shared s (BufferResult (if t then View n else NoBuffer))
 
-    view_is : (t : Bool) → nat_lt store.views 64 ≡ t → effect ≡ gives_view t
+    view_is : (t : Bool) → nat_lt store.views 64 ≡ t → view_effect brought.in_use shared s n ≡ gives_view t
     view_is t e =
         let used : brought.in_use.views ≡ store.views = ap (λ (u : BuffersInUse). u.views) uses ∙ sym h.store_agrees.buffers.many in
-        does.1.is ∙ ap gives_view (ap (λ (n : ℕ). nat_lt n 64) used ∙ e)
+        ap gives_view (ap (λ (m : ℕ). nat_lt m 64) used ∙ e)
 
-    pub acquires_view : (b : Buffer) (space : Space) (views : ℕ) → MakesView a store.heap store.views b space views → Carries (answer.AcquiresView a) effect (record store { heap = space; views = views }) (given.Buffer b)
-    acquires_view held.Null space views (over, same, as_many) =
+    viewed : (b : Buffer) (space : Space) (views : ℕ) → MakesView a store.heap store.views b space views → Carries (answer.AcquiresView a) kind (view_effect brought.in_use shared s n) (record store { heap = space; views = views }) (given.Buffer b)
+    viewed held.Null space views (over, same, as_many) =
         let same_store : record store { heap = space; views = views } ≡ store = λ i. record store { heap = same i; views = as_many i } in
-        subst (λ (e : CallEffect). Carries (answer.AcquiresView a) e (record store { heap = space; views = views }) (given.Buffer held.Null)) (sym (view_is false (not_below store.views 64 over)))
-        (subst (λ (x : Store). Carries (answer.AcquiresView a) (gives_view false) x (given.Buffer held.Null)) (sym same_store)
-        (effected (answer.AcquiresView a) store (given.Buffer held.Null) shared s (BufferResult NoBuffer) refl refl refl (keeps_same store.heap shared)
-        (agrees_same p w store shared all h.store_agrees (beside others (beside (acquired_by s) nothing_acquired)) (beside_nothing others (acquired_by s))) (does.0, tt)))
-    acquires_view (held.Copy key) space views made = absurd made
-    acquires_view (held.View x) space views (below, here, pinned, more) =
+        subst (λ (e : CallEffect). Carries (answer.AcquiresView a) kind e (record store { heap = space; views = views }) (given.Buffer held.Null)) (sym (view_is false (not_below store.views 64 over)))
+        (subst (λ (x : Store). Carries (answer.AcquiresView a) kind (gives_view false) x (given.Buffer held.Null)) (sym same_store)
+        (effected (answer.AcquiresView a) kind store (given.Buffer held.Null) shared s (BufferResult NoBuffer) refl refl refl (keeps_same store.heap shared)
+        (agrees_same p w store shared all h.store_agrees (beside others (beside (acquired_by s) nothing_acquired)) (beside_nothing others (acquired_by s))) (buffer, tt)))
+    viewed (held.Copy key) space views made = absurd made
+    viewed (held.View x) space views (below, here, pinned, more) =
         let count = pins_at store.heap a + 1 in
         let after : Store = record store { heap = with_pins store.heap a count; views = store.views + 1 } in
         let same_store : record store { heap = space; views = views } ≡ after = λ i. record store { heap = pinned i; views = more i } in
-        let next : Acquired = beside others (beside (acquired_by s) (acquired_of (View does.1.name))) in
-        let within = name_within store.heap shared.heap a does.1.name h.store_agrees.heap does.1.there in
-        subst (λ (e : CallEffect). Carries (answer.AcquiresView a) e (record store { heap = space; views = views }) (given.Buffer (held.View x))) (sym (view_is true (lt-ltb store.views 64 below)))
-        (subst (λ (x' : Store). Carries (answer.AcquiresView a) (gives_view true) x' (given.Buffer (held.View x))) (sym same_store)
-        (effected (answer.AcquiresView a) after (given.Buffer (held.View x)) shared s (BufferResult (View does.1.name)) refl refl refl (keeps_pinned p w store shared all h.store_agrees a count)
+        let next : Acquired = beside others (beside (acquired_by s) (acquired_of (View n))) in
+        let within = name_within store.heap shared.heap a n h.store_agrees.heap there in
+        subst (λ (e : CallEffect). Carries (answer.AcquiresView a) kind e (record store { heap = space; views = views }) (given.Buffer (held.View x))) (sym (view_is true (lt-ltb store.views 64 below)))
+        (subst (λ (x' : Store). Carries (answer.AcquiresView a) kind (gives_view true) x' (given.Buffer (held.View x))) (sym same_store)
+        (effected (answer.AcquiresView a) kind after (given.Buffer (held.View x)) shared s (BufferResult (View n)) refl refl refl (keeps_pinned p w store shared all h.store_agrees a count)
         (agrees_pinned p w store shared all h.store_agrees next a count (store.views + 1)
-        (taken_view store.heap store.elements store.views (length shared.heap) a does.1.name all next (beside_more others (acquired_by s) (View does.1.name)) h.store_agrees.heap.unique does.1.there within.1 h.store_agrees.buffers))
-        (does.0, subst (λ (y : ℕ). name_at (with_pins store.heap a count) y ≡ Some does.1.name) (sym here) (names_pinned store.heap a count a does.1.name does.1.there))))
+        (taken_view store.heap store.elements store.views (length shared.heap) a n all next (beside_more others (acquired_by s) (View n)) h.store_agrees.heap.unique there within.1 h.store_agrees.buffers))
+        (buffer, subst (λ (y : ℕ). name_at (with_pins store.heap a count) y ≡ Some n) (sym here) (names_pinned store.heap a count a n there))))
+
+  pub acquires_view : (a : ℕ) {kind : ResultKind} {effect : CallEffect} → Does (answer.AcquiresView a) kind effect → brought.in_use ≡ in_use_of all
+      → (b : Buffer) (space : Space) (views : ℕ) → MakesView a store.heap store.views b space views → Carries (answer.AcquiresView a) kind effect (record store { heap = space; views = views }) (given.Buffer b)
+  acquires_view a (row.acquires_view {kind = kind} n buffer there) uses b space views made = viewed a kind buffer n there uses b space views made
 
   -- ---- a release
 
-  module _ (r : Release) (effect : CallEffect) (does : Does (answer.Releases r) effect) (lists : brought.buffers.copies ≡ store.elements) (own : brought.buffers.owner ≡ owner) where
+  module _ (r : Release) (it : IsReleased brought store.heap shared s r) (lists : brought.buffers.copies ≡ store.elements) (own : brought.buffers.owner ≡ owner) where
     abbrev x : Identifier
-    x = does.1.variable
+    x = it.variable
 
     abbrev n : ℕ
-    n = does.1.name
+    n = it.name
 
     abbrev type : ElementType
-    type = does.1.holds.type
+    type = it.holds.type
 
     abbrev b : variable.Buffer
-    b = does.1.holds.buffer
+    b = it.holds.buffer
 
     abbrev at : lookup x s.variables ≡ Some (Elements type b)
-    at = does.1.holds.is
+    at = it.holds.is
 
     agrees : BufferAgrees store.heap store.elements owner r.held b
     agrees =
         subst (λ (l : List (Option OwnedNumbers)). BufferAgrees store.heap l owner r.held b) lists
         (subst (λ (o : ℕ). BufferAgrees store.heap brought.buffers.copies o r.held b) own
-        (subst (λ (y : Buffer). BufferAgrees store.heap brought.buffers.copies brought.buffers.owner y b) (sym does.1.held) does.1.holds.agrees))
+        (subst (λ (y : Buffer). BufferAgrees store.heap brought.buffers.copies brought.buffers.owner y b) (sym it.held) it.holds.agrees))
 
     -- what buffers take without it
     abbrev next : Acquired
@@ -198,7 +206,7 @@ module _ (p : Lowered) (w : World) (store : Store) (pending : Option ℕ) (local
     -- as many values in memory
     as_long : length (values_at store.heap r.object) ≡ length (values_of shared.heap n)
     as_long =
-        let block : Named store.heap shared.heap r.object n = named store.heap shared.heap r.object n h.store_agrees.heap does.1.there in
+        let block : Named store.heap shared.heap r.object n = named store.heap shared.heap r.object n h.store_agrees.heap it.there in
         let is : object_at shared.heap n ≡ Some block.agrees.object = ap (object_at shared.heap) (sym block.birth) ∙ block.agrees.is in
         ap (λ (o : Option Block). length (option_map_or (λ (c : Block). c.values) o [])) block.at
         ∙ agree_length store.heap block.block.values block.agrees.object.values block.agrees.values
@@ -232,7 +240,7 @@ module _ (p : Lowered) (w : World) (store : Store) (pending : Option ℕ) (local
     }
 
     back : copies_back r.mode ≡ true → Back r.held b
-    back e = back_of r.held b agrees (does.1.copy e)
+    back e = back_of r.held b agrees (it.copy e)
 
     pub can_copy_back : copies_back r.mode ≡ true → CanCopyBack store.elements r.object r.held store.heap
     can_copy_back e = (back e).can
@@ -252,7 +260,7 @@ module _ (p : Lowered) (w : World) (store : Store) (pending : Option ℕ) (local
             counted_view store.heap store.elements store.views (length shared.heap) y m next all (beside_freed others s x type (View m) there) h.store_agrees.heap.unique agree within.1 h.store_agrees.buffers
 
     pub slot_there : r.slot < length brought.buffers.slots
-    slot_there = slice_get_within brought.buffers.slots r.slot does.1.holds.held does.1.holds.there
+    slot_there = slice_get_within brought.buffers.slots r.slot it.holds.held it.holds.there
 
     -- ---- numbers go back
 
@@ -275,22 +283,22 @@ module _ (p : Lowered) (w : World) (store : Store) (pending : Option ℕ) (local
           keeps = subst (λ (space : Space). Keeps store.heap shared space shared) (sym same) (keeps_same store.heap shared);
         }
     backed true e =
-        let it = back e in
-        let words = map value.Number (map (cast_unsigned w32) it.zs) in
-        let same : space_back store.elements r store.heap ≡ written_back store.heap r.object it.zs = ap (λ (t : Bool). if t then copied_back store.elements r.object r.held store.heap else store.heap) e ∙ it.space in
-        let elements : copied_elements (lookup x s.variables) ≡ it.zs = ap copied_elements at ∙ it.elements in
-        let many : length (map Number it.zs) ≡ length (values_of shared.heap n) = length-map it.zs Number ∙ it.many in
+        let back_is = back e in
+        let words = map value.Number (map (cast_unsigned w32) back_is.zs) in
+        let same : space_back store.elements r store.heap ≡ written_back store.heap r.object back_is.zs = ap (λ (t : Bool). if t then copied_back store.elements r.object r.held store.heap else store.heap) e ∙ back_is.space in
+        let elements : copied_elements (lookup x s.variables) ≡ back_is.zs = ap copied_elements at ∙ back_is.elements in
+        let many : length (map Number back_is.zs) ≡ length (values_of shared.heap n) = length-map back_is.zs Number ∙ back_is.many in
         let keeps = λ (ws : List Value). length_overlaid ws 0 words in
         record {
           stands =
               subst (λ (space : Space). StoreAgrees p w (record store { heap = space }) (shared_back true) all) (sym same)
-              (subst (λ (zs : List ℤ). StoreAgrees p w (record store { heap = written_back store.heap r.object it.zs }) (record shared { heap = with_numbers shared.heap n zs }) all) (sym elements)
-              (values_agree p w store shared r.object (λ ws. overlaid ws 0 words) n (map Number it.zs) all h.store_agrees does.1.there keeps many
-              (λ ws agree. subst (λ (l : List Value). ValuesAgree store.heap l (map Number it.zs)) (sym (overlaid_whole ws words (whole it.zs ws agree it.many))) (words_agree store.heap it.zs it.fit))));
+              (subst (λ (zs : List ℤ). StoreAgrees p w (record store { heap = written_back store.heap r.object back_is.zs }) (record shared { heap = with_numbers shared.heap n zs }) all) (sym elements)
+              (values_agree p w store shared r.object (λ ws. overlaid ws 0 words) n (map Number back_is.zs) all h.store_agrees it.there keeps many
+              (λ ws agree. subst (λ (l : List Value). ValuesAgree store.heap l (map Number back_is.zs)) (sym (overlaid_whole ws words (whole back_is.zs ws agree back_is.many))) (words_agree store.heap back_is.zs back_is.fit))));
           keeps =
               subst (λ (space : Space). Keeps store.heap shared space (shared_back true)) (sym same)
-              (subst (λ (zs : List ℤ). Keeps store.heap shared (written_back store.heap r.object it.zs) (record shared { heap = with_numbers shared.heap n zs })) (sym elements)
-              (values_keep p w store shared r.object (λ ws. overlaid ws 0 words) n (map Number it.zs) all h.store_agrees does.1.there keeps many));
+              (subst (λ (zs : List ℤ). Keeps store.heap shared (written_back store.heap r.object back_is.zs) (record shared { heap = with_numbers shared.heap n zs })) (sym elements)
+              (values_keep p w store shared r.object (λ ws. overlaid ws 0 words) n (map Number back_is.zs) all h.store_agrees it.there keeps many));
         }
       where
         whole : (zs : List ℤ) (ws : List Value) → ValuesAgree store.heap ws (values_of shared.heap n) → length zs ≡ length (values_of shared.heap n) → length (map value.Number (map (cast_unsigned w32) zs)) ≡ length ws
@@ -354,14 +362,14 @@ module _ (p : Lowered) (w : World) (store : Store) (pending : Option ℕ) (local
       after = record store { heap = space; elements = elements; views = views }
 
       -- nothing is given
-      no_result : (z : Store) → ResultAgrees (unit_tree p.unit) w.classes z owner given.Nothing kind NoResult
-      no_result z = subst (λ (g : ResultKind). GivenAgrees (unit_tree p.unit) w.classes z.heap g given.Nothing NoResult) (sym does.0) tt
+      no_result : (z : Store) → ResultAgrees (unit_tree p.unit) w.classes z owner given.Nothing GivesNothing NoResult
+      no_result z = row.nothing
 
-      freed_as : (t : Bool) → copies_back r.mode ≡ t → (shared_back t).statics ≡ shared.statics → GivesUp r.held store_back.heap store.elements store.views space elements views → Carries (answer.Releases r) (Leaves [] (shared_back t) (with_freed s x) NoResult) after given.Nothing
+      freed_as : (t : Bool) → copies_back r.mode ≡ t → (shared_back t).statics ≡ shared.statics → GivesUp r.held store_back.heap store.elements store.views space elements views → Carries (answer.Releases r) GivesNothing (Leaves [] (shared_back t) (with_freed s x) NoResult) after given.Nothing
       freed_as t e statics gives =
           let first = backed t e in
           let second = given_up (shared_back t) first.stands first.keeps.names space elements views r.held b agrees at gives in
-          effected (answer.Releases r) after given.Nothing (shared_back t) (with_freed s x) NoResult refl refl statics
+          effected (answer.Releases r) GivesNothing after given.Nothing (shared_back t) (with_freed s x) NoResult refl refl statics
           (record {
             names = λ y m at'. second.names y m (first.keeps.names y m at');
             statics = first.keeps.statics;
@@ -373,19 +381,24 @@ module _ (p : Lowered) (w : World) (store : Store) (pending : Option ℕ) (local
           })
           second.stands (no_result after)
 
-      pub releases : MayGiveUp (gives_up r.mode) r.held store_back.heap store.elements store.views space elements views → Carries (answer.Releases r) effect after given.Nothing
-      releases gives = subst (λ (e : CallEffect). Carries (answer.Releases r) e after given.Nothing) (sym does.1.is) (by_mode does.1.mode does.1.coded)
+      given_back : MayGiveUp (gives_up r.mode) r.held store_back.heap store.elements store.views space elements views → Carries (answer.Releases r) GivesNothing (release_effect shared s n x it.mode) after given.Nothing
+      given_back gives = by_mode it.mode it.coded
         where
-          by_mode : (m : ReleaseMode) → r.mode ≡ mode_code m → Carries (answer.Releases r) (release_effect shared s n x m) after given.Nothing
+          by_mode : (m : ReleaseMode) → r.mode ≡ mode_code m → Carries (answer.Releases r) GivesNothing (release_effect shared s n x m) after given.Nothing
           by_mode CopyBackAndFree coded = freed_as true (ap copies_back coded) refl (subst (λ (t : Bool). MayGiveUp t r.held store_back.heap store.elements store.views space elements views) (ap gives_up coded) gives)
           by_mode FreeUncopied coded = freed_as false (ap copies_back coded) refl (subst (λ (t : Bool). MayGiveUp t r.held store_back.heap store.elements store.views space elements views) (ap gives_up coded) gives)
           by_mode CopyBack coded =
               let stays = subst (λ (t : Bool). MayGiveUp t r.held store_back.heap store.elements store.views space elements views) (ap gives_up coded) gives in
               let same : after ≡ store_back = λ i. record store { heap = stays.0 i; elements = stays.1 i; views = stays.2 i } in
               let first = backed true (ap copies_back coded) in
-              subst (λ (z : Store). Carries (answer.Releases r) (Leaves [] (shared_back true) s NoResult) z given.Nothing) (sym same)
-              (effected (answer.Releases r) store_back given.Nothing (shared_back true) s NoResult refl refl refl first.keeps
+              subst (λ (z : Store). Carries (answer.Releases r) GivesNothing (Leaves [] (shared_back true) s NoResult) z given.Nothing) (sym same)
+              (effected (answer.Releases r) GivesNothing store_back given.Nothing (shared_back true) s NoResult refl refl refl first.keeps
               (agrees_same p w store_back (shared_back true) all first.stands (beside others (beside (acquired_by s) nothing_acquired)) (beside_nothing others (acquired_by s))) (no_result store_back))
+
+  pub releases : (r : Release) {kind : ResultKind} {effect : CallEffect} → Does (answer.Releases r) kind effect → brought.buffers.copies ≡ store.elements → brought.buffers.owner ≡ owner
+      → (space : Space) (elements : List (Option OwnedNumbers)) (views : ℕ) → MayGiveUp (gives_up r.mode) r.held (space_back store.elements r store.heap) store.elements store.views space elements views
+      → Carries (answer.Releases r) kind effect (record store { heap = space; elements = elements; views = views }) given.Nothing
+  releases r (row.releases it) lists own space elements views gives = given_back r it lists own space elements views gives
 
 -- ---- other lists
 

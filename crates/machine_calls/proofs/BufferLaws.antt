@@ -19,6 +19,7 @@ use Rattle.machine_scenes.specs.declared.buffer.Buffer.{Buffer}
 use Rattle.machine_scenes.specs.declared.buffer.Buffer.TheVariants as held
 use Rattle.machine_scenes.specs.declared.buffer.Release.{Release}
 use Rattle.machine_answers.specs.Answers.{Brought, IsAnswer}
+use Rattle.machine_answers.specs.Answers as row
 use Rattle.machine_scenes.specs.Buffers.{BufferAgrees, BuffersAgree, KeepsCopies, gives_up}
 use Rattle.machine_calls.specs.CarriedOut.{CopiesStay, IsNewCopy, buffers_after}
 use Rattle.machine_scenes.proofs.KeyLaws.{set_cases}
@@ -151,10 +152,10 @@ buffer_put space copies k slots buffers i b c h new fresh = record {
 -- ---- other threads
 
 -- a release ends a list of its thread alone
-pub keeps_others : (classes : Classes) (brought : Brought) (space : Space) (locals : LocalTable) (kind : ResultKind) (s : Shared) (t : Thread) (a : Answer) (effect : CallEffect) (left : List (Option OwnedNumbers)) → IsAnswer classes brought space locals kind s t a effect
+pub keeps_others : {classes : Classes} {brought : Brought} {space : Space} {locals : LocalTable} {s : Shared} {t : Thread} {a : Answer} {kind : ResultKind} {effect : CallEffect} (left : List (Option OwnedNumbers)) → IsAnswer classes brought space locals s t a kind effect
     → CopiesStay a brought.buffers.copies left → KeepsCopies brought.buffers.owner brought.buffers.copies left
-keeps_others classes brought space locals kind s t (answer.Releases r) effect left does stay key c has other =
+keeps_others {brought = brought} {space = space} left (row.releases it) stay key c has other =
     stay key c has (λ up is.
-    let own = copy_there space brought.buffers.copies brought.buffers.owner does.1.holds.held does.1.holds.buffer key (sym does.1.held ∙ is) does.1.holds.agrees in
+    let own = copy_there space brought.buffers.copies brought.buffers.owner it.holds.held it.holds.buffer key (sym it.held ∙ is) it.holds.agrees in
     other (let both : Some c ≡ Some own.0 = sym has ∙ own.1 in let same : c ≡ own.0 = cc in ap (λ (l : OwnedNumbers). l.owner) same ∙ own.2))
-keeps_others classes brought space locals kind s t a effect left does stay key c has other = stay key c has tt
+keeps_others left does stay key c has other = stay key c has tt

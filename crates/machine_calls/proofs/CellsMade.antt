@@ -23,11 +23,11 @@ use Rattle.machine_answers.specs.declared.answer.Answer.TheVariants as answer
 use Rattle.machine_scenes.specs.declared.new_object.New.{New}
 use Rattle.machine_scenes.specs.declared.new_object.New.TheVariants.{Fresh, Text}
 use Rattle.machine_answers.specs.Answers.{Brought, IsAnswer}
+use Rattle.machine_answers.specs.Answers as row
 use Rattle.machine_calls.specs.CarriedOut.{takes_memory, is_of_references, made_by}
 use Rattle.machine_calls.specs.Made.{cells_of}
 use Rattle.machine_scenes.specs.NewObjects.{IsObject, cells_of_new, text_in, values_of_new}
 use Rattle.machine_calls.proofs.NewValues.{as_many}
-use Rattle.machine_calls.proofs.AnswerCases.{gives_it, makes_it, throws_it, writes_it, weak_deleted}
 
 -- no object takes no cell
 pub nothing_asked : (space : Space) → sizes [] ≤ left_of space
@@ -59,7 +59,7 @@ both_sizes classes texts space class place r =
       sum_by-cons size fresh [],
     )
 
-module _ (classes : Classes) (brought : Brought) (space : Space) (locals : LocalTable) (kind : ResultKind) (shared : Shared) (s : Thread) where
+module _ (classes : Classes) (brought : Brought) (space : Space) (locals : LocalTable) (shared : Shared) (s : Thread) where
   abbrev Cells : CallEffect → ℕ
   Cells effect = sizes (made_by classes effect)
 
@@ -81,35 +81,16 @@ module _ (classes : Classes) (brought : Brought) (space : Space) (locals : Local
       apart : (x y : ℕ) → (x == y) ≡ false → x ≡ y → ⊥
       apart x y other same = grind (arith, nat_tests, other, same)
 
-  pub cells_made : (a : Answer) (effect : CallEffect) → IsAnswer classes brought space locals kind shared s a effect → Cells effect ≡ cells_of classes brought.texts a
-  cells_made (answer.Gives g) effect does = ap Cells (gives_it classes brought space locals kind shared s g effect does).is
-  cells_made (answer.Writes a place v) effect does = ap Cells (writes_it classes brought space locals kind shared s a place v effect does).is
-  cells_made (answer.CopiesOut region) effect does = ap Cells does.1.is
-  cells_made (answer.CopiesIn region) effect does = ap Cells does.1.is
-  cells_made (answer.AcquiresCopy a) effect does = ap Cells does.1.is
-  cells_made (answer.AcquiresView a) effect does = ap Cells does.1.is
-  cells_made (answer.Releases r) effect does = ap Cells does.1.is ∙ of_release shared does.1.name does.1.variable does.1.mode
-  cells_made (answer.Makes new) effect does =
-      let it = makes_it classes brought space locals kind shared s new effect does in
-      ap Cells it.is ∙ described_size classes brought.texts space new it.object it.describes.object
-  cells_made (answer.Throws class) effect does = ap Cells (throws_it classes brought space locals kind shared s class effect does).is ∙ fresh_size classes brought.texts space class
-  cells_made (answer.Raises class place) effect does = ap Cells does.3 ∙ both_sizes classes brought.texts space class place (Some (next_name shared.heap))
-  cells_made (answer.Pends a g) effect does = ap Cells does.2.2
-  cells_made (answer.Halts trap) effect does = ap Cells does
-  cells_made (answer.Ensures more) effect does = ap Cells does.1 ∙ of_frames (with_capacity more s.frames)
-  cells_made (answer.Pushes capacity) effect does = ap Cells does.1 ∙ of_frames (record { capacity = capacity; references = [] } ∷ s.frames)
-  cells_made answer.RefusesFrames effect does = ap Cells does.1
-  cells_made (answer.Pops a) effect does = ap Cells does.1.2
-  cells_made (answer.Deletes key) effect does = ap Cells does.1.3
-  cells_made (answer.MakesGlobal a) effect does = ap Cells does.1.2
-  cells_made (answer.DeletesGlobal i) effect does = ap Cells does.1.3
-  cells_made (answer.MakesWeak a) effect does = ap Cells does.1.2
-  cells_made (answer.DeletesWeak i) effect does = ap Cells (does.1.3 ∙ weak_deleted shared s does.1.0 does.1.1 does.1.2.weak)
-  cells_made (answer.Enters o) effect does = ap Cells does.1.is ∙ of_enter brought.thread o.name (source.monitor_of shared.monitors o.name)
-  cells_made answer.Calls effect does = ap Cells does.2
-  cells_made (answer.Exits n) effect does =
-      let it = does.1 in
-      ap Cells (it.is ∙ ap (exit_effect brought.thread shared s n) it.owned) ∙ of_exit brought.thread n it.monitor it.own
+  pub cells_made : {a : Answer} {kind : ResultKind} {effect : CallEffect} → IsAnswer classes brought space locals shared s a kind effect → Cells effect ≡ cells_of classes brought.texts a
+  cells_made (row.makes {new = new} {o = o} it) = described_size classes brought.texts space new o it.object
+  cells_made (row.throws {class = class} makeable) = fresh_size classes brought.texts space class
+  cells_made (row.raises {class = class} {place = place} of_string makeable) = both_sizes classes brought.texts space class place (Some (next_name shared.heap))
+  cells_made (row.releases it) = of_release shared it.name it.variable it.mode
+  cells_made (row.ensures {more = more}) = of_frames (with_capacity more s.frames)
+  cells_made (row.pushes {capacity = capacity}) = of_frames (record { capacity = capacity; references = [] } ∷ s.frames)
+  cells_made (row.enters {o = o} it) = of_enter brought.thread o.name (source.monitor_of shared.monitors o.name)
+  cells_made (row.exits {n = n} it) = ap (λ (m : Option source.Monitor). Cells (exit_effect brought.thread shared s n m)) it.owned ∙ of_exit brought.thread n it.monitor it.own
+  cells_made does = refl
 
 -- what changes references or frames makes nothing
 pub references_free : (classes : Classes) (texts : List (List ℕ)) (a : Answer) → is_of_references a ≡ true → cells_of classes texts a ≡ 0

@@ -1,5 +1,5 @@
 -- What is carried out of monitors is what the source's call leaves.
-use Rattle.std.proofs.Common.{◌≡◌, ℕ, pos, ◌∷◌, false, List, Option, Some, refl, sym, ◌∙◌, subst, arith, inl, length, ◌+◌}
+use Rattle.std.proofs.Common.{◌≡◌, ℕ, pos, ◌∷◌, false, List, Option, Some, refl, sym, ap, ◌∙◌, subst, arith, inl, length, ◌+◌}
 use Rattle.std.specs.Prelude.{map}
 use Rattle.code_meaning.specs.Lowered.{Lowered}
 use Rattle.heap.proofs.Staying.{stays_same}
@@ -7,8 +7,7 @@ use Rattle.heap.specs.Heap.{Space}
 use Rattle.heap.specs.Layout.{layout_of}
 use Rattle.machine_scenes.proofs.ObjectExtents.{none_laid}
 use Rattle.jni.specs.Prototype.{ResultKind, GivesInt}
-use Rattle.syntax.specs.Views.{unit_tree}
-use Rattle.semantics.specs.CallEffects.{CallEffect, ScalarResult}
+use Rattle.semantics.specs.CallEffects.{CallEffect, ScalarResult, enter_effect, exit_effect}
 use Rattle.semantics.specs.Thread as source
 use Rattle.semantics.specs.Thread.{Shared, Thread}
 use Rattle.semantics.specs.Value.{Int}
@@ -29,7 +28,8 @@ use Rattle.machine_answers.specs.declared.answer.Answer.{Answer}
 use Rattle.machine_answers.specs.declared.answer.Answer.TheVariants as answer
 use Rattle.machine_answers.specs.declared.answer.Given.TheVariants as given
 use Rattle.machine_scenes.specs.declared.store.Store.{Store}
-use Rattle.machine_answers.specs.Answers.{Brought, GivenAgrees, IsAnswer, IsEntered, IsExited}
+use Rattle.machine_answers.specs.Answers.{Brought, IsAnswer, IsEntered, IsExited}
+use Rattle.machine_answers.specs.Answers as row
 use Rattle.machine_scenes.specs.Buffers.{Acquired, acquired_by, beside, nothing_acquired}
 use Rattle.machine_calls.specs.CarriedOut.{CarriesOut, IsPossible}
 use Rattle.machine_scenes.specs.StoreAgrees.{Keeps, StoreAgrees}
@@ -70,44 +70,44 @@ keeps_monitors space shared ss = record {
   few = omega arith;
 }
 
-module _ (p : Lowered) (w : World) (store : Store) (pending : Option ℕ) (locals : LocalTable) (kind : ResultKind) (others : Acquired) (k owner : ℕ) (shared : Shared) (s : Thread) (h : IsPossible p w store pending locals others shared s) (brought : Brought) (thread : brought.thread ≡ k) where
-  abbrev Does : Answer → CallEffect → Type 0
-  Does a effect = IsAnswer w.classes brought store.heap locals kind shared s a effect
+module _ (p : Lowered) (w : World) (store : Store) (pending : Option ℕ) (locals : LocalTable) (others : Acquired) (k owner : ℕ) (shared : Shared) (s : Thread) (h : IsPossible p w store pending locals others shared s) (brought : Brought) (thread : brought.thread ≡ k) where
+  abbrev Does : Answer → ResultKind → CallEffect → Type 0
+  Does a kind effect = IsAnswer w.classes brought store.heap locals shared s a kind effect
 
-  abbrev Carries : Answer → CallEffect → List Monitor → Type 0
-  Carries a effect ms = CarriesOut p w store.heap locals a kind others owner shared s effect false (record store { monitors = ms }) pending locals (given.Number 0)
+  abbrev Carries : Answer → ResultKind → CallEffect → List Monitor → Type 0
+  Carries a kind effect ms = CarriesOut p w store.heap locals a kind others owner shared s effect false (record store { monitors = ms }) pending locals (given.Number 0)
 
   -- other monitors, and 0 is given
-  changed : (a : Answer) (effect : CallEffect) (ms : List Monitor) → kind ≡ GivesInt → fit.Does effect shared s ms → AreThere store.heap ms → Carries a effect ms
-  changed a effect ms int does there =
+  changed : (a : Answer) (effect : CallEffect) (ms : List Monitor) → fit.Does effect shared s ms → AreThere store.heap ms → Carries a GivesInt effect ms
+  changed a effect ms does there =
       let after : Store = record store { monitors = ms } in
       let left_shared : Shared = record shared { monitors = does.monitors } in
       let all = beside others (acquired_by s) in
-      subst (λ (e : CallEffect). Carries a e ms) (sym does.is)
-      (effected p w store pending locals kind others owner shared s h brought a after (given.Number 0) left_shared s (ScalarResult (Int (pos 0))) refl refl refl (keeps_monitors store.heap shared does.monitors)
+      subst (λ (e : CallEffect). Carries a GivesInt e ms) (sym does.is)
+      (effected p w store pending locals others owner shared s h brought a GivesInt after (given.Number 0) left_shared s (ScalarResult (Int (pos 0))) refl refl refl (keeps_monitors store.heap shared does.monitors)
       (agrees_same p w after left_shared all (agrees_monitors p w store shared all h.store_agrees ms does.monitors does.agree there) (beside others (beside (acquired_by s) nothing_acquired)) (beside_nothing others (acquired_by s)))
-      (subst (λ (r : ResultKind). GivenAgrees (unit_tree p.unit) w.classes store.heap r (given.Number 0) (ScalarResult (Int (pos 0)))) (sym int) (refl, record { sfits = omega arith })))
+      (row.int refl (record { sfits = omega arith })))
 
   -- what `enter` ensures of the object that is entered
-  module _ (o : Object) (effect : CallEffect) (does : Does (answer.Enters o) effect) where
-    may : IsEntered k store.heap shared s o effect
-    may = subst (λ (j : ℕ). IsEntered j store.heap shared s o effect) thread does.1
-
-    pub enters : (came : Enter) (ms : List Monitor) → came ≡ entering k (monitor_of store.monitors o.name) → (came ≡ Entered → ChangesAt store.monitors ms o.name (Some (entered o k (monitor_of store.monitors o.name)))) → AreOf (o ∷ map object_of store.monitors) ms → Carries (answer.Enters o) effect ms
-    enters came ms is changes objects =
-        let agree = h.store_agrees.monitors in
-        let answer_is : Entered ≡ entering k (monitor_of store.monitors o.name) = enters_so k store.monitors shared.monitors agree o.name (record { own = may.own; few = may.few }) in
-        let it = fit.enters k shared s store.monitors agree ms o answer_is (changes (is ∙ sym answer_is)) in
-        changed (answer.Enters o) effect ms does.0 (record { monitors = it.monitors; is = may.is ∙ it.is; agree = it.agree }) (there_entered store.heap store.monitors ms o may.there h.store_agrees.monitored objects)
+  pub enters : (o : Object) {kind : ResultKind} {effect : CallEffect} → Does (answer.Enters o) kind effect → (came : Enter) (ms : List Monitor) → came ≡ entering k (monitor_of store.monitors o.name)
+      → (came ≡ Entered → ChangesAt store.monitors ms o.name (Some (entered o k (monitor_of store.monitors o.name)))) → AreOf (o ∷ map object_of store.monitors) ms → Carries (answer.Enters o) kind effect ms
+  enters o (row.enters it) came ms is changes objects =
+      let may = subst (λ (j : ℕ). IsEntered j store.heap shared o) thread it in
+      let agree = h.store_agrees.monitors in
+      let answer_is : Entered ≡ entering k (monitor_of store.monitors o.name) = enters_so k store.monitors shared.monitors agree o.name (record { own = may.own; few = may.few }) in
+      let done = fit.enters k shared s store.monitors agree ms o answer_is (changes (is ∙ sym answer_is)) in
+      changed (answer.Enters o) (enter_effect brought.thread shared s o.name (source.monitor_of shared.monitors o.name)) ms
+      (record { monitors = done.monitors; is = ap (λ (j : ℕ). enter_effect j shared s o.name (source.monitor_of shared.monitors o.name)) thread ∙ done.is; agree = done.agree })
+      (there_entered store.heap store.monitors ms o may.there h.store_agrees.monitored objects)
 
   -- what `exit` ensures of the object that is left
-  module _ (n : ℕ) (effect : CallEffect) (does : Does (answer.Exits n) effect) where
-    owned : IsExited k shared s n effect
-    owned = subst (λ (j : ℕ). IsExited j shared s n effect) thread does.1
-
-    pub exits : (came : Exit) (ms : List Monitor) → came ≡ leaving k (monitor_of store.monitors n) → (came ≡ Left → ChangesAt store.monitors ms n (left (monitor_of store.monitors n))) → AreOf (map object_of store.monitors) ms → Carries (answer.Exits n) effect ms
-    exits came ms is changes objects =
-        let agree = h.store_agrees.monitors in
-        let answer_is : Left ≡ leaving k (monitor_of store.monitors n) = leaves_so k store.monitors shared.monitors agree n (record { monitor = owned.monitor; owned = owned.owned; own = owned.own }) in
-        let it = fit.leaves k shared s store.monitors agree ms n answer_is (changes (is ∙ sym answer_is)) in
-        changed (answer.Exits n) effect ms does.0 (record { monitors = it.monitors; is = owned.is ∙ it.is; agree = it.agree }) (there_left store.heap store.monitors ms h.store_agrees.monitored objects)
+  pub exits : (n : ℕ) {kind : ResultKind} {effect : CallEffect} → Does (answer.Exits n) kind effect → (came : Exit) (ms : List Monitor) → came ≡ leaving k (monitor_of store.monitors n)
+      → (came ≡ Left → ChangesAt store.monitors ms n (left (monitor_of store.monitors n))) → AreOf (map object_of store.monitors) ms → Carries (answer.Exits n) kind effect ms
+  exits n (row.exits it) came ms is changes objects =
+      let owned = subst (λ (j : ℕ). IsExited j shared n) thread it in
+      let agree = h.store_agrees.monitors in
+      let answer_is : Left ≡ leaving k (monitor_of store.monitors n) = leaves_so k store.monitors shared.monitors agree n (record { monitor = owned.monitor; owned = owned.owned; own = owned.own }) in
+      let done = fit.leaves k shared s store.monitors agree ms n answer_is (changes (is ∙ sym answer_is)) in
+      changed (answer.Exits n) (exit_effect brought.thread shared s n (source.monitor_of shared.monitors n)) ms
+      (record { monitors = done.monitors; is = ap (λ (j : ℕ). exit_effect j shared s n (source.monitor_of shared.monitors n)) thread ∙ done.is; agree = done.agree })
+      (there_left store.heap store.monitors ms h.store_agrees.monitored objects)

@@ -247,7 +247,7 @@ HasAnswer w store pending activation call k owner a =
     × (effect : CallEffect) × IsPossible p w store pending activation.locals others shared s
     × IsAnswer w.classes (bringing (unit_tree p.unit) (texts_in call.texts.items) activation.slots.numbers.items
     (holding activation.slots.buffers.items store.elements owner) k (in_use_of (beside others (acquired_by s))) array)
-    store.heap activation.locals (result_value call.result) shared s a effect
+    store.heap activation.locals shared s a (result_value call.result) effect
 
 -- what carrying it out leaves is what the call does
 abbrev pub CarriesOutAnswer : World → (old store : Store) → (pending left : Option ℕ) → (before after : Activation) → Call
@@ -257,7 +257,7 @@ CarriesOutAnswer w old store pending left before after call k owner a carried =
     (effect : CallEffect) → IsPossible p w old pending before.locals others shared s
     → IsAnswer w.classes (bringing (unit_tree p.unit) (texts_in call.texts.items) before.slots.numbers.items
     (holding before.slots.buffers.items old.elements owner) k (in_use_of (beside others (acquired_by s))) array)
-    old.heap before.locals (result_value call.result) shared s a effect
+    old.heap before.locals shared s a (result_value call.result) effect
     → CarriesOut p w old.heap before.locals a (result_value call.result) others owner shared s effect
     carried.refused store left after.locals carried.given
 
@@ -266,7 +266,7 @@ abbrev pub HasAnswerOfBuffers : World → Store → (pending : Option ℕ) → L
 HasAnswerOfBuffers w store pending locals buffers k owner a =
     (p : Lowered) × (kind : ResultKind) × (brought : Brought) × (others : Acquired) × (shared : Shared) × (s : Thread)
     × (effect : CallEffect) × IsPossible p w store pending locals others shared s
-    × IsAnswer w.classes brought store.heap locals kind shared s a effect
+    × IsAnswer w.classes brought store.heap locals shared s a kind effect
     × (brought.buffers ≡ holding buffers store.elements owner) × (brought.in_use ≡ in_use_of (beside others (acquired_by s)))
     × (brought.thread ≡ k)
 
@@ -276,7 +276,7 @@ abbrev pub CarriesOutBuffers : World → (old store : Store) → (pending left :
 CarriesOutBuffers w old store pending left before locals buffers k owner a carried =
     (p : Lowered) (kind : ResultKind) (brought : Brought) (others : Acquired) (shared : Shared) (s : Thread)
     (effect : CallEffect) → IsPossible p w old pending before others shared s
-    → IsAnswer w.classes brought old.heap before kind shared s a effect
+    → IsAnswer w.classes brought old.heap before shared s a kind effect
     → brought.buffers ≡ holding buffers old.elements owner → brought.in_use ≡ in_use_of (beside others (acquired_by s))
     → brought.thread ≡ k → CarriesOut p w old.heap before a kind others owner shared s effect carried.refused store left locals carried.given
 
@@ -285,7 +285,7 @@ abbrev pub HasAnswerOfMonitors : World → Store → (pending : Option ℕ) → 
 HasAnswerOfMonitors w store pending locals k a =
     (p : Lowered) × (kind : ResultKind) × (brought : Brought) × (others : Acquired) × (shared : Shared) × (s : Thread)
     × (effect : CallEffect) × IsPossible p w store pending locals others shared s
-    × IsAnswer w.classes brought store.heap locals kind shared s a effect × (brought.thread ≡ k)
+    × IsAnswer w.classes brought store.heap locals shared s a kind effect × (brought.thread ≡ k)
 
 -- what carrying that out leaves is what the call does, whatever its number
 abbrev pub CarriesOutMonitors : World → (old store : Store) → (pending left : Option ℕ) → (before locals : LocalTable)
@@ -293,7 +293,7 @@ abbrev pub CarriesOutMonitors : World → (old store : Store) → (pending left 
 CarriesOutMonitors w old store pending left before locals k a carried =
     (p : Lowered) (kind : ResultKind) (brought : Brought) (others : Acquired) (owner : ℕ) (shared : Shared) (s : Thread)
     (effect : CallEffect) → IsPossible p w old pending before others shared s
-    → IsAnswer w.classes brought old.heap before kind shared s a effect → brought.thread ≡ k
+    → IsAnswer w.classes brought old.heap before shared s a kind effect → brought.thread ≡ k
     → CarriesOut p w old.heap before a kind others owner shared s effect carried.refused store left locals carried.given
 
 -- a call has an answer of references, and can be carried out
@@ -301,7 +301,7 @@ abbrev pub HasAnswerOfReferences : World → Store → (pending : Option ℕ) �
 HasAnswerOfReferences w store pending locals a =
     (p : Lowered) × (kind : ResultKind) × (brought : Brought) × (others : Acquired) × (shared : Shared) × (s : Thread)
     × (effect : CallEffect) × IsPossible p w store pending locals others shared s
-    × IsAnswer w.classes brought store.heap locals kind shared s a effect
+    × IsAnswer w.classes brought store.heap locals shared s a kind effect
 
 -- what carrying that out leaves is what the call does, whichever thread makes it and whatever its number
 abbrev pub CarriesOutReferences : World → (old store : Store) → (pending left : Option ℕ) → (before locals : LocalTable)
@@ -309,5 +309,5 @@ abbrev pub CarriesOutReferences : World → (old store : Store) → (pending lef
 CarriesOutReferences w old store pending left before locals a carried =
     (p : Lowered) (kind : ResultKind) (brought : Brought) (others : Acquired) (owner : ℕ) (shared : Shared) (s : Thread)
     (effect : CallEffect) → IsPossible p w old pending before others shared s
-    → IsAnswer w.classes brought old.heap before kind shared s a effect
+    → IsAnswer w.classes brought old.heap before shared s a kind effect
     → CarriesOut p w old.heap before a kind others owner shared s effect carried.refused store left locals carried.given

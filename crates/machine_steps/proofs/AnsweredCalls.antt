@@ -34,6 +34,7 @@ use Rattle.machine_steps.specs.Executes.{cells_made, in_use_with}
 use Rattle.machine_scenes.specs.Buffers.{Acquired}
 use Rattle.machine_steps.specs.Invoked.{AtCall, IsAnswered, is_halt}
 use Rattle.machine_answers.proofs.CallAnswers.{answers}
+use Rattle.machine_calls.proofs.AnswerCases.{halted as halted_so}
 use Rattle.machine_calls.proofs.CellsMade.{cells_made as cells_answered}
 use Rattle.machine_steps.proofs.AskedCalls.{CalledAs, called, effect_is, cells_wanted, r, held, possible, owned_key, trap_is}
 
@@ -98,9 +99,9 @@ module _ (p : Lowered) (w : World) (store : Store) (pending : Option ℕ) (call 
     pub kind_is : kind ≡ (prototype it.f).result
     kind_is = same ∙ ap (λ (f : JniFunction). (prototype f).result) it.asked.same_function
 
-    pub answered : IsAnswer w.classes brings store.heap call.locals kind shared s answer does
+    pub answered : IsAnswer w.classes brings store.heap call.locals shared s answer kind does
     answered =
-        subst (λ (x : ResultKind). IsAnswer w.classes brings store.heap call.locals x shared s answer does) (sym kind_is)
+        subst (λ (x : ResultKind). IsAnswer w.classes brings store.heap call.locals shared s answer x does) (sym kind_is)
         (answers p w store pending call (call_view function) others k owner shared s it.target given.sound it.args it.f it.asked free answer worked
         (owned_key p w store pending call function others k owner own shared s task rest h) (held p w store pending call function others k owner own shared s task rest h))
 
@@ -112,7 +113,7 @@ module _ (p : Lowered) (w : World) (store : Store) (pending : Option ℕ) (call 
     cells_asked =
         ap (λ (e : Effect). cells_made shared (after_effect (unit_tree p.unit) w.classes in_use k shared s rest e)) it.is
         ∙ cells_wanted p w store pending call function others k owner own shared s task rest h free
-        ∙ cells_answered w.classes brings store.heap call.locals kind shared s answer does answered
+        ∙ cells_answered w.classes brings store.heap call.locals shared s answered
 
 -- the machine is at a call that stops it, all checks being passed
 module _ (p : Lowered) (w : World) (store : Store) (pending : Option ℕ) (call : Activation) (function : Call) (others : Acquired) (k owner : ℕ) (own : Owners) (shared : Shared) (s : Thread) (task : Task) (rest : List Task) (h : AtCall p w store pending call function others k owner own shared s task rest) (trap : Trap) (halted : IsAnswered p w store pending call k function (answer.Halts trap)) where
@@ -121,4 +122,4 @@ module _ (p : Lowered) (w : World) (store : Store) (pending : Option ℕ) (call 
   halts =
       let it = called p w store pending call function others k owner own shared s task rest h in
       effect_is p w store pending call function others k owner own shared s task rest h (free p w store pending call function others k owner own shared s task rest h (answer.Halts trap) halted tt)
-      ∙ answered p w store pending call function others k owner own shared s task rest h (answer.Halts trap) halted tt (prototype it.f).result (ap (λ (f : JniFunction). (prototype f).result) (sym it.asked.same_function))
+      ∙ halted_so (answered p w store pending call function others k owner own shared s task rest h (answer.Halts trap) halted tt (prototype it.f).result (ap (λ (f : JniFunction). (prototype f).result) (sym it.asked.same_function)))

@@ -318,12 +318,12 @@ module _ (p : Lowered) (w : World) (store : Store) (pending : Option ℕ) (call 
     effect = call_effect (unit_tree p.unit) w.classes in_use k shared s called.args called.f
 
     abbrev Does : Type 0
-    Does = IsAnswer w.classes (brought_by (unit_tree p.unit) store call k owner in_use function called.args) store.heap call.locals kind shared s answer effect
+    Does = IsAnswer w.classes (brought_by (unit_tree p.unit) store call k owner in_use function called.args) store.heap call.locals shared s answer kind effect
 
     -- a function that gives a buffer leaves the variables as they were
     untold_same : (refused : Bool) → is_carried answer ≡ true → Does → IsBufferResult kind → variables_left refused s effect ≡ s.variables
     untold_same true runs does b = refl
-    untold_same false runs does b = by_answer (kept_or_copied w.classes (brought_by (unit_tree p.unit) store call k owner in_use function called.args) store.heap call.locals kind shared s answer effect runs does)
+    untold_same false runs does b = by_answer (kept_or_copied runs does)
       where
         by_answer : AreKept w.classes (brought_by (unit_tree p.unit) store call k owner in_use function called.args) store.heap call.locals kind shared s answer effect ⊎ (Copied w.classes (brought_by (unit_tree p.unit) store call k owner in_use function called.args) store.heap call.locals kind shared s answer effect ⊎ Released w.classes (brought_by (unit_tree p.unit) store call k owner in_use function called.args) store.heap call.locals kind shared s answer effect)
             → variables_left false s effect ≡ s.variables
@@ -392,7 +392,7 @@ module _ (p : Lowered) (w : World) (store : Store) (pending : Option ℕ) (call 
           (λ i key n level at_key owned is. carried.left key n level is (owners.left i key level at_key (subst (λ (l : List (Option ℕ)). slice_get l i ≡ Some (Some level)) (left_owners sound gave told_variables told_numbers slots left_shown count) owned))) in
           let ends = finishes p w store.heap store.elements store' others owner left_own shared next carried.keeps (record s { variables = told_variables }) (record call { slots = record call.slots { numbers = told_numbers; buffers = slots } }) h.code task rest ready_left called.line called.f called.args locals stacked
           (room_after p w store pending call in_memory others k owner own shared s task rest h free refused store' pending' locals g answer carried) keyed (left_buffered sound gave told_variables told_numbers slots left_shown count store' carried.keeps.names copies) told_viewed left carried.frames_agree q g gave untold refl told_taken carried.store_agrees carried.given_agrees
-          (λ b is. small_given w.classes (brought_by (unit_tree p.unit) store call k owner in_use function called.args) store.heap call.locals kind shared s answer effect refused b (gives_buffer (unit_tree p.unit) w.classes store' owner kind g gave b carried.given_agrees is) does is)
+          (λ b is. small_given refused b (gives_buffer (unit_tree p.unit) w.classes store' owner kind g gave b carried.given_agrees is) does is)
           (λ b j key is copy at. new_apart store.heap store.elements owner slots.items ready_left.meant.buffers b ready_left.holds.buffers (subst (IsNewCopy store.elements) is new_copy) j key copy at)
           carried.still function h.at called.left after statics function.target called.target
           (λ local x level old is at.
@@ -401,14 +401,14 @@ module _ (p : Lowered) (w : World) (store : Store) (pending : Option ℕ) (call 
           (left_free sound gave told_variables told_numbers slots left_shown count) refl (goes_left sound gave told_variables told_numbers slots left_shown count)
           (told_before function.target kind told g (record call { locals = locals; slots = record call.slots { numbers = numbers; buffers = slots } }) after received) put in
           let steps = step_leaves (unit_tree p.unit) w.classes in_use k shared s called.line called.target called.f called.args rest refused effect (effect_is p w store pending call in_memory others k owner own shared s task rest h free)
-          (stays_with w.classes (brought_by (unit_tree p.unit) store call k owner in_use function called.args) store.heap call.locals kind shared s answer effect runs does) carried.could_refuse in
+          (stays_with runs does) carried.could_refuse in
           subst (λ (e : Effect). GoesOn p w store (record store' { statics = statics }) others k owner own shared s rest after pending' e refused event.Quiet) (sym called.is) (record {
             next_shared = ends.now;
             next = going called.line called.f called.args ends.tasks s left q gave ends.variables;
             steps = stepped refused (going called.line called.f called.args ends.tasks s left q gave ends.variables) ends.now (◌∙◌ {c = source.Advances ends.now (going called.line called.f called.args ends.tasks s left q gave ends.variables) source.Quiet} steps ends.steps);
             store_agrees = ends.store_agrees;
             keeps = ends.keeps;
-            keeps_copies = keeps_others w.classes (brought_by (unit_tree p.unit) store call k owner in_use function called.args) store.heap call.locals kind shared s answer effect store'.elements does copies;
+            keeps_copies = keeps_others store'.elements does copies;
             work = ends.stands;
             pending_agrees = carried.pending_agrees;
             views = ends.views;

@@ -63,6 +63,7 @@ use Rattle.machine_scenes.specs.declared.buffer.Release.{Release}
 use Rattle.machine_scenes.specs.declared.store.Store.{Store}
 use Rattle.semantics.specs.declared.trap.Trap.TheVariants.{OutOfRange}
 use Rattle.machine_answers.specs.Answers.{IsAnswer, is_carried}
+use Rattle.machine_calls.proofs.AnswerCases.{as_answer, released}
 use Rattle.machine_answers.specs.Asked.{brought_by, buffers_of, references_of, scene_of}
 use Rattle.machine_scenes.specs.Buffers.{Acquired, AreViewed, BuffersAgree, gives_up}
 use Rattle.machine_calls.specs.CarriedOut.{LeavesCopy, ResultAgrees, buffers_after, result_after, slots_after, variables_left}
@@ -193,11 +194,6 @@ module _ (unit : SourceUnit) (classes : Classes) (store : Store) (k : ℕ) (kind
   plain_told g c untold plain = inl (record { numbers = untold_numbers g untold; variables = λ x vs. nothing_told x c vs plain })
 
   what_told : (g : Given) (c : CallResult) → ResultAgrees unit classes store k g kind c → Told g c
-  what_told given.Nothing c h = plain_told given.Nothing c tt (no_buffer unit classes store.heap kind given.Nothing c h)
-  what_told (given.Number word) c h = plain_told (given.Number word) c tt (no_buffer unit classes store.heap kind (given.Number word) c h)
-  what_told (given.Reference a) c h = plain_told (given.Reference a) c tt (no_buffer unit classes store.heap kind (given.Reference a) c h)
-  what_told (given.FieldId f) c h = plain_told (given.FieldId f) c tt (no_buffer unit classes store.heap kind (given.FieldId f) c h)
-  what_told (given.MethodId f) c h = plain_told (given.MethodId f) c tt (no_buffer unit classes store.heap kind (given.MethodId f) c h)
   what_told (given.Global s) c h = plain_told (given.Global s) c tt (plain_static kind c h.0)
   what_told (given.Buffer held.Null) NullResult h = plain_told (given.Buffer held.Null) NullResult tt tt
   what_told (given.Buffer held.Null) (BufferResult NoBuffer) h = inl (record { numbers = untold_numbers (given.Buffer held.Null) tt; variables = no_buffer_told })
@@ -217,6 +213,7 @@ module _ (unit : SourceUnit) (classes : Classes) (store : Store) (k : ℕ) (kind
   what_told (given.Buffer b) (FieldResult f) h = absurd h.1
   what_told (given.Buffer b) (MethodResult f) h = absurd h.1
   what_told (given.Buffer b) (WeakResult r) h = absurd h.1
+  what_told g c h = plain_told g c tt (no_buffer unit classes store.heap kind g c h)
 
 -- a flag is told
 module _ (code : Listing) (known : Known) (own : Owners) (shared : Shared) (s : source.Thread) (slots : Slots) (shows : Shows code known (visible_to own shared s) slots) (owned : HaveOwnSlots known) where
@@ -478,7 +475,7 @@ module _ (p : Lowered) (w : World) (store : Store) (pending : Option ℕ) (call 
         by_mode FreeUncopied coded does = with_these _ true (ap (variables_left false s) does) (ap gives_up coded) freed_here
 
     abbrev Does : Type 0
-    Does = IsAnswer w.classes (brought_by (unit_tree p.unit) store call k owner (in_use_with others s) function called.args) store.heap call.locals kind shared s answer effect
+    Does = IsAnswer w.classes (brought_by (unit_tree p.unit) store call k owner (in_use_with others s) function called.args) store.heap call.locals shared s answer kind effect
 
     abbrev WasCopied : Type 0
     WasCopied = Copied w.classes (brought_by (unit_tree p.unit) store call k owner (in_use_with others s) function called.args) store.heap call.locals kind shared s answer effect
@@ -495,7 +492,7 @@ module _ (p : Lowered) (w : World) (store : Store) (pending : Option ℕ) (call 
         let named = array_known h.code r.known call.place call.stack (slots_of call r.meant) (visible_to own shared s) function.operands called.args c.name c.array called.operands c.given in
         let few : length (words_of store.heap it.region) ≤ c.array.len =
         omega (arith, c.few, length-map (take it.region.count (drop it.region.start (values_at store.heap it.region.object))) word_in, length-take it.region.count (drop it.region.start (values_at store.heap it.region.object))) in
-        let variables : variables_left false s effect ≡ change c.name (begun_with c.numbers) s.variables = ap (variables_left false s) c.is in
+        let variables : variables_left false s effect ≡ change c.name (begun_with c.numbers) s.variables = ap (variables_left false s) it.left in
         let numbers : slots_after store.heap answer call.slots.numbers.items ≡ overlaid call.slots.numbers.items c.array.start (words_of store.heap it.region) =
         ap (λ (a : Answer). slots_after store.heap a call.slots.numbers.items) it.is ∙ ap (λ (i : ℕ). overlaid call.slots.numbers.items i (words_of store.heap it.region)) c.slot in
         let buffers : meant_after answer r.meant.buffers ≡ r.meant.buffers = ap (λ (a : Answer). meant_after a r.meant.buffers) it.is in
@@ -543,7 +540,7 @@ module _ (p : Lowered) (w : World) (store : Store) (pending : Option ℕ) (call 
         let few : length (words_of store.heap it.region) ≤ c.array.len =
         omega (arith, c.few, length-map (take it.region.count (drop it.region.start (values_at store.heap it.region.object))) word_in, length-take it.region.count (drop it.region.start (values_at store.heap it.region.object))) in
         same_viewed (variables_left false s effect) (buffers_after answer call.slots.buffers.items)
-        (ap (λ (e : CallEffect). taken_by (variables_left false s e)) c.is
+        (ap (λ (e : CallEffect). taken_by (variables_left false s e)) it.left
         ∙ copied_taken h.code r.known own_left shared s (left_slots call.slots.numbers.items r.meant.buffers) as_before c.name named.0 c.array named.1 (words_of store.heap it.region) c.numbers c.words few)
         (ap (λ (a : Answer). buffers_after a call.slots.buffers.items) it.is)
 
@@ -566,13 +563,13 @@ module _ (p : Lowered) (w : World) (store : Store) (pending : Option ℕ) (call 
     carried false could (inl kept) = record { views = same_viewed (variables_left false s effect) (buffers_after answer call.slots.buffers.items) (ap taken_by kept.0) (kept.2 call.slots.buffers.items); shows = same_shown _ _ _ kept.0 (kept.1 call.slots.numbers.items) (kept.3 r.meant.buffers); kept = inl kept.0 }
     carried true could (inl kept) = record { views = same_viewed s.variables (buffers_after answer call.slots.buffers.items) refl (kept.2 call.slots.buffers.items); shows = same_shown _ _ _ refl (kept.1 call.slots.numbers.items) (kept.3 r.meant.buffers); kept = inl refl }
     carried false could (inr (inl it)) = record { views = copied_viewed it; shows = copied_shown it; kept = inr it.nothing }
-    carried true could (inr (inl it)) = absurd (let e : false ≡ true = sym (ap makes_objects it.copied.is) ∙ could refl in cc)
+    carried true could (inr (inl it)) = absurd (let e : false ≡ true = sym (ap makes_objects it.left) ∙ could refl in cc)
     carried false could (inr (inr it)) = record { views = released_viewed it; shows = released_shown it; kept = inr it.nothing }
-    carried true could (inr (inr it)) = absurd (nothing_made it.released.name it.released.variable it.released.mode it.released.is (could refl))
+    carried true could (inr (inr it)) = absurd (nothing_made it.released.name it.released.variable it.released.mode it.left (could refl))
 
     -- each view in slots is one of a variable's
     pub views_left : (refused : Bool) → is_carried answer ≡ true → Does → (refused ≡ true → makes_objects effect ≡ true) → AreViewed store.heap (buffers_after answer call.slots.buffers.items) (record s { variables = variables_left refused s effect })
-    views_left refused runs does could = (carried refused could (kept_or_copied w.classes (brought_by (unit_tree p.unit) store call k owner (in_use_with others s) function called.args) store.heap call.locals kind shared s answer effect runs does)).views
+    views_left refused runs does could = (carried refused could (kept_or_copied runs does)).views
 
     -- ---- and once it is told
 
@@ -608,16 +605,16 @@ module _ (p : Lowered) (w : World) (store : Store) (pending : Option ℕ) (call 
 
     released_there : Does → (release : Release) → answer ≡ answers.Releases release → slice_get call.slots.buffers.items release.slot ≡ Some release.held
     released_there does release is =
-        let d = subst (λ (a : Answer). IsAnswer w.classes (brought_by (unit_tree p.unit) store call k owner (in_use_with others s) function called.args) store.heap call.locals kind shared s a effect) is does in
-        d.1.holds.there ∙ ap (λ (b : HeldBuffer). Some b) (sym d.1.held)
+        let d = released (as_answer is does) in
+        d.holds.there ∙ ap (λ (b : HeldBuffer). Some b) (sym d.held)
 
     pub shows_left : (refused : Bool) (after : Store) (g : Given) → is_carried answer ≡ true
-        → IsAnswer w.classes (brought_by (unit_tree p.unit) store call k owner (in_use_with others s) function called.args) store.heap call.locals kind shared s answer effect
+        → Does
         → (refused ≡ true → makes_objects effect ≡ true) → ResultAgrees (unit_tree p.unit) w.classes after owner g kind (result_after kind refused effect)
         → ShowsLeft (result_after kind refused effect) (tell_copy (address_given called.args 1) (result_after kind refused effect) (variables_left refused s effect))
         (told_with (told_slot (slice_get function.operands 1)) g (slots_after store.heap answer call.slots.numbers.items)) (buffers_after answer call.slots.buffers.items)
     shows_left refused after g runs does could agrees =
-        by_told (carried refused could (kept_or_copied w.classes (brought_by (unit_tree p.unit) store call k owner (in_use_with others s) function called.args) store.heap call.locals kind shared s answer effect runs does))
+        by_told (carried refused could (kept_or_copied runs does))
         (what_told (unit_tree p.unit) w.classes after owner kind g (result_after kind refused effect) agrees)
       where
         by_told : Carried (variables_left refused s effect) → Told (unit_tree p.unit) w.classes after owner kind g (result_after kind refused effect)

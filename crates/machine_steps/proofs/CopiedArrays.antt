@@ -24,7 +24,7 @@ use Rattle.code_meaning.specs.Slots.{Shows, ShowsElement, Slots, Visible, type_o
 use Rattle.code_meaning.proofs.SlotLaws.{fewer_shown, known_among, with_changed}
 use Rattle.code_meaning.proofs.StaticPlaces.{statics_stay}
 use Rattle.semantics.specs.Arguments.{Actual, VariableActual}
-use Rattle.semantics.specs.CallEffects.{CallEffect, begun_with, enter_effect, exit_effect, frames_effect, overwritten, refuses_frames, with_capacity}
+use Rattle.semantics.specs.CallEffects.{CallEffect, Leaves, NoResult, begun_with, enter_effect, exit_effect, frames_effect, overwritten, refuses_frames, release_effect, with_capacity}
 use Rattle.semantics.specs.Sight.{in_range}
 use Rattle.semantics.specs.Thread as source
 use Rattle.semantics.specs.Thread.{Shared}
@@ -36,12 +36,12 @@ use Rattle.machine_answers.specs.declared.answer.Answer.{Answer}
 use Rattle.machine_answers.specs.declared.answer.Answer.TheVariants as answers
 use Rattle.machine_scenes.specs.declared.array_region.ArrayRegion.{ArrayRegion}
 use Rattle.machine_answers.specs.Answers.{AreWordsOf, Brought, IsAnswer, IsCopiedOut, IsReleased, array_given, is_carried, named_array}
+use Rattle.machine_answers.specs.Answers as row
 use Rattle.machine_scenes.specs.Buffers.{gives_up}
 use Rattle.machine_calls.specs.CarriedOut.{buffers_after, slots_after, variables_left}
 use Rattle.machine_scenes.specs.declared.buffer.Buffer.{Buffer}
 use Rattle.machine_scenes.specs.declared.buffer.Release.{Release}
 use Rattle.machine_answers.specs.Copies.{overlaid}
-use Rattle.machine_calls.proofs.AnswerCases.{gives_it, makes_it, throws_it, writes_it, weak_deleted}
 use Rattle.machine_answers.proofs.Overlays.{get_outside, get_within, length_overlaid, overlaid_is}
 use Rattle.machine_steps.proofs.Arguments.{array_held}
 use Rattle.machine_steps.proofs.Changes.{change_is, element_of, found, others}
@@ -167,51 +167,39 @@ module _ (classes : Classes) (brought : Brought) (space : Space) (locals : Local
     pub region : ArrayRegion
     pub is : answer ≡ answers.CopiesOut region
     pub nothing : kind ≡ GivesNothing
-    pub copied : IsCopiedOut brought space shared s region effect
+    pub copied : IsCopiedOut brought space region
+    pub left : effect ≡ Leaves [] shared (record s { variables = change copied.name (begun_with copied.numbers) s.variables }) NoResult
 
   -- a buffer is released
   pub record Released (answer : Answer) (effect : CallEffect) : Type 0 where
     pub release : Release
     pub is : answer ≡ answers.Releases release
     pub nothing : kind ≡ GivesNothing
-    pub released : IsReleased brought space shared s release effect
+    pub released : IsReleased brought space shared s release
+    pub left : effect ≡ release_effect shared s released.name released.variable released.mode
 
   -- or the variables, the number slots and the buffers are as they were
   abbrev pub AreKept : Answer → CallEffect → Type 0
   AreKept answer effect =
       (variables_left false s effect ≡ s.variables) × ((numbers : List ℕ) → slots_after space answer numbers ≡ numbers) × ((buffers : List Buffer) → buffers_after answer buffers ≡ buffers) × ((buffers : List source_variable.Buffer) → meant_after answer buffers ≡ buffers)
 
-  of_frames : (frames : List source.Frame) → variables_left false s (frames_effect classes shared s frames) ≡ s.variables
-  of_frames frames = cond_both (nat_le (source.capacities frames) 1024) _ (refuses_frames classes shared s) (λ (e : CallEffect). variables_left false s e ≡ s.variables) (λ e. refl) (λ e. refl)
+of_frames : (classes : Classes) (shared : Shared) (s : source.Thread) (frames : List source.Frame) → variables_left false s (frames_effect classes shared s frames) ≡ s.variables
+of_frames classes shared s frames = cond_both (nat_le (source.capacities frames) 1024) _ (refuses_frames classes shared s) (λ (e : CallEffect). variables_left false s e ≡ s.variables) (λ e. refl) (λ e. refl)
 
-  of_enter : (k n : ℕ) (o : Option source.Monitor) → variables_left false s (enter_effect k shared s n o) ≡ s.variables
-  of_enter k n o = enter_cases k shared s n (λ (e : CallEffect). variables_left false s e ≡ s.variables) (λ monitors. refl) refl o
+of_enter : (shared : Shared) (s : source.Thread) (k n : ℕ) (o : Option source.Monitor) → variables_left false s (enter_effect k shared s n o) ≡ s.variables
+of_enter shared s k n o = enter_cases k shared s n (λ (e : CallEffect). variables_left false s e ≡ s.variables) (λ monitors. refl) refl o
 
-  of_exit : (k n : ℕ) (o : Option source.Monitor) → variables_left false s (exit_effect k shared s n o) ≡ s.variables
-  of_exit k n o = exit_cases k shared s n (λ (e : CallEffect). variables_left false s e ≡ s.variables) (λ monitors. refl) refl o
+of_exit : (shared : Shared) (s : source.Thread) (k n : ℕ) (o : Option source.Monitor) → variables_left false s (exit_effect k shared s n o) ≡ s.variables
+of_exit shared s k n o = exit_cases k shared s n (λ (e : CallEffect). variables_left false s e ≡ s.variables) (λ monitors. refl) refl o
 
-  pub kept_or_copied : (answer : Answer) (effect : CallEffect) → is_carried answer ≡ true → IsAnswer classes brought space locals kind shared s answer effect → AreKept answer effect ⊎ (Copied answer effect ⊎ Released answer effect)
-  kept_or_copied (answers.Gives g) effect runs h = inl (ap (variables_left false s) (gives_it classes brought space locals kind shared s g effect h).is, λ numbers. refl, λ buffers. refl, λ buffers. refl)
-  kept_or_copied (answers.Writes a place v) effect runs h = inl (ap (variables_left false s) (writes_it classes brought space locals kind shared s a place v effect h).is, λ numbers. refl, λ buffers. refl, λ buffers. refl)
-  kept_or_copied (answers.CopiesOut region) effect runs h = inr (inl (record { region = region; is = refl; nothing = h.0; copied = h.1 }))
-  kept_or_copied (answers.CopiesIn region) effect runs h = inl (ap (variables_left false s) h.1.is, λ numbers. refl, λ buffers. refl, λ buffers. refl)
-  kept_or_copied (answers.Makes new) effect runs h = inl (ap (variables_left false s) (makes_it classes brought space locals kind shared s new effect h).is, λ numbers. refl, λ buffers. refl, λ buffers. refl)
-  kept_or_copied (answers.Throws class) effect runs h = inl (ap (variables_left false s) (throws_it classes brought space locals kind shared s class effect h).is, λ numbers. refl, λ buffers. refl, λ buffers. refl)
-  kept_or_copied (answers.Raises class place) effect runs h = inl (ap (variables_left false s) h.3, λ numbers. refl, λ buffers. refl, λ buffers. refl)
-  kept_or_copied (answers.Pends a g) effect runs h = inl (ap (variables_left false s) h.2.2, λ numbers. refl, λ buffers. refl, λ buffers. refl)
-  kept_or_copied (answers.Halts trap) effect runs h = absurd (cc (runs))
-  kept_or_copied answers.Calls effect runs h = absurd (cc (runs))
-  kept_or_copied (answers.Ensures more) effect runs h = inl (ap (variables_left false s) h.1 ∙ of_frames (with_capacity more s.frames), λ numbers. refl, λ buffers. refl, λ buffers. refl)
-  kept_or_copied (answers.Pushes capacity) effect runs h = inl (ap (variables_left false s) h.1 ∙ of_frames (record { capacity = capacity; references = [] } ∷ s.frames), λ numbers. refl, λ buffers. refl, λ buffers. refl)
-  kept_or_copied answers.RefusesFrames effect runs h = inl (ap (variables_left false s) h.1, λ numbers. refl, λ buffers. refl, λ buffers. refl)
-  kept_or_copied (answers.Pops a) effect runs h = inl (ap (variables_left false s) h.1.2, λ numbers. refl, λ buffers. refl, λ buffers. refl)
-  kept_or_copied (answers.Deletes key) effect runs h = inl (ap (variables_left false s) h.1.3, λ numbers. refl, λ buffers. refl, λ buffers. refl)
-  kept_or_copied (answers.MakesGlobal a) effect runs h = inl (ap (variables_left false s) h.1.2, λ numbers. refl, λ buffers. refl, λ buffers. refl)
-  kept_or_copied (answers.DeletesGlobal i) effect runs h = inl (ap (variables_left false s) h.1.3, λ numbers. refl, λ buffers. refl, λ buffers. refl)
-  kept_or_copied (answers.MakesWeak a) effect runs h = inl (ap (variables_left false s) h.1.2, λ numbers. refl, λ buffers. refl, λ buffers. refl)
-  kept_or_copied (answers.DeletesWeak i) effect runs h = inl (ap (variables_left false s) (h.1.3 ∙ weak_deleted shared s h.1.0 h.1.1 h.1.2.weak), λ numbers. refl, λ buffers. refl, λ buffers. refl)
-  kept_or_copied (answers.AcquiresCopy a) effect runs h = inl (ap (variables_left false s) h.1.is, λ numbers. refl, λ buffers. refl, λ buffers. refl)
-  kept_or_copied (answers.AcquiresView a) effect runs h = inl (ap (variables_left false s) h.1.is, λ numbers. refl, λ buffers. refl, λ buffers. refl)
-  kept_or_copied (answers.Enters o) effect runs h = inl (ap (variables_left false s) h.1.is ∙ of_enter brought.thread o.name (source.monitor_of shared.monitors o.name), λ numbers. refl, λ buffers. refl, λ buffers. refl)
-  kept_or_copied (answers.Exits n) effect runs h = inl (ap (variables_left false s) h.1.is ∙ of_exit brought.thread n (source.monitor_of shared.monitors n), λ numbers. refl, λ buffers. refl, λ buffers. refl)
-  kept_or_copied (answers.Releases r) effect runs h = inr (inr (record { release = r; is = refl; nothing = h.0; released = h.1 }))
+pub kept_or_copied : {classes : Classes} {brought : Brought} {space : Space} {locals : LocalTable} {kind : ResultKind} {shared : Shared} {s : source.Thread} {answer : Answer} {effect : CallEffect} → is_carried answer ≡ true → IsAnswer classes brought space locals shared s answer kind effect
+    → AreKept classes brought space locals kind shared s answer effect ⊎ (Copied classes brought space locals kind shared s answer effect ⊎ Released classes brought space locals kind shared s answer effect)
+kept_or_copied runs (row.copies_out {region = region} it) = inr (inl (record { region = region; is = refl; nothing = refl; copied = it; left = refl }))
+kept_or_copied runs (row.releases {r = r} it) = inr (inr (record { release = r; is = refl; nothing = refl; released = it; left = refl }))
+kept_or_copied runs (row.calls function arguments) = absurd (cc (runs))
+kept_or_copied runs row.halts = absurd (cc (runs))
+kept_or_copied {classes = classes} {shared = shared} {s = s} runs (row.ensures {more = more}) = inl (of_frames classes shared s (with_capacity more s.frames), λ numbers. refl, λ buffers. refl, λ buffers. refl)
+kept_or_copied {classes = classes} {shared = shared} {s = s} runs (row.pushes {capacity = capacity}) = inl (of_frames classes shared s (record { capacity = capacity; references = [] } ∷ s.frames), λ numbers. refl, λ buffers. refl, λ buffers. refl)
+kept_or_copied {brought = brought} {shared = shared} {s = s} runs (row.enters {o = o} it) = inl (of_enter shared s brought.thread o.name (source.monitor_of shared.monitors o.name), λ numbers. refl, λ buffers. refl, λ buffers. refl)
+kept_or_copied {brought = brought} {shared = shared} {s = s} runs (row.exits {n = n} it) = inl (of_exit shared s brought.thread n (source.monitor_of shared.monitors n), λ numbers. refl, λ buffers. refl, λ buffers. refl)
+kept_or_copied runs does = inl (refl, λ numbers. refl, λ buffers. refl, λ buffers. refl)

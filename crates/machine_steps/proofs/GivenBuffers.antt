@@ -11,10 +11,10 @@ use Rattle.class_rules.specs.Class.{Classes}
 use Rattle.heap.specs.Heap.{Space}
 use Rattle.jni.specs.JniFunction.{JniFunction, GetBuffer, parameters_for, prototype}
 use Rattle.jni.specs.Access.{Access}
-use Rattle.jni.specs.Prototype.{ParameterKind, ArrayVariable, BufferVariable, IsCopy, owner, ResultKind, NewLocal, NewGlobal, NewWeak, GivesInt, GivesNothing, GivesBuffer}
+use Rattle.jni.specs.Prototype.{ParameterKind, ArrayVariable, BufferVariable, IsCopy, owner, ResultKind, GivesBuffer}
 use Rattle.base.specs.Bytes.{Identifier, lookup}
 use Rattle.semantics.specs.Arguments.{Actual, address_given, address_in_actual}
-use Rattle.semantics.specs.CallEffects.{CallEffect, CallResult, Enters, Halts, NoResult, NullResult, BufferResult, Throws, copy_effect, view_effect}
+use Rattle.semantics.specs.CallEffects.{CallEffect, CallResult, NoResult, NullResult, BufferResult}
 use Rattle.semantics.specs.CallStep.{tell_copy}
 use Rattle.semantics.specs.Heap.{numbers_of}
 use Rattle.semantics.specs.Task.{ScalarKind}
@@ -35,18 +35,16 @@ use Rattle.type_rules.specs.ExprTypes as ty
 use Rattle.semantics_safety.specs.Owners.{Owners}
 use Rattle.tables.specs.Locals.{LocalTable}
 use Rattle.machine_answers.specs.declared.answer.Answer.{Answer}
-use Rattle.machine_answers.specs.declared.answer.Answer.TheVariants as answers
 use Rattle.machine_answers.specs.declared.answer.Given.{Given}
 use Rattle.machine_scenes.specs.declared.store.Store.{Store}
 use Rattle.machine_answers.specs.Answers.{Brought, IsAnswer}
+use Rattle.machine_answers.specs.Answers as row
 use Rattle.machine_calls.specs.CarriedOut.{ResultAgrees, result_after}
-use Rattle.machine_calls.proofs.AnswerCases.{gives_it, makes_it, throws_it, writes_it}
 use Rattle.machine_threads.specs.SlotsHold.{IsSmallCopy}
 use Rattle.machine_steps.proofs.Acquisitions.{assigned_nothing, taken_by}
 use Rattle.machine_steps.proofs.Changes.{lookup_other, lookup_same}
 use Rattle.machine_steps.proofs.GivenResults.{plain_result}
 use Rattle.machine_steps.proofs.Receives.{IsNoBuffer}
-use Rattle.semantics.specs.EventViews.{trap_view}
 
 -- ---- what is told
 
@@ -150,45 +148,21 @@ small_view n views b = by_test (nat_lt views 64)
     by_test true is = let same : View n ≡ b = cc in subst IsSmallCopy same tt
     by_test false is = let same : NoBuffer ≡ b = cc in subst IsSmallCopy same tt
 
-module _ (classes : Classes) (brought : Brought) (space : Space) (locals : LocalTable) (access : Access) (shared : Shared) (s : source.Thread) (effect : CallEffect) (b : variable.Buffer) where
-  abbrev IsGiven : Answer → Type 0
-  IsGiven answer = IsAnswer classes brought space locals (GivesBuffer access) shared s answer effect
-
-  of_effect : (left : CallEffect) → effect ≡ left → result_after (GivesBuffer access) false effect ≡ BufferResult b → result_after (GivesBuffer access) false left ≡ BufferResult b
-  of_effect left is gave = ap (result_after (GivesBuffer access) false) (sym is) ∙ gave
-
-  small_answer : (answer : Answer) → IsGiven answer → result_after (GivesBuffer access) false effect ≡ BufferResult b → IsSmallCopy b
-  small_answer (answers.Gives g) h gave = absurd (gives_it classes brought space locals (GivesBuffer access) shared s g effect h).agrees
-  small_answer (answers.Writes a place v) h gave = absurd (let clash : GivesBuffer access ≡ GivesNothing = (writes_it classes brought space locals (GivesBuffer access) shared s a place v effect h).kind_is in cc)
-  small_answer (answers.CopiesOut region) h gave = absurd (let clash : GivesBuffer access ≡ GivesNothing = h.0 in cc)
-  small_answer (answers.CopiesIn region) h gave = absurd (let clash : GivesBuffer access ≡ GivesNothing = h.0 in cc)
-  small_answer (answers.Makes new) h gave = absurd (let clash : GivesBuffer access ≡ NewLocal = (makes_it classes brought space locals (GivesBuffer access) shared s new effect h).kind_is in cc)
-  small_answer (answers.Throws class) h gave = absurd (let clash : NullResult ≡ BufferResult b = of_effect (Throws class.number) (throws_it classes brought space locals (GivesBuffer access) shared s class effect h).is gave in cc)
-  small_answer (answers.Raises class place) h gave = absurd (let clash : GivesBuffer access ≡ GivesInt = h.0 in cc)
-  small_answer (answers.Pends a g) h gave = absurd h.2.1
-  small_answer (answers.Halts trap) h gave = absurd (let clash : NoResult ≡ BufferResult b = of_effect (Halts (trap_view trap)) h gave in cc)
-  small_answer answers.Calls h gave = absurd (let clash : NoResult ≡ BufferResult b = of_effect (Enters h.0 h.1) h.2 gave in cc)
-  small_answer (answers.Ensures more) h gave = absurd (let clash : GivesBuffer access ≡ GivesInt = h.0 in cc)
-  small_answer (answers.Pushes capacity) h gave = absurd (let clash : GivesBuffer access ≡ GivesInt = h.0 in cc)
-  small_answer answers.RefusesFrames h gave = absurd (let clash : GivesBuffer access ≡ GivesInt = h.0 in cc)
-  small_answer (answers.Pops a) h gave = absurd (let clash : GivesBuffer access ≡ NewLocal = h.0 in cc)
-  small_answer (answers.Deletes key) h gave = absurd (let clash : GivesBuffer access ≡ GivesNothing = h.0 in cc)
-  small_answer (answers.MakesGlobal a) h gave = absurd (let clash : GivesBuffer access ≡ NewGlobal = h.0 in cc)
-  small_answer (answers.DeletesGlobal i) h gave = absurd (let clash : GivesBuffer access ≡ GivesNothing = h.0 in cc)
-  small_answer (answers.MakesWeak a) h gave = absurd (let clash : GivesBuffer access ≡ NewWeak = h.0 in cc)
-  small_answer (answers.DeletesWeak i) h gave = absurd (let clash : GivesBuffer access ≡ GivesNothing = h.0 in cc)
-  small_answer (answers.AcquiresCopy a) h gave =
-      small_copy h.1.name (numbers_of shared.heap h.1.name) brought.in_use.copied b h.1.words.fit (of_effect (copy_effect brought.in_use shared s h.1.name (numbers_of shared.heap h.1.name)) h.1.is gave)
-  small_answer (answers.AcquiresView a) h gave = small_view h.1.name brought.in_use.views b (of_effect (view_effect brought.in_use shared s h.1.name) h.1.is gave)
-  small_answer (answers.Enters o) h gave = absurd (let clash : GivesBuffer access ≡ GivesInt = h.0 in cc)
-  small_answer (answers.Exits n) h gave = absurd (let clash : GivesBuffer access ≡ GivesInt = h.0 in cc)
-  small_answer (answers.Releases r) h gave = absurd (let clash : GivesBuffer access ≡ GivesNothing = h.0 in cc)
+module _ (classes : Classes) (brought : Brought) (space : Space) (locals : LocalTable) (access : Access) (shared : Shared) (s : source.Thread) (b : variable.Buffer) where
+  small_answer : {answer : Answer} {effect : CallEffect} → IsAnswer classes brought space locals shared s answer (GivesBuffer access) effect → result_after (GivesBuffer access) false effect ≡ BufferResult b → IsSmallCopy b
+  small_answer (row.gives agrees) gave = elim agrees [ ]
+  small_answer (row.pends r there agrees) gave = elim agrees [ ]
+  small_answer (row.throws makeable) gave = absurd (let clash : NullResult ≡ BufferResult b = gave in cc)
+  small_answer (row.calls function arguments) gave = absurd (let clash : NoResult ≡ BufferResult b = gave in cc)
+  small_answer row.halts gave = absurd (let clash : NoResult ≡ BufferResult b = gave in cc)
+  small_answer (row.acquires_copy buffer it) gave = small_copy it.name (numbers_of shared.heap it.name) brought.in_use.copied b it.words.fit gave
+  small_answer (row.acquires_view n buffer there) gave = small_view n brought.in_use.views b gave
 
 -- what is given is small
-pub small_given : (classes : Classes) (brought : Brought) (space : Space) (locals : LocalTable) (kind : ResultKind) (shared : Shared) (s : source.Thread) (answer : Answer) (effect : CallEffect) (refused : Bool) (b : variable.Buffer)
-    → IsBufferResult kind → IsAnswer classes brought space locals kind shared s answer effect → result_after kind refused effect ≡ BufferResult b → IsSmallCopy b
-small_given classes brought space locals kind shared s answer effect true b of_buffer h gave =
+pub small_given : {classes : Classes} {brought : Brought} {space : Space} {locals : LocalTable} {kind : ResultKind} {shared : Shared} {s : source.Thread} {answer : Answer} {effect : CallEffect} (refused : Bool) (b : variable.Buffer)
+    → IsBufferResult kind → IsAnswer classes brought space locals shared s answer kind effect → result_after kind refused effect ≡ BufferResult b → IsSmallCopy b
+small_given {effect = effect} true b of_buffer h gave =
     absurd (let clash : NullResult ≡ BufferResult b = ap (λ (k : ResultKind). result_after k true effect) (sym of_buffer.1) ∙ gave in cc)
-small_given classes brought space locals kind shared s answer effect false b of_buffer h gave =
-    small_answer classes brought space locals of_buffer.0 shared s effect b answer (subst (λ (k : ResultKind). IsAnswer classes brought space locals k shared s answer effect) of_buffer.1 h)
+small_given {classes = classes} {brought = brought} {space = space} {locals = locals} {shared = shared} {s = s} {answer = answer} {effect = effect} false b of_buffer h gave =
+    small_answer classes brought space locals of_buffer.0 shared s b (subst (λ (k : ResultKind). IsAnswer classes brought space locals shared s answer k effect) of_buffer.1 h)
     (ap (λ (k : ResultKind). result_after k false effect) (sym of_buffer.1) ∙ gave)

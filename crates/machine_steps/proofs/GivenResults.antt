@@ -14,7 +14,7 @@ use Rattle.semantics.specs.CallEffects.{CallResult, NoResult, NullResult, Scalar
 use Rattle.semantics.specs.CallStep.{filled, static_result}
 use Rattle.semantics.specs.Object.{Reference}
 use Rattle.semantics.specs.Thread as source
-use Rattle.semantics.specs.Value.{Value, Word, Int, Flag, Truth}
+use Rattle.semantics.specs.Value.{Value, Int, Flag}
 use Rattle.semantics.specs.Variable.{Buffer, NoBuffer, LocalRef, FieldHandle, MethodHandle, Elements}
 use Rattle.code_meaning.specs.Slots.{ValueHasType, word_of}
 use Rattle.code_meaning.specs.Stands.{IsBufferResult, IsStaticResult, number_type}
@@ -27,6 +27,7 @@ use Rattle.machine_scenes.specs.StoreAgrees.{HeldAgrees}
 use Rattle.machine_scenes.specs.Locals.{FramesAgree}
 use Rattle.tables.specs.Locals.{LocalTable, AreStacked}
 use Rattle.machine_answers.specs.Answers.{GivenAgrees}
+use Rattle.machine_answers.specs.Answers as row
 use Rattle.machine_calls.specs.CarriedOut.{IsForStatic, IsFresh, ResultAgrees, acquired_with}
 use Rattle.machine_scenes.specs.Buffers.{BufferAgrees, acquired_of, nothing_acquired}
 use Rattle.machine_scenes.specs.declared.buffer.Buffer.{Buffer as HeldBuffer}
@@ -70,89 +71,21 @@ pub record IsMethodId (unit : SourceUnit) (classes : Classes) (g : Given) (c : C
   pub fills : (old : Option MethodId) → filled (MethodHandle old) c ≡ MethodHandle method
 
 pub number_given : (unit : SourceUnit) (classes : Classes) (space : Space) (kind : ResultKind) (g : Given) (c : CallResult) (of : ExprType) → GivenAgrees unit classes space kind g c → number_type kind ≡ Some of → IsNumber g c of
-number_given unit classes space GivesInt (given.Number word) (ScalarResult (Int z)) of h e = record { value = Int z; gave = refl; same = ap given.Number h.0; well_typed = (h.1, let same : Jint ≡ of = cc in sym same) }
-number_given unit classes space GivesInt (given.Number word) (ScalarResult (Word n)) of h e = absurd h
-number_given unit classes space GivesInt (given.Number word) (ScalarResult (Flag b)) of h e = absurd h
-number_given unit classes space GivesInt (given.Number word) (ScalarResult (Truth b)) of h e = absurd h
-number_given unit classes space GivesInt (given.Number word) NoResult of h e = absurd h
-number_given unit classes space GivesInt (given.Number word) NullResult of h e = absurd h
-number_given unit classes space GivesInt (given.Number word) (ReferenceResult r) of h e = absurd h
-number_given unit classes space GivesInt (given.Number word) (FieldResult f) of h e = absurd h
-number_given unit classes space GivesInt (given.Number word) (MethodResult f) of h e = absurd h
-number_given unit classes space GivesInt (given.Number word) (WeakResult r) of h e = absurd h
-number_given unit classes space GivesInt (given.Number word) (BufferResult b) of h e = absurd h
-number_given unit classes space GivesInt given.Nothing c of h e = absurd h
-number_given unit classes space GivesInt (given.Reference a) c of h e = absurd h
-number_given unit classes space GivesInt (given.FieldId a) c of h e = absurd h
-number_given unit classes space GivesInt (given.MethodId a) c of h e = absurd h
-number_given unit classes space GivesInt (given.Global s) c of h e = absurd h
-number_given unit classes space GivesInt (given.Buffer b) c of h e = absurd h
-number_given unit classes space GivesFlag (given.Number word) (ScalarResult (Flag b)) of h e = record { value = Flag b; gave = refl; same = ap given.Number h; well_typed = let same : ty.Flag ≡ of = cc in sym same }
-number_given unit classes space GivesFlag (given.Number word) (ScalarResult (Word n)) of h e = absurd h
-number_given unit classes space GivesFlag (given.Number word) (ScalarResult (Int z)) of h e = absurd h
-number_given unit classes space GivesFlag (given.Number word) (ScalarResult (Truth b)) of h e = absurd h
-number_given unit classes space GivesFlag (given.Number word) NoResult of h e = absurd h
-number_given unit classes space GivesFlag (given.Number word) NullResult of h e = absurd h
-number_given unit classes space GivesFlag (given.Number word) (ReferenceResult r) of h e = absurd h
-number_given unit classes space GivesFlag (given.Number word) (FieldResult f) of h e = absurd h
-number_given unit classes space GivesFlag (given.Number word) (MethodResult f) of h e = absurd h
-number_given unit classes space GivesFlag (given.Number word) (WeakResult r) of h e = absurd h
-number_given unit classes space GivesFlag (given.Number word) (BufferResult b) of h e = absurd h
-number_given unit classes space GivesFlag given.Nothing c of h e = absurd h
-number_given unit classes space GivesFlag (given.Reference a) c of h e = absurd h
-number_given unit classes space GivesFlag (given.FieldId a) c of h e = absurd h
-number_given unit classes space GivesFlag (given.MethodId a) c of h e = absurd h
-number_given unit classes space GivesFlag (given.Global s) c of h e = absurd h
-number_given unit classes space GivesFlag (given.Buffer b) c of h e = absurd h
+number_given unit classes space kind g c of (row.int {z = z} is fits) e = record { value = Int z; gave = refl; same = ap given.Number is; well_typed = (fits, let same : Jint ≡ of = cc in sym same) }
+number_given unit classes space kind g c of (row.flag {b = b} is) e = record { value = Flag b; gave = refl; same = ap given.Number is; well_typed = let same : ty.Flag ≡ of = cc in sym same }
 number_given unit classes space kind g c of h e = absurd (cc)
 
 pub reference_given : (unit : SourceUnit) (classes : Classes) (space : Space) (g : Given) (c : CallResult) → GivenAgrees unit classes space NewLocal g c → IsReference space g c
-reference_given unit classes space (given.Reference a) (ReferenceResult r) h = record { address = a; reference = r; same = refl; agrees = h; fills = λ level old. refl }
-reference_given unit classes space (given.Reference a) NullResult h = record { address = a; reference = None; same = refl; agrees = subst (λ (o : Option ℕ). ReferenceAgrees space o None) (sym h) tt; fills = λ level old. refl }
-reference_given unit classes space (given.Reference a) NoResult h = absurd h
-reference_given unit classes space (given.Reference a) (ScalarResult v) h = absurd h
-reference_given unit classes space (given.Reference a) (FieldResult f) h = absurd h
-reference_given unit classes space (given.Reference a) (MethodResult f) h = absurd h
-reference_given unit classes space (given.Reference a) (WeakResult r) h = absurd h
-reference_given unit classes space (given.Reference a) (BufferResult b) h = absurd h
-reference_given unit classes space given.Nothing c h = absurd h
-reference_given unit classes space (given.Number word) c h = absurd h
-reference_given unit classes space (given.FieldId a) c h = absurd h
-reference_given unit classes space (given.MethodId a) c h = absurd h
-reference_given unit classes space (given.Global s) c h = absurd h
-reference_given unit classes space (given.Buffer b) c h = absurd h
+reference_given unit classes space g c (row.reference {a = a} {r = r} h) = record { address = a; reference = r; same = refl; agrees = h; fills = λ level old. refl }
+reference_given unit classes space g c row.null_reference = record { address = None; reference = None; same = refl; agrees = tt; fills = λ level old. refl }
 
 pub field_given : (unit : SourceUnit) (classes : Classes) (space : Space) (g : Given) (c : CallResult) → GivenAgrees unit classes space GivesField g c → IsField classes g c
-field_given unit classes space (given.FieldId a) (WeakResult r) h = absurd h
-field_given unit classes space (given.FieldId a) (FieldResult f) h = record { handle = a; field = f; same = refl; agrees = h; fills = λ old. refl }
-field_given unit classes space (given.FieldId a) NullResult h = record { handle = a; field = None; same = refl; agrees = subst (λ (o : Option FieldIn). FieldAgrees classes o None) (sym h) tt; fills = λ old. refl }
-field_given unit classes space (given.FieldId a) NoResult h = absurd h
-field_given unit classes space (given.FieldId a) (ScalarResult v) h = absurd h
-field_given unit classes space (given.FieldId a) (ReferenceResult r) h = absurd h
-field_given unit classes space (given.FieldId a) (BufferResult b) h = absurd h
-field_given unit classes space (given.FieldId a) (MethodResult f) h = absurd h
-field_given unit classes space given.Nothing c h = absurd h
-field_given unit classes space (given.MethodId a) c h = absurd h
-field_given unit classes space (given.Number word) c h = absurd h
-field_given unit classes space (given.Reference a) c h = absurd h
-field_given unit classes space (given.Global s) c h = absurd h
-field_given unit classes space (given.Buffer b) c h = absurd h
+field_given unit classes space g c (row.field {h = h} {f = f} agrees) = record { handle = h; field = f; same = refl; agrees = agrees; fills = λ old. refl }
+field_given unit classes space g c row.null_field = record { handle = None; field = None; same = refl; agrees = tt; fills = λ old. refl }
 
 pub method_given : (unit : SourceUnit) (classes : Classes) (space : Space) (g : Given) (c : CallResult) → GivenAgrees unit classes space GivesMethod g c → IsMethodId unit classes g c
-method_given unit classes space (given.MethodId a) (WeakResult r) h = absurd h
-method_given unit classes space (given.MethodId a) (MethodResult f) h = record { handle = a; method = f; same = refl; agrees = h; fills = λ old. refl }
-method_given unit classes space (given.MethodId a) NullResult h = record { handle = a; method = None; same = refl; agrees = subst (λ (o : Option MethodIn). MethodAgrees unit classes o None) (sym h) tt; fills = λ old. refl }
-method_given unit classes space (given.MethodId a) NoResult h = absurd h
-method_given unit classes space (given.MethodId a) (ScalarResult v) h = absurd h
-method_given unit classes space (given.MethodId a) (ReferenceResult r) h = absurd h
-method_given unit classes space (given.MethodId a) (BufferResult b) h = absurd h
-method_given unit classes space (given.MethodId a) (FieldResult f) h = absurd h
-method_given unit classes space given.Nothing c h = absurd h
-method_given unit classes space (given.FieldId a) c h = absurd h
-method_given unit classes space (given.Number word) c h = absurd h
-method_given unit classes space (given.Reference a) c h = absurd h
-method_given unit classes space (given.Global s) c h = absurd h
-method_given unit classes space (given.Buffer b) c h = absurd h
+method_given unit classes space g c (row.method {h = h} {m = m} agrees) = record { handle = h; method = m; same = refl; agrees = agrees; fills = λ old. refl }
+method_given unit classes space g c row.null_method = record { handle = None; method = None; same = refl; agrees = tt; fills = λ old. refl }
 
 -- what a static takes
 pub record IsGlobal (store : Store) (g : Given) (c : CallResult) : Type 0 where
@@ -161,22 +94,15 @@ pub record IsGlobal (store : Store) (g : Given) (c : CallResult) : Type 0 where
   pub agrees : HeldAgrees store.heap (held_of store.globals store.weaks held) (static_result c)
   pub fresh : IsFresh store held
 
+-- nothing else goes into one
+no_static : {unit : SourceUnit} {classes : Classes} {space : Space} {kind : ResultKind} {g : Given} {c : CallResult} → GivenAgrees unit classes space kind g c → IsStaticResult kind → ⊥
+no_static row.nothing goes = goes
+no_static h goes = goes
+
 pub static_given : (unit : SourceUnit) (classes : Classes) (store : Store) (k : ℕ) (kind : ResultKind) (g : Given) (c : CallResult) → IsStaticResult kind → ResultAgrees unit classes store k g kind c → IsGlobal store g c
-static_given unit classes store k NewGlobal (given.Global s) c goes h = record { held = s; same = refl; agrees = h.1; fresh = h.2 }
-static_given unit classes store k NewGlobal given.Nothing c goes h = absurd h
-static_given unit classes store k NewGlobal (given.Number word) c goes h = absurd h
-static_given unit classes store k NewGlobal (given.Reference a) c goes h = absurd h
-static_given unit classes store k NewGlobal (given.FieldId f) c goes h = absurd h
-static_given unit classes store k NewGlobal (given.MethodId f) c goes h = absurd h
-static_given unit classes store k NewGlobal (given.Buffer b) c goes h = absurd (let e = h.0.1 in cc)
-static_given unit classes store k NewWeak (given.Global s) c goes h = record { held = s; same = refl; agrees = h.1; fresh = h.2 }
-static_given unit classes store k NewWeak given.Nothing c goes h = absurd h
-static_given unit classes store k NewWeak (given.Number word) c goes h = absurd h
-static_given unit classes store k NewWeak (given.Reference a) c goes h = absurd h
-static_given unit classes store k NewWeak (given.FieldId f) c goes h = absurd h
-static_given unit classes store k NewWeak (given.MethodId f) c goes h = absurd h
-static_given unit classes store k NewWeak (given.Buffer b) c goes h = absurd (let e = h.0.1 in cc)
-static_given unit classes store k kind g c goes h = absurd goes
+static_given unit classes store k kind (given.Global s) c goes h = record { held = s; same = refl; agrees = h.1; fresh = h.2 }
+static_given unit classes store k kind (given.Buffer b) c goes h = absurd (subst IsStaticResult h.0.1 goes)
+static_given unit classes store k kind g c goes h = absurd (no_static h goes)
 
 -- what is given for a static is of a function whose result goes into one
 for_static : (kind : ResultKind) (c : CallResult) → IsForStatic kind c → IsStaticResult kind
@@ -198,23 +124,15 @@ no_number kind s is goes = goes
 
 -- what any other target takes
 pub other_given : (unit : SourceUnit) (classes : Classes) (store : Store) (k : ℕ) (kind : ResultKind) (g : Given) (c : CallResult) → (IsStaticResult kind → ⊥) → (IsBufferResult kind → ⊥) → ResultAgrees unit classes store k g kind c → GivenAgrees unit classes store.heap kind g c
-other_given unit classes store k kind given.Nothing c other no_buffer h = h
-other_given unit classes store k kind (given.Number word) c other no_buffer h = h
-other_given unit classes store k kind (given.Reference a) c other no_buffer h = h
-other_given unit classes store k kind (given.FieldId f) c other no_buffer h = h
-other_given unit classes store k kind (given.MethodId f) c other no_buffer h = h
 other_given unit classes store k kind (given.Global s) c other no_buffer h = absurd (other (for_static kind c h.0))
 other_given unit classes store k kind (given.Buffer b) c other no_buffer h = absurd (no_buffer h.0)
+other_given unit classes store k kind g c other no_buffer h = h
 
 -- what is no buffer
 pub plain_result : (unit : SourceUnit) (classes : Classes) (store : Store) (k : ℕ) (kind : ResultKind) (g : Given) (c : CallResult) → (IsBufferResult kind → ⊥) → ResultAgrees unit classes store k g kind c → IsNoBuffer c
-plain_result unit classes store k kind given.Nothing c other h = no_buffer unit classes store.heap kind given.Nothing c h
-plain_result unit classes store k kind (given.Number word) c other h = no_buffer unit classes store.heap kind (given.Number word) c h
-plain_result unit classes store k kind (given.Reference a) c other h = no_buffer unit classes store.heap kind (given.Reference a) c h
-plain_result unit classes store k kind (given.FieldId f) c other h = no_buffer unit classes store.heap kind (given.FieldId f) c h
-plain_result unit classes store k kind (given.MethodId f) c other h = no_buffer unit classes store.heap kind (given.MethodId f) c h
 plain_result unit classes store k kind (given.Global s) c other h = plain_static kind c h.0
 plain_result unit classes store k kind (given.Buffer b) c other h = absurd (other h.0)
+plain_result unit classes store k kind g c other h = no_buffer unit classes store.heap kind g c h
 
 -- it takes nothing
 pub nothing_with : (c : CallResult) → IsNoBuffer c → acquired_with c ≡ nothing_acquired
@@ -247,19 +165,10 @@ buffer_given unit classes store k access (given.Buffer h) (ReferenceResult r) sm
 buffer_given unit classes store k access (given.Buffer h) (FieldResult f) small agrees = absurd agrees.1
 buffer_given unit classes store k access (given.Buffer h) (MethodResult f) small agrees = absurd agrees.1
 buffer_given unit classes store k access (given.Buffer h) (WeakResult r) small agrees = absurd agrees.1
-buffer_given unit classes store k access given.Nothing c small agrees = absurd agrees
-buffer_given unit classes store k access (given.Number word) c small agrees = absurd agrees
-buffer_given unit classes store k access (given.Reference a) c small agrees = absurd agrees
-buffer_given unit classes store k access (given.FieldId f) c small agrees = absurd agrees
-buffer_given unit classes store k access (given.MethodId f) c small agrees = absurd agrees
 buffer_given unit classes store k access (given.Global s) c small agrees = absurd agrees.0
+buffer_given unit classes store k access g c small agrees = elim agrees [ ]
 
 pub frames_result : (unit : SourceUnit) (classes : Classes) (store : Store) (k : ℕ) (kind : ResultKind) (g : Given) (c : CallResult) (locals after : LocalTable) (key : Option ℕ) (gs : List source.Frame) → AreStacked locals → ResultAgrees unit classes store k g kind c → MakesLocal kind g locals key after → FramesAgree store.heap locals gs → FramesAgree store.heap after (frames_received kind c gs)
-frames_result unit classes store k kind given.Nothing c locals after key gs stacked h makes agree = frames_agree store.heap unit classes kind given.Nothing c locals key after gs stacked h makes agree
-frames_result unit classes store k kind (given.Number word) c locals after key gs stacked h makes agree = frames_agree store.heap unit classes kind (given.Number word) c locals key after gs stacked h makes agree
-frames_result unit classes store k kind (given.Reference a) c locals after key gs stacked h makes agree = frames_agree store.heap unit classes kind (given.Reference a) c locals key after gs stacked h makes agree
-frames_result unit classes store k kind (given.FieldId f) c locals after key gs stacked h makes agree = frames_agree store.heap unit classes kind (given.FieldId f) c locals key after gs stacked h makes agree
-frames_result unit classes store k kind (given.MethodId f) c locals after key gs stacked h makes agree = frames_agree store.heap unit classes kind (given.MethodId f) c locals key after gs stacked h makes agree
 frames_result unit classes store k kind (given.Global s) c locals after key gs stacked h makes agree =
     static_frames kind (for_static kind c h.0) makes
   where
@@ -270,3 +179,4 @@ frames_result unit classes store k kind (given.Global s) c locals after key gs s
 frames_result unit classes store k kind (given.Buffer b) c locals after key gs stacked h makes agree =
     subst (λ (k : ResultKind). FramesAgree store.heap after (frames_received k c gs)) (sym h.0.1)
     (subst (λ (t : LocalTable). FramesAgree store.heap t gs) (sym (subst (λ (k : ResultKind). MakesLocal k (given.Buffer b) locals key after) h.0.1 makes).1) agree)
+frames_result unit classes store k kind g c locals after key gs stacked h makes agree = frames_agree store.heap unit classes kind g c locals key after gs stacked h makes agree

@@ -7,6 +7,7 @@ use Rattle.code_meaning.specs.Lowered.{Lowered}
 use Rattle.jni.specs.JniFunction.{JniFunction, calls_method, prototype}
 use Rattle.machine_answers.proofs.CallAnswers.{answers}
 use Rattle.machine_answers.specs.Answers.{IsAnswer}
+use Rattle.machine_calls.proofs.AnswerCases.{called as called_so}
 use Rattle.machine_answers.specs.Asked.{brought_by, scene_of}
 use Rattle.machine_answers.proofs.TrapsSeen.{is_too_deep, with_depth}
 use Rattle.machine_answers.specs.WorkedOut.{IsWorkedOut}
@@ -63,10 +64,11 @@ module _ (p : Lowered) (w : World) (store : Store) (pending : Option ℕ) (call 
   method_is true is = is
   method_is false is =
       let free = trap_now ∙ ap (λ (m : Bool). with_depth (m && nat_le 64 (length s.callers + 1)) None) is in
-      let a : IsAnswer w.classes (brought_by (unit_tree p.unit) store call k owner (in_use_with others s) (call_view function) it.args) store.heap call.locals (prototype it.f).result shared s answer.Calls (call_effect (unit_tree p.unit) w.classes (in_use_with others s) k shared s it.args it.f) =
+      let a : IsAnswer w.classes (brought_by (unit_tree p.unit) store call k owner (in_use_with others s) (call_view function) it.args) store.heap call.locals shared s answer.Calls (prototype it.f).result (call_effect (unit_tree p.unit) w.classes (in_use_with others s) k shared s it.args it.f) =
       answers p w store pending call (call_view function) others k owner shared s it.target given.sound it.args it.f it.asked free answer.Calls worked
       (owned_key p w store pending call function others k owner own shared s task rest h) (held p w store pending call function others k owner own shared s task rest h) in
-      absurd (none_entered is free a.0 a.1 a.2)
+      let entered = called_so a in
+      absurd (none_entered is free entered.0 entered.1 entered.2)
 
   -- it is of a function that calls methods
   pub calls_one : calls_method it.f ≡ true

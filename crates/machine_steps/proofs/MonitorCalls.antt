@@ -54,8 +54,8 @@ statics_stay t word statics = refl
 
 -- What is done is what the source's call leaves.
 module _ (p : Lowered) (w : World) (store : Store) (pending : Option ℕ) (locals : LocalTable) (kind : ResultKind) (others : Acquired) (k owner : ℕ) (shared : Shared) (s : Thread) (h : IsPossible p w store pending locals others shared s) (brought : Brought) (thread : brought.thread ≡ k) (effect : CallEffect) where
-  pub carries : (a : Answer) → changes_monitor a ≡ true → IsAnswer w.classes brought store.heap locals kind shared s a effect → (ms : List Monitor) → Changes k a store.monitors ms
+  pub carries : (a : Answer) → changes_monitor a ≡ true → IsAnswer w.classes brought store.heap locals shared s a kind effect → (ms : List Monitor) → Changes k a store.monitors ms
       → CarriesOut p w store.heap locals a kind others owner shared s effect false (record store { monitors = ms }) pending locals (given.Number 0)
-  carries (answer.Enters o) is does ms left = monitors.enters p w store pending locals kind others k owner shared s h brought thread o effect does left.0 ms left.1 left.2 left.3
-  carries (answer.Exits n) is does ms left = monitors.exits p w store pending locals kind others k owner shared s h brought thread n effect does left.0 ms left.1 left.2 left.3
+  carries (answer.Enters o) is does ms left = monitors.enters p w store pending locals others k owner shared s h brought thread o does left.0 ms left.1 left.2 left.3
+  carries (answer.Exits n) is does ms left = monitors.exits p w store pending locals others k owner shared s h brought thread n does left.0 ms left.1 left.2 left.3
   carries a is does ms left = absurd (let clash : false ≡ true = is in cc)

@@ -17,7 +17,6 @@ use Rattle.semantics.specs.CallStep.{received, tell_copy}
 use Rattle.semantics.specs.Thread as source
 use Rattle.semantics.specs.Variable.{Variables}
 use Rattle.machine_answers.specs.declared.answer.Given.{Given}
-use Rattle.machine_answers.specs.declared.answer.Given.TheVariants as given
 use Rattle.machine_scenes.specs.FieldIds.{FieldAgrees, HandleAgrees, HandlesAgree, MethodAgrees}
 use Rattle.machine_scenes.specs.declared.handle.Handle.{Handle}
 use Rattle.machine_scenes.specs.declared.handle.Handle.TheVariants as handle
@@ -25,6 +24,7 @@ use Rattle.machine_scenes.specs.declared.handle.MethodHandle.{MethodHandle}
 use Rattle.code_meaning.specs.Slots as meant
 use Rattle.machine_scenes.specs.Locals.{FramesAgree}
 use Rattle.machine_answers.specs.Answers.{GivenAgrees}
+use Rattle.machine_answers.specs.Answers as row
 use Rattle.machine_steps.specs.Received.{MakesLocal}
 use Rattle.machine_scenes.proofs.LocalFrames.{reference_made}
 use Rattle.tables.specs.Locals.{AreStacked, LocalTable}
@@ -57,58 +57,8 @@ plain_static (GivesBuffer a) (BufferResult b) h = h
 
 -- nothing that is given is a buffer
 pub no_buffer : (unit : SourceUnit) (classes : Classes) (space : Space) (kind : ResultKind) (g : Given) (c : CallResult) → GivenAgrees unit classes space kind g c → IsNoBuffer c
-no_buffer unit classes space kind g NoResult h = tt
-no_buffer unit classes space kind g NullResult h = tt
-no_buffer unit classes space kind g (ScalarResult v) h = tt
-no_buffer unit classes space kind g (ReferenceResult r) h = tt
-no_buffer unit classes space kind g (FieldResult f) h = tt
-no_buffer unit classes space kind g (MethodResult f) h = tt
-no_buffer unit classes space kind g (WeakResult r) h = tt
-no_buffer unit classes space NewGlobal g (BufferResult b) h = h
-no_buffer unit classes space NewWeak g (BufferResult b) h = h
-no_buffer unit classes space (GivesBuffer a) g (BufferResult b) h = h
-no_buffer unit classes space NewLocal given.Nothing (BufferResult b) h = h
-no_buffer unit classes space NewLocal (given.Number n) (BufferResult b) h = h
-no_buffer unit classes space NewLocal (given.Reference a) (BufferResult b) h = h
-no_buffer unit classes space NewLocal (given.FieldId a) (BufferResult b) h = h
-no_buffer unit classes space NewLocal (given.MethodId a) (BufferResult b) h = h
-no_buffer unit classes space NewLocal (given.Global s) (BufferResult b) h = h
-no_buffer unit classes space NewLocal (given.Buffer held) (BufferResult b) h = h
-no_buffer unit classes space GivesFlag given.Nothing (BufferResult b) h = h
-no_buffer unit classes space GivesFlag (given.Number n) (BufferResult b) h = h
-no_buffer unit classes space GivesFlag (given.Reference a) (BufferResult b) h = h
-no_buffer unit classes space GivesFlag (given.FieldId a) (BufferResult b) h = h
-no_buffer unit classes space GivesFlag (given.MethodId a) (BufferResult b) h = h
-no_buffer unit classes space GivesFlag (given.Global s) (BufferResult b) h = h
-no_buffer unit classes space GivesFlag (given.Buffer held) (BufferResult b) h = h
-no_buffer unit classes space GivesInt given.Nothing (BufferResult b) h = h
-no_buffer unit classes space GivesInt (given.Number n) (BufferResult b) h = h
-no_buffer unit classes space GivesInt (given.Reference a) (BufferResult b) h = h
-no_buffer unit classes space GivesInt (given.FieldId a) (BufferResult b) h = h
-no_buffer unit classes space GivesInt (given.MethodId a) (BufferResult b) h = h
-no_buffer unit classes space GivesInt (given.Global s) (BufferResult b) h = h
-no_buffer unit classes space GivesInt (given.Buffer held) (BufferResult b) h = h
-no_buffer unit classes space GivesField given.Nothing (BufferResult b) h = h
-no_buffer unit classes space GivesMethod given.Nothing (BufferResult b) h = h
-no_buffer unit classes space GivesField (given.Number n) (BufferResult b) h = h
-no_buffer unit classes space GivesMethod (given.Number n) (BufferResult b) h = h
-no_buffer unit classes space GivesField (given.Reference a) (BufferResult b) h = h
-no_buffer unit classes space GivesMethod (given.Reference a) (BufferResult b) h = h
-no_buffer unit classes space GivesField (given.FieldId a) (BufferResult b) h = h
-no_buffer unit classes space GivesField (given.MethodId a) (BufferResult b) h = h
-no_buffer unit classes space GivesMethod (given.MethodId a) (BufferResult b) h = h
-no_buffer unit classes space GivesMethod (given.FieldId a) (BufferResult b) h = h
-no_buffer unit classes space GivesField (given.Global s) (BufferResult b) h = h
-no_buffer unit classes space GivesMethod (given.Global s) (BufferResult b) h = h
-no_buffer unit classes space GivesField (given.Buffer held) (BufferResult b) h = h
-no_buffer unit classes space GivesMethod (given.Buffer held) (BufferResult b) h = h
-no_buffer unit classes space GivesNothing given.Nothing (BufferResult b) h = h
-no_buffer unit classes space GivesNothing (given.Number n) (BufferResult b) h = h
-no_buffer unit classes space GivesNothing (given.Reference a) (BufferResult b) h = h
-no_buffer unit classes space GivesNothing (given.FieldId a) (BufferResult b) h = h
-no_buffer unit classes space GivesNothing (given.MethodId a) (BufferResult b) h = h
-no_buffer unit classes space GivesNothing (given.Global s) (BufferResult b) h = h
-no_buffer unit classes space GivesNothing (given.Buffer held) (BufferResult b) h = h
+no_buffer unit classes space kind g c row.nothing = tt
+no_buffer unit classes space kind g c h = tt
 
 -- so nothing is told of a copy
 pub nothing_told : (x : Option Identifier) (c : CallResult) (variables : Variables) → IsNoBuffer c → tell_copy x c variables ≡ variables
@@ -177,38 +127,10 @@ module _ (space : Space) where
   -- the frames with what was given
   pub frames_agree : (unit : SourceUnit) (classes : Classes) (kind : ResultKind) (g : Given) (c : CallResult) (locals : LocalTable) (key : Option ℕ) (after : LocalTable) (gs : List source.Frame) → AreStacked locals → GivenAgrees unit classes space kind g c → MakesLocal kind g locals key after
       → FramesAgree space locals gs → FramesAgree space after (frames_received kind c gs)
-  frames_agree unit classes NewLocal (given.Reference (Some a)) (ReferenceResult (Some n)) locals key after gs stacked h makes agree = reference_made space locals after gs makes.0 a n stacked makes.2 h agree
-  frames_agree unit classes NewLocal (given.Reference (Some a)) (ReferenceResult None) locals key after gs stacked h makes agree = absurd h
-  frames_agree unit classes NewLocal (given.Reference (Some a)) NullResult locals key after gs stacked h makes agree = absurd (cc)
-  frames_agree unit classes NewLocal (given.Reference (Some a)) NoResult locals key after gs stacked h makes agree = absurd h
-  frames_agree unit classes NewLocal (given.Reference (Some a)) (ScalarResult v) locals key after gs stacked h makes agree = absurd h
-  frames_agree unit classes NewLocal (given.Reference (Some a)) (FieldResult f) locals key after gs stacked h makes agree = absurd h
-  frames_agree unit classes NewLocal (given.Reference (Some a)) (MethodResult f) locals key after gs stacked h makes agree = absurd h
-  frames_agree unit classes NewLocal (given.Reference (Some a)) (WeakResult r) locals key after gs stacked h makes agree = absurd h
-  frames_agree unit classes NewLocal (given.Reference (Some a)) (BufferResult b) locals key after gs stacked h makes agree = absurd h
-  frames_agree unit classes NewLocal (given.Reference None) (ReferenceResult (Some n)) locals key after gs stacked h makes agree = absurd h
-  frames_agree unit classes NewLocal (given.Reference None) (ReferenceResult None) locals key after gs stacked h makes agree = same_table locals after gs makes.1 agree
-  frames_agree unit classes NewLocal (given.Reference None) NullResult locals key after gs stacked h makes agree = same_table locals after gs makes.1 agree
-  frames_agree unit classes NewLocal (given.Reference None) NoResult locals key after gs stacked h makes agree = same_table locals after gs makes.1 agree
-  frames_agree unit classes NewLocal (given.Reference None) (ScalarResult v) locals key after gs stacked h makes agree = same_table locals after gs makes.1 agree
-  frames_agree unit classes NewLocal (given.Reference None) (FieldResult f) locals key after gs stacked h makes agree = same_table locals after gs makes.1 agree
-  frames_agree unit classes NewLocal (given.Reference None) (MethodResult f) locals key after gs stacked h makes agree = same_table locals after gs makes.1 agree
-  frames_agree unit classes NewLocal (given.Reference None) (WeakResult r) locals key after gs stacked h makes agree = same_table locals after gs makes.1 agree
-  frames_agree unit classes NewLocal (given.Reference None) (BufferResult b) locals key after gs stacked h makes agree = same_table locals after gs makes.1 agree
-  frames_agree unit classes NewLocal given.Nothing c locals key after gs stacked h makes agree = absurd h
-  frames_agree unit classes NewLocal (given.Number n) c locals key after gs stacked h makes agree = absurd h
-  frames_agree unit classes NewLocal (given.FieldId f) c locals key after gs stacked h makes agree = absurd h
-  frames_agree unit classes NewLocal (given.MethodId f) c locals key after gs stacked h makes agree = absurd h
-  frames_agree unit classes NewLocal (given.Global s) c locals key after gs stacked h makes agree = absurd h
-  frames_agree unit classes NewLocal (given.Buffer b) c locals key after gs stacked h makes agree = absurd h
-  frames_agree unit classes NewGlobal g c locals key after gs stacked h makes agree = same_table locals after gs makes.1 agree
-  frames_agree unit classes NewWeak g c locals key after gs stacked h makes agree = same_table locals after gs makes.1 agree
-  frames_agree unit classes GivesFlag g c locals key after gs stacked h makes agree = same_table locals after gs makes.1 agree
-  frames_agree unit classes GivesInt g c locals key after gs stacked h makes agree = same_table locals after gs makes.1 agree
-  frames_agree unit classes GivesField g c locals key after gs stacked h makes agree = same_table locals after gs makes.1 agree
-  frames_agree unit classes GivesMethod g c locals key after gs stacked h makes agree = same_table locals after gs makes.1 agree
-  frames_agree unit classes GivesNothing g c locals key after gs stacked h makes agree = same_table locals after gs makes.1 agree
-  frames_agree unit classes (GivesBuffer x) g c locals key after gs stacked h makes agree = same_table locals after gs makes.1 agree
+  frames_agree unit classes kind g c locals key after gs stacked (row.reference {a = Some a} {r = Some n} h) makes agree = reference_made space locals after gs makes.0 a n stacked makes.2 h agree
+  frames_agree unit classes kind g c locals key after gs stacked (row.reference {a = Some a} {r = None} h) makes agree = absurd h
+  frames_agree unit classes kind g c locals key after gs stacked (row.reference {a = None} {r = Some n} h) makes agree = absurd h
+  frames_agree unit classes kind g c locals key after gs stacked h makes agree = same_table locals after gs makes.1 agree
 
 -- a handle of a field, and one of a method, as slots hold them
 pub field_handle : (unit : SourceUnit) (classes : Classes) (h : Option FieldHandle) (f : Option FieldId) → FieldAgrees classes h f → HandleAgrees unit classes (option_map handle.Field h) (option_map OfField f)

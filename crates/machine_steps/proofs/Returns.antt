@@ -38,6 +38,7 @@ use Rattle.code_meaning.specs.Stands.{IsBufferResult, IsStaticResult}
 use Rattle.code_meaning.proofs.BufferLaws.{sees_buffers}
 use Rattle.tables.specs.Elements.{OwnedNumbers}
 use Rattle.machine_answers.specs.declared.answer.Given.{Given}
+use Rattle.machine_answers.specs.Answers as row
 use Rattle.machine_calls.specs.CarriedOut.{ResultAgrees, acquired_with}
 use Rattle.machine_scenes.specs.Buffers.{Acquired, SameAcquired, acquired_by, beside, nothing_acquired}
 use Rattle.machine_scenes.specs.HeapAgrees.{ReferenceAgrees, times}
@@ -77,22 +78,22 @@ use Rattle.machine_steps.proofs.Threads.{calls_of_world, calls_to_come, none_due
 back_agrees : (unit : SourceUnit) (classes : Classes) (store : Store) (owner : ℕ) (a : Option ℕ) (r : Reference) (kind : ResultKind) (v : ReturnValue) (c : CallResult) → IsMethodResult kind → ReferenceAgrees store.heap a r → ReturnAgrees store.heap v c → ResultAgrees unit classes store owner (given_back a kind v) kind (activation.given_back r kind c)
 back_agrees unit classes store owner None (Some n) kind v c m pends h = absurd pends
 back_agrees unit classes store owner (Some a) None kind v c m pends h = absurd pends
-back_agrees unit classes store owner None None NewLocal (value.Reference a) (ReferenceResult r) m pends h = h
+back_agrees unit classes store owner None None NewLocal (value.Reference a) (ReferenceResult r) m pends h = row.reference h
 back_agrees unit classes store owner None None NewLocal (value.Reference a) c m pends h = absurd h
-back_agrees unit classes store owner None None NewLocal (value.Number word) (ScalarResult (Int z)) m pends h = refl
+back_agrees unit classes store owner None None NewLocal (value.Number word) (ScalarResult (Int z)) m pends h = row.null_reference
 back_agrees unit classes store owner None None NewLocal (value.Number word) c m pends h = absurd h
-back_agrees unit classes store owner None None NewLocal value.Nothing NoResult m pends h = refl
+back_agrees unit classes store owner None None NewLocal value.Nothing NoResult m pends h = row.null_reference
 back_agrees unit classes store owner None None NewLocal value.Nothing c m pends h = absurd h
-back_agrees unit classes store owner None None GivesInt (value.Number word) (ScalarResult (Int z)) m pends h = h
+back_agrees unit classes store owner None None GivesInt (value.Number word) (ScalarResult (Int z)) m pends h = row.int h.0 h.1
 back_agrees unit classes store owner None None GivesInt (value.Number word) c m pends h = absurd h
-back_agrees unit classes store owner None None GivesInt (value.Reference a) (ReferenceResult r) m pends h = (refl, record { sfits = omega arith })
+back_agrees unit classes store owner None None GivesInt (value.Reference a) (ReferenceResult r) m pends h = row.int refl (record { sfits = omega arith })
 back_agrees unit classes store owner None None GivesInt (value.Reference a) c m pends h = absurd h
-back_agrees unit classes store owner None None GivesInt value.Nothing NoResult m pends h = (refl, record { sfits = omega arith })
+back_agrees unit classes store owner None None GivesInt value.Nothing NoResult m pends h = row.int refl (record { sfits = omega arith })
 back_agrees unit classes store owner None None GivesInt value.Nothing c m pends h = absurd h
-back_agrees unit classes store owner None None GivesNothing v c m pends h = tt
-back_agrees unit classes store owner (Some a) (Some n) NewLocal v c m pends h = refl
-back_agrees unit classes store owner (Some a) (Some n) GivesInt v c m pends h = (refl, record { sfits = omega arith })
-back_agrees unit classes store owner (Some a) (Some n) GivesNothing v c m pends h = tt
+back_agrees unit classes store owner None None GivesNothing v c m pends h = row.nothing
+back_agrees unit classes store owner (Some a) (Some n) NewLocal v c m pends h = row.null_reference
+back_agrees unit classes store owner (Some a) (Some n) GivesInt v c m pends h = row.int refl (record { sfits = omega arith })
+back_agrees unit classes store owner (Some a) (Some n) GivesNothing v c m pends h = row.nothing
 back_agrees unit classes store owner a r NewGlobal v c m pends h = absurd m
 back_agrees unit classes store owner a r NewWeak v c m pends h = absurd m
 back_agrees unit classes store owner a r GivesFlag v c m pends h = absurd m

@@ -27,7 +27,7 @@ use Rattle.machine_scenes.specs.declared.store.Store.{Store}
 use Rattle.base.specs.Bytes.{Identifier}
 use Rattle.code.specs.declared.instr.LocalArray.{LocalArray}
 use Rattle.machine_scenes.specs.declared.buffer.Buffer.{Buffer}
-use Rattle.machine_answers.specs.Answers.{Brought, IsAnswer, bringing}
+use Rattle.machine_answers.specs.Answers.{Brought, bringing}
 use Rattle.machine_answers.specs.Copies.{space_with}
 use Rattle.machine_scenes.specs.Buffers.{Acquired, acquired_by, beside, holding, in_use_of}
 use Rattle.machine_calls.specs.CarriedOut.{CarriesOut, failed}
@@ -37,7 +37,7 @@ use Rattle.machine_calls.specs.Made.{HasMade, Makes, Raises}
 use Rattle.machine_scenes.specs.declared.new_object.New.{New}
 use Rattle.machine_scenes.specs.declared.new_object.New.TheVariants.{Fresh}
 use Rattle.machine_scenes.specs.NewObjects.{cells_of_new, class_of_new, texts_in}
-use Rattle.machine_calls.proofs.AnswerCases.{gives_it, makes_it, throws_it}
+use Rattle.machine_calls.proofs.AnswerCases.{as_answer, copied_in, copied_out, gave, made, pending, raised, thrown, written}
 use Rattle.machine_calls.proofs.Barriers as barriers
 use Rattle.machine_calls.proofs.Makes.{refers_there}
 use Rattle.machine_calls.specs.Barrier.{noted_at, reference_given}
@@ -76,33 +76,35 @@ module _ (p : Lowered) (w : World) (space : Space) (before : LocalTable) (a : An
 pub make-requires-clause-class : goal.make-requires-clause-class
 make-requires-clause-class c =
     let r = c.requires.possible in
-    let w = c.args.world.now in
-    let kind = result_value c.args.call.now.result in
-    let texts = texts_in c.args.call.now.texts.items in
-    let brought = brings (unit_tree r.0.unit) texts c.args.activation.now.slots.numbers.items c.args.activation.now.slots.buffers.items c.args.store.now c.args.thread c.args.owner r.2 r.4 r.1 in
-    small w (class_of_new c.in-Makes.new) c.threads.ensures.sound
-    (makes_it w.classes brought c.args.store.now.heap c.args.activation.now.locals kind r.3 r.4 c.in-Makes.new r.5 (subst (λ (a : Answer). IsAnswer w.classes brought c.args.store.now.heap c.args.activation.now.locals kind r.3 r.4 a r.5) c.in-Makes.is r.7)).describes.makeable.high
+    small c.args.world.now (class_of_new c.in-Makes.new) c.threads.ensures.sound (made (as_answer c.in-Makes.is r.7)).1.makeable.high
 
 -- what a new object is to refer to is there
 pub make-requires-clause-there : goal.make-requires-clause-there
 make-requires-clause-there c =
     let r = c.requires.possible in
-    let w = c.args.world.now in
-    let kind = result_value c.args.call.now.result in
-    let space = c.args.store.now.heap in
-    let brought = brings (unit_tree r.0.unit) (texts_in c.args.call.now.texts.items) c.args.activation.now.slots.numbers.items c.args.activation.now.slots.buffers.items c.args.store.now c.args.thread c.args.owner r.2 r.4 r.1 in
-    let it = makes_it w.classes brought space c.args.activation.now.locals kind r.3 r.4 c.in-Makes.new r.5 (subst (λ (a : Answer). IsAnswer w.classes brought space c.args.activation.now.locals kind r.3 r.4 a r.5) c.in-Makes.is r.7) in
-    refers_there w.classes brought.texts space c.in-Makes.new it.object it.describes.object
+    let it = made (as_answer c.in-Makes.is r.7) in
+    refers_there c.args.world.now.classes (texts_in c.args.call.now.texts.items) c.args.store.now.heap c.in-Makes.new it.0 it.1.object
 
 pub make-requires-in-Throws-clause-class : goal.make-requires-in-Throws-clause-class
 make-requires-in-Throws-clause-class c =
     let r = c.requires.possible in
-    let w = c.args.world.now in
-    let kind = result_value c.args.call.now.result in
-    let texts = texts_in c.args.call.now.texts.items in
-    let brought = brings (unit_tree r.0.unit) texts c.args.activation.now.slots.numbers.items c.args.activation.now.slots.buffers.items c.args.store.now c.args.thread c.args.owner r.2 r.4 r.1 in
-    small w c.in-Throws.class.number c.threads.ensures.sound
-    (throws_it w.classes brought c.args.store.now.heap c.args.activation.now.locals kind r.3 r.4 c.in-Throws.class r.5 (subst (λ (a : Answer). IsAnswer w.classes brought c.args.store.now.heap c.args.activation.now.locals kind r.3 r.4 a r.5) c.in-Throws.is r.7)).makeable.high
+    small c.args.world.now c.in-Throws.class.number c.threads.ensures.sound (thrown (as_answer c.in-Throws.is r.7)).high
+
+-- the value that is written is there, and so is what it refers to
+pub set-requires-clause-place : goal.set-requires-clause-place
+set-requires-clause-place c = (written (as_answer c.in-Writes.is c.requires.possible.7)).1.within
+
+pub set-requires-clause-target : goal.set-requires-clause-target
+set-requires-clause-target c marked =
+    let it = (written (as_answer c.in-Writes.is c.requires.possible.7)).1 in
+    barriers.value_there c.args.store.now.heap c.in-Writes.value it.value it.agrees
+
+-- what is given is no new list
+pub returns-in-Gives-clause-new_copy : goal.returns-in-Gives-clause-new_copy
+returns-in-Gives-clause-new_copy c = barriers.no_new_copy c.args.store.now.elements (gave (as_answer c.in-Gives.is c.requires.possible.7)).1
+
+pub returns-in-Pends-clause-new_copy : goal.returns-in-Pends-clause-new_copy
+returns-in-Pends-clause-new_copy c = barriers.no_new_copy c.args.store.now.elements (pending (as_answer c.in-Pends.is c.requires.possible.7)).1.1
 
 pub returns-in-Writes-clause-carried : goal.returns-in-Writes-clause-carried
 returns-in-Writes-clause-carried c p array others shared s effect h does =
@@ -113,7 +115,7 @@ returns-in-Writes-clause-carried c p array others shared s effect h does =
     let old = c.args.store.now in
     carries.by_answer p w old.heap c.args.activation.now.locals kind others c.args.owner shared s effect brought c.args.answer (answer.Writes c.in-Writes.addr c.in-Writes.place c.in-Writes.value) c.in-Writes.is _ _ _ _ _ (λ writes.
     subst (λ (space : Space). CarriesOut p w old.heap c.args.activation.now.locals (answer.Writes c.in-Writes.addr c.in-Writes.place c.in-Writes.value) kind others c.args.owner shared s effect false (record old { heap = space }) c.args.pending.now c.args.activation.now.locals given.Nothing) (sym c.set.ensures)
-    (carries.writes p w old c.args.pending.now c.args.activation.now.locals kind others c.args.owner shared s h brought c.in-Writes.addr c.in-Writes.place c.in-Writes.value effect writes)) does
+    (carries.writes p w old c.args.pending.now c.args.activation.now.locals others c.args.owner shared s h brought c.in-Writes.addr c.in-Writes.place c.in-Writes.value writes)) does
 
 pub returns-in-Some-clause-carried : goal.returns-in-Some-clause-carried
 returns-in-Some-clause-carried c p array others shared s effect h does =
@@ -124,8 +126,8 @@ returns-in-Some-clause-carried c p array others shared s effect h does =
     let old = c.args.store.now in
     let made = subst (λ (l : List (Vec ℕ)). Makes c.classes.result.now (texts_in l) old c.in-Makes.new c.make.new.store c.make.result) c.deref-texts.ensures.value c.make.ensures in
     carries.by_answer p w old.heap c.args.activation.now.locals kind others c.args.owner shared s effect brought c.args.answer (answer.Makes c.in-Makes.new) c.in-Makes.is _ _ _ _ _ (λ makes.
-    carries.makes p w old c.args.pending.now c.args.activation.now.locals kind others c.args.owner shared s h brought c.make.new.store c.in-Makes.new c.in-Some.addr
-    (has_made w.classes c.classes.result.now texts old c.make.new.store c.in-Makes.new c.in-Some.addr c.make.result c.classes.ensures.classes made c.in-Some.is) effect makes) does
+    carries.makes p w old c.args.pending.now c.args.activation.now.locals others c.args.owner shared s h brought c.make.new.store c.in-Makes.new c.in-Some.addr
+    (has_made w.classes c.classes.result.now texts old c.make.new.store c.in-Makes.new c.in-Some.addr c.make.result c.classes.ensures.classes made c.in-Some.is) makes) does
 
 pub returns-in-None-clause-carried : goal.returns-in-None-clause-carried
 returns-in-None-clause-carried c p array others shared s effect h does =
@@ -138,7 +140,7 @@ returns-in-None-clause-carried c p array others shared s effect h does =
     carries.by_answer p w old.heap c.args.activation.now.locals kind others c.args.owner shared s effect brought c.args.answer (answer.Makes c.in-Makes.new) c.in-Makes.is _ _ _ _ _ (λ makes.
     refused_in p w old.heap c.args.activation.now.locals (answer.Makes c.in-Makes.new) kind others c.args.owner shared s effect old c.make.new.store c.refuse.new.pending c.args.activation.now.locals c.refuse.result
     (unchanged c.classes.result.now texts old c.make.new.store c.in-Makes.new c.make.result made c.in-None.is) c.refuse.ensures.pending c.refuse.ensures.carried
-    (carries.refuses_object p w old c.args.pending.now c.args.activation.now.locals kind others c.args.owner shared s h brought c.in-Makes.new effect makes (short w.classes c.classes.result.now texts old c.make.new.store c.in-Makes.new c.make.result c.classes.ensures.classes made c.in-None.is))) does
+    (carries.refuses_object p w old c.args.pending.now c.args.activation.now.locals others c.args.owner shared s h brought c.in-Makes.new makes (short w.classes c.classes.result.now texts old c.make.new.store c.in-Makes.new c.make.result c.classes.ensures.classes made c.in-None.is))) does
 
 pub returns-in-Some-make-clause-carried : goal.returns-in-Some-make-clause-carried
 returns-in-Some-make-clause-carried c p array others shared s effect h does =
@@ -150,8 +152,8 @@ returns-in-Some-make-clause-carried c p array others shared s effect h does =
     let made = subst (λ (l : List (Vec ℕ)). Makes c.classes-in-Throws.result.now (texts_in l) old (Fresh c.in-Throws.class) c.make-in-Throws.new.store c.make-in-Throws.result) c.deref-texts.ensures.value c.make-in-Throws.ensures in
     carries.by_answer p w old.heap c.args.activation.now.locals kind others c.args.owner shared s effect brought c.args.answer (answer.Throws c.in-Throws.class) c.in-Throws.is _ _ _ _ _ (λ throws.
     subst (λ (g : Given). CarriesOut p w old.heap c.args.activation.now.locals (answer.Throws c.in-Throws.class) kind others c.args.owner shared s effect false c.make-in-Throws.new.store (Some c.in-Some-make.addr) c.args.activation.now.locals g) (sym c.failed.ensures)
-    (carries.throws p w old c.args.pending.now c.args.activation.now.locals kind others c.args.owner shared s h brought c.make-in-Throws.new.store c.in-Throws.class c.in-Some-make.addr
-    (has_made w.classes c.classes-in-Throws.result.now texts old c.make-in-Throws.new.store (Fresh c.in-Throws.class) c.in-Some-make.addr c.make-in-Throws.result c.classes-in-Throws.ensures.classes made c.in-Some-make.is) effect throws)) does
+    (carries.throws p w old c.args.pending.now c.args.activation.now.locals others c.args.owner shared s h brought c.make-in-Throws.new.store c.in-Throws.class c.in-Some-make.addr
+    (has_made w.classes c.classes-in-Throws.result.now texts old c.make-in-Throws.new.store (Fresh c.in-Throws.class) c.in-Some-make.addr c.make-in-Throws.result c.classes-in-Throws.ensures.classes made c.in-Some-make.is) throws)) does
 
 pub returns-in-None-make-clause-carried : goal.returns-in-None-make-clause-carried
 returns-in-None-make-clause-carried c p array others shared s effect h does =
@@ -164,7 +166,7 @@ returns-in-None-make-clause-carried c p array others shared s effect h does =
     carries.by_answer p w old.heap c.args.activation.now.locals kind others c.args.owner shared s effect brought c.args.answer (answer.Throws c.in-Throws.class) c.in-Throws.is _ _ _ _ _ (λ throws.
     refused_in p w old.heap c.args.activation.now.locals (answer.Throws c.in-Throws.class) kind others c.args.owner shared s effect old c.make-in-Throws.new.store c.refuse-in-None-make.new.pending c.args.activation.now.locals c.refuse-in-None-make.result
     (unchanged c.classes-in-Throws.result.now texts old c.make-in-Throws.new.store (Fresh c.in-Throws.class) c.make-in-Throws.result made c.in-None-make.is) c.refuse-in-None-make.ensures.pending c.refuse-in-None-make.ensures.carried
-    (carries.refuses_exception p w old c.args.pending.now c.args.activation.now.locals kind others c.args.owner shared s h brought c.in-Throws.class effect throws (short w.classes c.classes-in-Throws.result.now texts old c.make-in-Throws.new.store (Fresh c.in-Throws.class) c.make-in-Throws.result c.classes-in-Throws.ensures.classes made c.in-None-make.is))) does
+    (carries.refuses_exception p w old c.args.pending.now c.args.activation.now.locals others c.args.owner shared s h brought c.in-Throws.class throws (short w.classes c.classes-in-Throws.result.now texts old c.make-in-Throws.new.store (Fresh c.in-Throws.class) c.make-in-Throws.result c.classes-in-Throws.ensures.classes made c.in-None-make.is))) does
 
 pub returns-in-Gives-clause-carried : goal.returns-in-Gives-clause-carried
 returns-in-Gives-clause-carried c p array others shared s effect h does =
@@ -175,18 +177,13 @@ returns-in-Gives-clause-carried c p array others shared s effect h does =
     let old = c.args.store.now in
     carries.by_answer p w old.heap c.args.activation.now.locals kind others c.args.owner shared s effect brought c.args.answer (answer.Gives c.in-Gives.given) c.in-Gives.is _ _ _ _ _ (λ gives.
     barriers.noted_so p w old.heap c.args.activation.now.locals (answer.Gives c.in-Gives.given) kind others c.args.owner shared s effect old (noted_at (reference_given c.in-Gives.given) old.heap.marking) c.note_given.new.heap c.args.pending.now c.args.activation.now.locals c.in-Gives.given c.note_given.ensures (barriers.stays_at (reference_given c.in-Gives.given) old.heap.marking)
-    (carries.gives p w old c.args.pending.now c.args.activation.now.locals kind others c.args.owner shared s h brought refl c.in-Gives.given effect gives)) does
+    (carries.gives p w old c.args.pending.now c.args.activation.now.locals others c.args.owner shared s h brought refl c.in-Gives.given gives)) does
 
 -- what is given is there
 pub note_given-requires : goal.note_given-requires
 note_given-requires c =
     let r = c.requires.possible in
-    let w = c.args.world.now in
-    let kind = result_value c.args.call.now.result in
-    let space = c.args.store.now.heap in
-    let brought = brings (unit_tree r.0.unit) (texts_in c.args.call.now.texts.items) c.args.activation.now.slots.numbers.items c.args.activation.now.slots.buffers.items c.args.store.now c.args.thread c.args.owner r.2 r.4 r.1 in
-    let it = gives_it w.classes brought space c.args.activation.now.locals kind r.3 r.4 c.in-Gives.given r.5 (subst (λ (a : Answer). IsAnswer w.classes brought space c.args.activation.now.locals kind r.3 r.4 a r.5) c.in-Gives.is r.7) in
-    barriers.given_there brought.unit w.classes space kind c.in-Gives.given it.gave it.agrees
+    barriers.given_there c.args.store.now.heap (gave (as_answer c.in-Gives.is r.7)).1
 
 pub returns-in-Gives-clause-barrier : goal.returns-in-Gives-clause-barrier
 returns-in-Gives-clause-barrier c = barriers.notes_given c.args.store.now.heap c.note_given.new.heap c.args.answer c.in-Gives.given c.in-Gives.is c.note_given.ensures
@@ -233,12 +230,7 @@ none_made classes table texts old after class place o same made is = subst (λ (
 pub raise-requires-clause-class : goal.raise-requires-clause-class
 raise-requires-clause-class c =
     let r = c.requires.possible in
-    let w = c.args.world.now in
-    let kind = result_value c.args.call.now.result in
-    let texts = texts_in c.args.call.now.texts.items in
-    let brought = brings (unit_tree r.0.unit) texts c.args.activation.now.slots.numbers.items c.args.activation.now.slots.buffers.items c.args.store.now c.args.thread c.args.owner r.2 r.4 r.1 in
-    let does = subst (λ (a : Answer). IsAnswer w.classes brought c.args.store.now.heap c.args.activation.now.locals kind r.3 r.4 a r.5) c.in-Raises.is r.7 in
-    small w c.in-Raises.class.number c.threads.ensures.sound does.2.high
+    small c.args.world.now c.in-Raises.class.number c.threads.ensures.sound (raised (as_answer c.in-Raises.is r.7)).high
 
 pub returns-in-Some-raise-clause-carried : goal.returns-in-Some-raise-clause-carried
 returns-in-Some-raise-clause-carried c p array others shared s effect h does =
@@ -252,7 +244,7 @@ returns-in-Some-raise-clause-carried c p array others shared s effect h does =
     let place = c.in-Raises.place in
     let made = both_made w.classes c.classes-in-Raises.result.now texts old c.raise.new.store class place c.in-Some-raise.exception c.raise.result c.classes-in-Raises.ensures.classes raised c.in-Some-raise.is in
     carries.by_answer p w old.heap c.args.activation.now.locals kind others c.args.owner shared s effect brought c.args.answer (answer.Raises class place) c.in-Raises.is _ _ _ _ _ (λ raises.
-    carries.raises p w old c.args.pending.now c.args.activation.now.locals kind others c.args.owner shared s h brought class place effect raises made.0 c.raise.new.store made.1 c.in-Some-raise.exception made.2 made.3) does
+    carries.raises p w old c.args.pending.now c.args.activation.now.locals others c.args.owner shared s h brought class place raises made.0 c.raise.new.store made.1 c.in-Some-raise.exception made.2 made.3) does
 
 pub returns-in-None-raise-clause-carried : goal.returns-in-None-raise-clause-carried
 returns-in-None-raise-clause-carried c p array others shared s effect h does =
@@ -267,7 +259,7 @@ returns-in-None-raise-clause-carried c p array others shared s effect h does =
     let none = none_made w.classes c.classes-in-Raises.result.now texts old c.raise.new.store class place c.raise.result c.classes-in-Raises.ensures.classes raised c.in-None-raise.is in
     carries.by_answer p w old.heap c.args.activation.now.locals kind others c.args.owner shared s effect brought c.args.answer (answer.Raises class place) c.in-Raises.is _ _ _ _ _ (λ raises.
     refused_in p w old.heap c.args.activation.now.locals (answer.Raises class place) kind others c.args.owner shared s effect old c.raise.new.store c.refuse-in-None-raise.new.pending c.args.activation.now.locals c.refuse-in-None-raise.result none.0 c.refuse-in-None-raise.ensures.pending c.refuse-in-None-raise.ensures.carried
-    (carries.refuses_raise p w old c.args.pending.now c.args.activation.now.locals kind others c.args.owner shared s h brought class place effect raises none.1)) does
+    (carries.refuses_raise p w old c.args.pending.now c.args.activation.now.locals others c.args.owner shared s h brought class place raises none.1)) does
 
 pub returns-in-Pends-clause-carried : goal.returns-in-Pends-clause-carried
 returns-in-Pends-clause-carried c p array others shared s effect h does =
@@ -278,27 +270,19 @@ returns-in-Pends-clause-carried c p array others shared s effect h does =
     let old = c.args.store.now in
     carries.by_answer p w old.heap c.args.activation.now.locals kind others c.args.owner shared s effect brought c.args.answer (answer.Pends c.in-Pends.exception c.in-Pends.given) c.in-Pends.is _ _ _ _ _ (λ pends.
     barriers.noted_so p w old.heap c.args.activation.now.locals (answer.Pends c.in-Pends.exception c.in-Pends.given) kind others c.args.owner shared s effect old (noted_at (reference_given c.in-Pends.given) (noted_at c.in-Pends.exception old.heap.marking)) c.note_pending.new.heap c.in-Pends.exception c.args.activation.now.locals c.in-Pends.given c.note_pending.ensures (barriers.stays_both c.in-Pends.exception (reference_given c.in-Pends.given) old.heap.marking)
-    (carries.pends p w old c.args.pending.now c.args.activation.now.locals kind others c.args.owner shared s h brought refl c.in-Pends.exception c.in-Pends.given effect pends)) does
+    (carries.pends p w old c.args.pending.now c.args.activation.now.locals others c.args.owner shared s h brought refl c.in-Pends.exception c.in-Pends.given pends)) does
 
 -- what is to be pending is there
 pub note_pending-requires-clause-exception : goal.note_pending-requires-clause-exception
 note_pending-requires-clause-exception c =
     let r = c.requires.possible in
-    let w = c.args.world.now in
-    let space = c.args.store.now.heap in
-    let brought = brings (unit_tree r.0.unit) (texts_in c.args.call.now.texts.items) c.args.activation.now.slots.numbers.items c.args.activation.now.slots.buffers.items c.args.store.now c.args.thread c.args.owner r.2 r.4 r.1 in
-    let does = subst (λ (a : Answer). IsAnswer w.classes brought space c.args.activation.now.locals (result_value c.args.call.now.result) r.3 r.4 a r.5) c.in-Pends.is r.7 in
-    barriers.reference_there space c.in-Pends.exception does.0 does.1
+    let exception = (pending (as_answer c.in-Pends.is r.7)).0 in
+    barriers.reference_there c.args.store.now.heap c.in-Pends.exception exception.0 exception.1
 
 pub note_pending-requires-clause-given : goal.note_pending-requires-clause-given
 note_pending-requires-clause-given c =
     let r = c.requires.possible in
-    let w = c.args.world.now in
-    let kind = result_value c.args.call.now.result in
-    let space = c.args.store.now.heap in
-    let brought = brings (unit_tree r.0.unit) (texts_in c.args.call.now.texts.items) c.args.activation.now.slots.numbers.items c.args.activation.now.slots.buffers.items c.args.store.now c.args.thread c.args.owner r.2 r.4 r.1 in
-    let does = subst (λ (a : Answer). IsAnswer w.classes brought space c.args.activation.now.locals kind r.3 r.4 a r.5) c.in-Pends.is r.7 in
-    barriers.given_there brought.unit w.classes space kind c.in-Pends.given does.2.0 does.2.1
+    barriers.given_there c.args.store.now.heap (pending (as_answer c.in-Pends.is r.7)).1.1
 
 pub returns-in-Pends-clause-barrier : goal.returns-in-Pends-clause-barrier
 returns-in-Pends-clause-barrier c = barriers.notes_pending c.args.store.now.heap c.note_pending.new.heap c.args.answer c.in-Pends.exception c.in-Pends.given c.in-Pends.is c.note_pending.ensures
@@ -310,7 +294,7 @@ returns-in-CopiesOut-clause-carried c p array others shared s effect h does =
     let brought = brings (unit_tree p.unit) (texts_in c.args.call.now.texts.items) c.args.activation.now.slots.numbers.items c.args.activation.now.slots.buffers.items c.args.store.now c.args.thread c.args.owner others s array in
     let old = c.args.store.now in
     carries.by_answer p w old.heap c.args.activation.now.locals kind others c.args.owner shared s effect brought c.args.answer (answer.CopiesOut c.in-CopiesOut.region) c.in-CopiesOut.is _ _ _ _ _ (λ copies.
-    carries.copies_out p w old c.args.pending.now c.args.activation.now.locals kind others c.args.owner shared s h brought c.in-CopiesOut.region effect copies) does
+    carries.copies_out p w old c.args.pending.now c.args.activation.now.locals others c.args.owner shared s h brought c.in-CopiesOut.region copies) does
 
 pub returns-in-CopiesIn-clause-carried : goal.returns-in-CopiesIn-clause-carried
 returns-in-CopiesIn-clause-carried c p array others shared s effect h does =
@@ -320,19 +304,15 @@ returns-in-CopiesIn-clause-carried c p array others shared s effect h does =
     let old = c.args.store.now in
     carries.by_answer p w old.heap c.args.activation.now.locals kind others c.args.owner shared s effect brought c.args.answer (answer.CopiesIn c.in-CopiesIn.region) c.in-CopiesIn.is _ _ _ _ _ (λ copies.
     subst (λ (space : Space). CarriesOut p w old.heap c.args.activation.now.locals (answer.CopiesIn c.in-CopiesIn.region) kind others c.args.owner shared s effect false (record old { heap = space }) c.args.pending.now c.args.activation.now.locals given.Nothing) (ap (space_with old.heap c.in-CopiesIn.region) (sym c.deref.ensures.value) ∙ sym c.copy_in.ensures)
-    (carries.copies_in p w old c.args.pending.now c.args.activation.now.locals kind others c.args.owner shared s h brought c.in-CopiesIn.region effect copies)) does
+    (carries.copies_in p w old c.args.pending.now c.args.activation.now.locals others c.args.owner shared s h brought c.in-CopiesIn.region copies)) does
 
 -- what is known of a region that is copied
 pub copy_out-requires : goal.copy_out-requires
 copy_out-requires c =
-    let r = c.requires.possible in
-    let brought = brings (unit_tree r.0.unit) (texts_in c.args.call.now.texts.items) c.args.activation.now.slots.numbers.items c.args.activation.now.slots.buffers.items c.args.store.now c.args.thread c.args.owner r.2 r.4 r.1 in
-    let copied = (subst (λ (a : Answer). IsAnswer c.args.world.now.classes brought c.args.store.now.heap c.args.activation.now.locals (result_value c.args.call.now.result) r.3 r.4 a r.5) c.in-CopiesOut.is r.7).1 in
+    let copied = copied_out (as_answer c.in-CopiesOut.is c.requires.possible.7) in
     record { within = copied.within; slots = λ i inside. subst (λ (l : List ℕ). c.in-CopiesOut.region.slot + i < length l) (sym c.deref_mut.ensures.value) (copied.slots i inside) }
 
 pub copy_in-requires : goal.copy_in-requires
 copy_in-requires c =
-    let r = c.requires.possible in
-    let brought = brings (unit_tree r.0.unit) (texts_in c.args.call.now.texts.items) c.args.activation.now.slots.numbers.items c.args.activation.now.slots.buffers.items c.args.store.now c.args.thread c.args.owner r.2 r.4 r.1 in
-    let copied = (subst (λ (a : Answer). IsAnswer c.args.world.now.classes brought c.args.store.now.heap c.args.activation.now.locals (result_value c.args.call.now.result) r.3 r.4 a r.5) c.in-CopiesIn.is r.7).1 in
+    let copied = copied_in (as_answer c.in-CopiesIn.is c.requires.possible.7) in
     record { within = copied.within; slots = λ i inside. subst (λ (l : List ℕ). c.in-CopiesIn.region.slot + i < length l) (sym c.deref.ensures.value) (copied.slots i inside) }

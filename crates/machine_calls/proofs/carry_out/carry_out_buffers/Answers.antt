@@ -1,45 +1,47 @@
 use Rattle.std.proofs.Common.{◌<◌, length, ap, subst}
 use Rattle.std.proofs.lemmas.Result.{IfOk-weaker}
-use Rattle.machine_answers.specs.declared.answer.Answer.{Answer}
 use Rattle.machine_answers.specs.declared.answer.Answer.TheVariants as answer
-use Rattle.machine_answers.specs.Answers.{IsAnswer}
+use Rattle.machine_calls.proofs.AnswerCases.{as_answer, copied, released, viewed}
+use Rattle.machine_scenes.proofs.BlocksOfNames.{is_address}
 use Rattle.machine_scenes.specs.Buffers.{HeldBuffers, acquired_by, beside}
 use Rattle.machine_calls.proofs.BufferCarries as buffers
 use Rattle.machine_calls.proofs.CarryOuts as carries
 use Rattle.machine_scenes.proofs.Taken.{few_pins}
 use Rattle.machine_calls.proofs.carry_out.carry_out_buffers.Goals as goal
 
+pub acquire_copy-requires : goal.acquire_copy-requires
+acquire_copy-requires c =
+    let it = copied (as_answer c.in-AcquiresCopy.is c.requires.possible.8) in
+    is_address c.args.store.now.heap c.in-AcquiresCopy.object it.name it.there
+
 pub acquire_view-buffer-requires-clause-pins : goal.acquire_view-buffer-requires-clause-pins
 acquire_view-buffer-requires-clause-pins c =
     let r = c.requires.possible in
     let old = c.args.store.now in
-    let view = (subst (λ (a : Answer). IsAnswer c.args.world.now.classes r.2 old.heap c.args.locals.now r.1 r.4 r.5 a r.6) c.in-AcquiresView.is r.8).1 in
-    few_pins old.heap old.elements old.views (length r.4.heap) c.in-AcquiresView.object view.name (beside r.3 (acquired_by r.5)) r.7.store_agrees.buffers view.there
+    let view = viewed (as_answer c.in-AcquiresView.is r.8) in
+    few_pins old.heap old.elements old.views (length r.4.heap) c.in-AcquiresView.object view.0 (beside r.3 (acquired_by r.5)) r.7.store_agrees.buffers view.1
 
 pub release-requires-clause-back : goal.release-requires-clause-back
 release-requires-clause-back c =
     let r = c.requires.possible in
     let w = c.args.world.now in
     let old = c.args.store.now in
-    let does = subst (λ (a : Answer). IsAnswer w.classes r.2 old.heap c.args.locals.now r.1 r.4 r.5 a r.6) c.in-Releases.is r.8 in
-    buffers.can_copy_back r.0 w old c.args.pending.now c.args.locals.now r.1 r.3 c.args.owner r.4 r.5 r.7 r.2 c.in-Releases.released r.6 does (ap (λ (b : HeldBuffers). b.copies) r.9) (ap (λ (b : HeldBuffers). b.owner) r.9)
+    buffers.can_copy_back r.0 w old c.args.pending.now c.args.locals.now r.3 c.args.owner r.4 r.5 r.7 r.2 c.in-Releases.released (released (as_answer c.in-Releases.is r.8)) (ap (λ (b : HeldBuffers). b.copies) r.9) (ap (λ (b : HeldBuffers). b.owner) r.9)
 
 pub release-requires-clause-held : goal.release-requires-clause-held
 release-requires-clause-held c =
     let r = c.requires.possible in
     let w = c.args.world.now in
     let old = c.args.store.now in
-    let does = subst (λ (a : Answer). IsAnswer w.classes r.2 old.heap c.args.locals.now r.1 r.4 r.5 a r.6) c.in-Releases.is r.8 in
-    buffers.can_give_up r.0 w old c.args.pending.now c.args.locals.now r.1 r.3 c.args.owner r.4 r.5 r.7 r.2 c.in-Releases.released r.6 does (ap (λ (b : HeldBuffers). b.copies) r.9) (ap (λ (b : HeldBuffers). b.owner) r.9)
+    buffers.can_give_up r.0 w old c.args.pending.now c.args.locals.now r.3 c.args.owner r.4 r.5 r.7 r.2 c.in-Releases.released (released (as_answer c.in-Releases.is r.8)) (ap (λ (b : HeldBuffers). b.copies) r.9) (ap (λ (b : HeldBuffers). b.owner) r.9)
 
 pub release-requires-clause-slot : goal.release-requires-clause-slot
 release-requires-clause-slot c =
     let r = c.requires.possible in
     let w = c.args.world.now in
     let old = c.args.store.now in
-    let does = subst (λ (a : Answer). IsAnswer w.classes r.2 old.heap c.args.locals.now r.1 r.4 r.5 a r.6) c.in-Releases.is r.8 in
     subst (λ (b : HeldBuffers). c.in-Releases.released.slot < length b.slots) r.9
-    (buffers.slot_there r.0 w old c.args.pending.now c.args.locals.now r.1 r.3 c.args.owner r.4 r.5 r.7 r.2 c.in-Releases.released r.6 does (ap (λ (b : HeldBuffers). b.copies) r.9) (ap (λ (b : HeldBuffers). b.owner) r.9))
+    (buffers.slot_there r.0 w old c.args.pending.now c.args.locals.now r.3 c.args.owner r.4 r.5 r.7 r.2 c.in-Releases.released (released (as_answer c.in-Releases.is r.8)) (ap (λ (b : HeldBuffers). b.copies) r.9) (ap (λ (b : HeldBuffers). b.owner) r.9))
 
 pub returns-in_ok-buffer-in-AcquiresCopy-clause-carried : goal.returns-in_ok-buffer-in-AcquiresCopy-clause-carried
 returns-in_ok-buffer-in-AcquiresCopy-clause-carried c p kind brought others shared s effect h does buffers_are uses thread =
@@ -47,7 +49,7 @@ returns-in_ok-buffer-in-AcquiresCopy-clause-carried c p kind brought others shar
     let old = c.args.store.now in
     let a = c.in-AcquiresCopy.object in
     carries.by_answer p w old.heap c.args.locals.now kind others c.args.owner shared s effect brought c.args.answer (answer.AcquiresCopy a) c.in-AcquiresCopy.is _ _ _ _ _ (λ acquires.
-    buffers.acquires_copy p w old c.args.pending.now c.args.locals.now kind others c.args.owner shared s h brought a effect acquires uses c.in_ok-buffer-in-AcquiresCopy.buffer c.acquire_copy.new.elements c.in_ok-buffer-in-AcquiresCopy.ensures.ok) does
+    buffers.acquires_copy p w old c.args.pending.now c.args.locals.now others c.args.owner shared s h brought a acquires uses c.in_ok-buffer-in-AcquiresCopy.buffer c.acquire_copy.new.elements c.in_ok-buffer-in-AcquiresCopy.ensures.ok) does
 
 pub returns-in-AcquiresView-clause-carried : goal.returns-in-AcquiresView-clause-carried
 returns-in-AcquiresView-clause-carried c p kind brought others shared s effect h does buffers_are uses thread =
@@ -55,7 +57,7 @@ returns-in-AcquiresView-clause-carried c p kind brought others shared s effect h
     let old = c.args.store.now in
     let a = c.in-AcquiresView.object in
     carries.by_answer p w old.heap c.args.locals.now kind others c.args.owner shared s effect brought c.args.answer (answer.AcquiresView a) c.in-AcquiresView.is _ _ _ _ _ (λ acquires.
-    buffers.acquires_view p w old c.args.pending.now c.args.locals.now kind others c.args.owner shared s h brought a effect acquires uses c.acquire_view-buffer.result c.acquire_view-buffer.new.heap c.acquire_view-buffer.new.views c.acquire_view-buffer.ensures) does
+    buffers.acquires_view p w old c.args.pending.now c.args.locals.now others c.args.owner shared s h brought a acquires uses c.acquire_view-buffer.result c.acquire_view-buffer.new.heap c.acquire_view-buffer.new.views c.acquire_view-buffer.ensures) does
 
 pub returns-in-Releases-clause-carried : goal.returns-in-Releases-clause-carried
 returns-in-Releases-clause-carried c p kind brought others shared s effect h does buffers_are uses thread =
@@ -63,7 +65,7 @@ returns-in-Releases-clause-carried c p kind brought others shared s effect h doe
     let old = c.args.store.now in
     let r = c.in-Releases.released in
     carries.by_answer p w old.heap c.args.locals.now kind others c.args.owner shared s effect brought c.args.answer (answer.Releases r) c.in-Releases.is _ _ _ _ _ (λ releases.
-    buffers.releases p w old c.args.pending.now c.args.locals.now kind others c.args.owner shared s h brought r effect releases (ap (λ (b : HeldBuffers). b.copies) buffers_are) (ap (λ (b : HeldBuffers). b.owner) buffers_are) c.release.new.heap c.release.new.elements c.release.new.views c.release.ensures.released) does
+    buffers.releases p w old c.args.pending.now c.args.locals.now others c.args.owner shared s h brought r releases (ap (λ (b : HeldBuffers). b.copies) buffers_are) (ap (λ (b : HeldBuffers). b.owner) buffers_are) c.release.new.heap c.release.new.elements c.release.new.views c.release.ensures.released) does
 
 pub returns-in_default-clause-carried : goal.returns-in_default-clause-carried
 returns-in_default-clause-carried c =

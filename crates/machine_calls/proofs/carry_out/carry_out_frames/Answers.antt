@@ -18,7 +18,7 @@ use Rattle.tables.specs.declared.fault.TableFault.{TableFault}
 use Rattle.tables.specs.declared.fault.TableFault.TheVariants as fault
 use Rattle.tables.specs.Locals.{LocalTable, capacities, pushed}
 use Rattle.machine_answers.specs.declared.answer.Answer.TheVariants as answer
-use Rattle.machine_answers.specs.Answers.{IsAnswer}
+use Rattle.machine_calls.proofs.AnswerCases.{as_answer, popped}
 use Rattle.machine_calls.proofs.Barriers as barriers
 use Rattle.machine_calls.proofs.CarryOuts as carries
 use Rattle.machine_calls.specs.Barrier.{noted_at}
@@ -48,11 +48,11 @@ returns-then-ensure_room-clause-carried c p kind brought others owner shared s e
     carries.by_answer p w old.heap locals kind others owner shared s effect brought c.args.answer (answer.Ensures more) c.in-Ensures.is _ _ _ _ _ (λ ensures.
     some_or_none (length locals.frames)
     (λ none. subst (λ (l : LocalTable). CarriesOut p w old.heap locals (answer.Ensures more) kind others owner shared s effect false old c.args.pending.now l (given.Number 0)) (sym (c.ensure_room.ensures.none none).1)
-    (carries.ensures_none p w old c.args.pending.now locals kind others owner shared s h brought more effect ensures none))
+    (carries.ensures_none p w old c.args.pending.now locals others owner shared s h brought more ensures none))
     (λ some.
     let had = c.ensure_room.ensures.had some c.if-ensure_room.true in
     subst (λ (l : LocalTable). CarriesOut p w old.heap locals (answer.Ensures more) kind others owner shared s effect false old c.args.pending.now l (given.Number 0)) (sym had.0)
-    (carries.ensures p w old c.args.pending.now locals kind others owner shared s h brought more effect ensures some had.1))) does
+    (carries.ensures p w old c.args.pending.now locals others owner shared s h brought more ensures some had.1))) does
 
 pub returns-else-ensure_room-clause-carried : goal.returns-else-ensure_room-clause-carried
 returns-else-ensure_room-clause-carried c p kind brought others owner shared s effect h does =
@@ -63,7 +63,7 @@ returns-else-ensure_room-clause-carried c p kind brought others owner shared s e
     let not_had = c.ensure_room.ensures.refused c.if-ensure_room.false in
     carries.by_answer p w old.heap locals kind others owner shared s effect brought c.args.answer (answer.Ensures more) c.in-Ensures.is _ _ _ _ _ (λ ensures.
     told_of_frames p w old.heap locals (answer.Ensures more) kind others owner shared s effect old c.refuse_frames.new.pending c.ensure_room.new.locals locals c.refuse_frames.result not_had.1 c.refuse_frames.ensures.pending c.refuse_frames.ensures.carried
-    (carries.ensures_not p w old c.args.pending.now locals kind others owner shared s h brought more effect ensures not_had.0 not_had.2)) does
+    (carries.ensures_not p w old c.args.pending.now locals others owner shared s h brought more ensures not_had.0 not_had.2)) does
 
 pub returns-in-RefusesFrames-clause-carried : goal.returns-in-RefusesFrames-clause-carried
 returns-in-RefusesFrames-clause-carried c p kind brought others owner shared s effect h does =
@@ -72,7 +72,7 @@ returns-in-RefusesFrames-clause-carried c p kind brought others owner shared s e
     let frames = c.args.locals.now in
     carries.by_answer p w old.heap c.args.locals.now kind others owner shared s effect brought c.args.answer answer.RefusesFrames c.in-RefusesFrames.is _ _ _ _ _ (λ refuses.
     told_of_frames p w old.heap c.args.locals.now answer.RefusesFrames kind others owner shared s effect old c.refuse_frames-in-RefusesFrames.new.pending frames frames c.refuse_frames-in-RefusesFrames.result refl c.refuse_frames-in-RefusesFrames.ensures.pending c.refuse_frames-in-RefusesFrames.ensures.carried
-    (carries.refuses_room p w old c.args.pending.now frames kind others owner shared s h brought effect refuses)) does
+    (carries.refuses_room p w old c.args.pending.now frames others owner shared s h brought refuses)) does
 
 pub returns-in-Ok-clause-carried : goal.returns-in-Ok-clause-carried
 returns-in-Ok-clause-carried c p kind brought others owner shared s effect h does =
@@ -82,7 +82,7 @@ returns-in-Ok-clause-carried c p kind brought others owner shared s effect h doe
     let capacity = c.in-Pushes.capacity in
     carries.by_answer p w old.heap locals kind others owner shared s effect brought c.args.answer (answer.Pushes capacity) c.in-Pushes.is _ _ _ _ _ (λ pushes.
     subst (λ (l : LocalTable). CarriesOut p w old.heap locals (answer.Pushes capacity) kind others owner shared s effect false old c.args.pending.now l (given.Number 0)) (sym c.in-Ok.ensures.ok)
-    (carries.pushes p w old c.args.pending.now locals kind others owner shared s h brought capacity effect pushes c.in-Ok.ensures.within)) does
+    (carries.pushes p w old c.args.pending.now locals others owner shared s h brought capacity pushes c.in-Ok.ensures.within)) does
 
 -- a fault that isn't of memory tells that there would be too much room
 full_over : (n m : ℕ) (e : TableFault) → e ≡ fault.Full → e ≡ (if nat_lt n m then fault.Full else fault.Memory) → n < m
@@ -101,7 +101,7 @@ returns-in-Err-Full-clause-carried c p kind brought others owner shared s effect
     let over : 1024 < capacities (pushed locals capacity) = full_over 1024 (capacities (pushed locals capacity)) c.in-Err-Full.field-0 c.in-Err-Full.field-0-is c.in-Err-Full.ensures.fault in
     carries.by_answer p w old.heap locals kind others owner shared s effect brought c.args.answer (answer.Pushes capacity) c.in-Pushes.is _ _ _ _ _ (λ pushes.
     told_of_frames p w old.heap locals (answer.Pushes capacity) kind others owner shared s effect old c.refuse_frames-in-Err-Full.new.pending c.push.new.self locals c.refuse_frames-in-Err-Full.result c.in-Err-Full.ensures.err c.refuse_frames-in-Err-Full.ensures.pending c.refuse_frames-in-Err-Full.ensures.carried
-    (carries.pushes_not p w old c.args.pending.now locals kind others owner shared s h brought capacity effect pushes over)) does
+    (carries.pushes_not p w old c.args.pending.now locals others owner shared s h brought capacity pushes over)) does
 
 pub returns-in-Pops-clause-carried : goal.returns-in-Pops-clause-carried
 returns-in-Pops-clause-carried c p kind brought others owner shared s effect h does =
@@ -113,17 +113,14 @@ returns-in-Pops-clause-carried c p kind brought others owner shared s effect h d
     barriers.noted_so p w old.heap locals (answer.Pops a) kind others owner shared s effect old (noted_at a old.heap.marking) c.note.new.heap c.args.pending.now c.pop_frame.new.locals (given.Reference a) c.note.ensures (barriers.stays_at a old.heap.marking)
     (some_or_none (length locals.frames)
     (λ none. subst (λ (l : LocalTable). CarriesOut p w old.heap locals (answer.Pops a) kind others owner shared s effect false old c.args.pending.now l (given.Reference a)) (sym (c.pop_frame.ensures.none none))
-    (carries.pops_none p w old c.args.pending.now locals kind others owner shared s h brought a effect pops none))
+    (carries.pops_none p w old c.args.pending.now locals others owner shared s h brought a pops none))
     (λ some. subst (λ (l : LocalTable). CarriesOut p w old.heap locals (answer.Pops a) kind others owner shared s effect false old c.args.pending.now l (given.Reference a)) (sym (c.pop_frame.ensures.some some))
-    (carries.pops p w old c.args.pending.now locals kind others owner shared s h brought a effect pops)))) does
+    (carries.pops p w old c.args.pending.now locals others owner shared s h brought a pops)))) does
 
 pub note-requires : goal.note-requires
 note-requires c =
-    let r = c.requires.possible in
-    let w = c.args.world.now in
-    let old = c.args.store.now in
-    let pops = subst (λ (a : Answer). IsAnswer w.classes r.2 old.heap c.args.locals.now r.1 r.4 r.5 a r.6) c.in-Pops.is r.8 in
-    barriers.reference_there old.heap c.in-Pops.reference pops.1.0 pops.1.1
+    let it = popped (as_answer c.in-Pops.is c.requires.possible.8) in
+    barriers.reference_there c.args.store.now.heap c.in-Pops.reference it.0 it.1
 
 pub returns-in-Pops-clause-barrier : goal.returns-in-Pops-clause-barrier
 returns-in-Pops-clause-barrier c = barriers.notes_popped c.args.store.now.heap c.note.new.heap c.args.answer c.in-Pops.reference c.in-Pops.is c.note.ensures

@@ -11,7 +11,7 @@ returns-in_ok-enter-in-Enters-clause-carried c p kind brought others owner share
     let o = c.in-Enters.object in
     let told = c.in_ok-enter-in-Enters.ensures in
     carries.by_answer p w old.heap c.args.locals.now kind others owner shared s effect brought c.args.answer (answer.Enters o) c.in-Enters.is _ _ _ _ _ (λ enters.
-    monitors.enters p w old c.args.pending.now c.args.locals.now kind others c.args.thread owner shared s h brought thread o effect enters c.in_ok-enter-in-Enters.field-0 c.enter.new.self told.answer told.entered told.objects) does
+    monitors.enters p w old c.args.pending.now c.args.locals.now others c.args.thread owner shared s h brought thread o enters c.in_ok-enter-in-Enters.field-0 c.enter.new.self told.answer told.entered told.objects) does
 
 pub returns-in-Exits-clause-carried : goal.returns-in-Exits-clause-carried
 returns-in-Exits-clause-carried c p kind brought others owner shared s effect h does thread =
@@ -20,7 +20,7 @@ returns-in-Exits-clause-carried c p kind brought others owner shared s effect h 
     let n = c.in-Exits.name in
     let told = c.exit.ensures in
     carries.by_answer p w old.heap c.args.locals.now kind others owner shared s effect brought c.args.answer (answer.Exits n) c.in-Exits.is _ _ _ _ _ (λ exits.
-    monitors.exits p w old c.args.pending.now c.args.locals.now kind others c.args.thread owner shared s h brought thread n effect exits c.exit.result c.exit.new.self told.answer told.left told.objects) does
+    monitors.exits p w old c.args.pending.now c.args.locals.now others c.args.thread owner shared s h brought thread n exits c.exit.result c.exit.new.self told.answer told.left told.objects) does
 
 pub returns-in_default-clause-carried : goal.returns-in_default-clause-carried
 returns-in_default-clause-carried c =

@@ -164,7 +164,7 @@ returns-in-Ok-clause-refused c is =
     let carried = c.in-Ok.ensures.carried c.args.program.now (named c.args.program.now w store c.args.pending.now c.args.activation.now c.args.call.now a.0 c.args.thread c.args.owner a.1 a.2 a.3 a.4 a.5 a.6 c.args.answer c.requires.answered (no_call c.args.answer c.requires.runs) kind same) a.0 a.2 a.3 does (can_carry c.args.program.now w store c.args.pending.now c.args.activation.now c.args.call.now a.0 c.args.thread c.args.owner a.1 a.2 a.3 a.4 a.5 a.6 c.args.answer c.requires.answered (no_call c.args.answer c.requires.runs) kind same) answer in
     let refused = was_refused c.in-Ok.carried.refused c.done_or_refused.result c.done_or_refused.ensures (cc (is)) in
     let short = subst (λ (b : Bool). GoesByRoom b (sizes (made_by w.classes does)) store.heap c.carry_out.new.store.heap) refused carried.room in
-    omega (arith, short.0, cells_made w.classes (brings c.args.program.now w store c.args.pending.now c.args.activation.now c.args.call.now a.0 c.args.thread c.args.owner a.1 a.2 a.3 a.4 a.5 a.6 c.args.answer c.requires.answered (no_call c.args.answer c.requires.runs)) store.heap c.args.activation.now.locals kind a.2 a.3 c.args.answer does answer)
+    omega (arith, short.0, cells_made w.classes (brings c.args.program.now w store c.args.pending.now c.args.activation.now c.args.call.now a.0 c.args.thread c.args.owner a.1 a.2 a.3 a.4 a.5 a.6 c.args.answer c.requires.answered (no_call c.args.answer c.requires.runs)) store.heap c.args.activation.now.locals a.2 a.3 answer)
 
 -- what a call came to, by whether its allocation was refused
 executes : (p : Lowered) (w : World) (old store : Store) (others : Acquired) (k owner : ℕ) (own : Owners) (shared : Shared) (s : Thread) (rest : List Task) (call : Activation) (pending : Option ℕ) (e : Effect) (line : ℕ) (refused : Bool)
@@ -205,7 +205,7 @@ returns-in-Ok-clause-done c others own shared s task rest h =
     (executes p w store final others k owner own shared s rest c.receive.new.activation c.carry_out.new.pending (effect_of (sight_of shared s) task) call.line refused
     (goes_on p w store pending activation call others k owner own shared s task rest h c.args.answer (worked p w store pending activation call others k owner own shared s task rest h c.args.answer c.requires.answered (no_call c.args.answer c.requires.runs)) c.requires.answered.sound c.requires.runs
     (free p w store pending activation call others k owner own shared s task rest h c.args.answer c.requires.answered (no_call c.args.answer c.requires.runs))
-    (subst (λ (x : ResultKind). IsAnswer w.classes (brings p w store pending activation call others k owner own shared s task rest h c.args.answer c.requires.answered (no_call c.args.answer c.requires.runs)) store.heap activation.locals x shared s c.args.answer does) is answer)
+    (subst (λ (x : ResultKind). IsAnswer w.classes (brings p w store pending activation call others k owner own shared s task rest h c.args.answer c.requires.answered (no_call c.args.answer c.requires.runs)) store.heap activation.locals shared s c.args.answer x does) is answer)
     refused c.carry_out.new.store c.carry_out.new.pending c.carry_out.new.activation.locals g
     (carried_as p w store pending activation call others k owner own shared s task rest h c.args.answer c.requires.answered (no_call c.args.answer c.requires.runs) kind same refused c.carry_out.new.store c.carry_out.new.pending c.carry_out.new.activation.locals g carried)
     c.frames.ensures.stacked c.in-Ok.ensures.copies c.in-Ok.ensures.new_copy
