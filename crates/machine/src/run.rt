@@ -1,6 +1,6 @@
 //! The run of a schedule, word by word.
 
-ghost use Rattle.std.specs.Prelude.{◌≡◌, ◌<◌, ◌≤◌, true, false, [], ◌∷◌, length, replicate, IfErr, OnOk, IsSome};
+ghost use Rattle.std.specs.Prelude.{◌≡◌, ◌-◌, ◌<◌, ◌≤◌, true, false, [], ◌∷◌, length, replicate, IfErr, OnOk, IsSome};
 ghost use Rattle.machine.specs.Run.{replay_of, IsReady, EndsAt, RunsAlong, RunsInto, GivesNoStep};
 
 use crate::fault::RunFault;
@@ -55,7 +55,7 @@ impl Machine<'_> {
         if !self.has_thread(k) {
             return Ok(());
         }
-        let mut left = times;
+        let mut left = self.left_at_once(k, times);
         while left > 0 {
             let ran = self.run_plainly(k, left);
             left -= ran.taken;
@@ -71,6 +71,25 @@ impl Machine<'_> {
             left -= 1;
         }
         Ok(())
+    }
+
+    /// Takes the word for a turn of thread `k` where it is to be taken once and its step is a plain one, and answers how many
+    /// times are left: so a word without a number needs no loop.
+    #[inline(always)]
+    fn left_at_once(&mut self, k: u8, times: u32) -> u32
+        requires counted { 0 < k }
+        requires is_thread { k ≤ length self.old.world.threads }
+        ensures most { result ≤ times }
+        ensures along { RunsAlong self.old self.new (replicate (times - result) (ScheduleWord.Turn k)) }
+        ensures runs { IsSome (replay_of self.new) }
+    {
+        // Here the proof takes up the machine's invariant.
+        let _ = &self.world;
+        if times == 1 {
+            let ran = self.run_plainly(k, 1);
+            return 1 - ran.taken;
+        }
+        times
     }
 
     /// Lets thread `k` take steps one after another, no more than this many, and answers how many it took, and whether it goes on

@@ -14,15 +14,15 @@ returns-then-not-has_thread-clause-ok c =
     let runs : IsSome (replay_of c.args.self.now) = subst (λ (r : Run). IsSome (replay_of r)) c.self.view_is (rw c.self.invariant.replays refl) in
     turns_without_step c.args.self.now c.args.k c.args.times (c.has_thread.ensures.none c.if-not-has_thread.true) runs
 
+pub left_at_once-left-requires-clause-is_thread : goal.left_at_once-left-requires-clause-is_thread
+left_at_once-left-requires-clause-is_thread c = (c.has_thread.ensures.there c.if-not-has_thread.false).1
+
 pub loop-left-init : goal.loop-left-init
-loop-left-init c =
-    let runs : IsSome (replay_of c.args.self.now) = subst (λ (r : Run). IsSome (replay_of r)) c.self.view_is (rw c.self.invariant.replays refl) in
-    let none : c.args.times - c.args.times ≡ 0 = omega arith in
-    record {
-      most = omega arith;
-      along = subst (λ (n : ℕ). RunsAlong c.args.self.now c.args.self.now (replicate n (Turn c.args.k))) (sym none) (none_yet c.args.self.now runs);
-      runs = runs;
-    }
+loop-left-init c = record {
+  most = c.left_at_once-left.ensures.most;
+  along = c.left_at_once-left.ensures.along;
+  runs = c.left_at_once-left.ensures.runs;
+}
 
 pub run_plainly-ran-requires-clause-is_thread : goal.run_plainly-ran-requires-clause-is_thread
 run_plainly-ran-requires-clause-is_thread c = subst (λ (w : World). c.args.k ≤ length w.threads) (sym c.loop-left.invariant.along.same_world) (c.has_thread.ensures.there c.if-not-has_thread.false).1
