@@ -42,14 +42,19 @@ fn a_world_without(rt: HostRuntime) -> Result<(), Fail> {
     Ok(())
 }
 
+/// The number and the line of a fault; zeros where memory was refused.
+fn number_and_line(error: ReadError) -> (u32, usize) {
+    match error {
+        ReadError::Fault(fault) => (fault.rule.number(), fault.line),
+        ReadError::Memory => (0, 0),
+    }
+}
+
 /// The number of the fault of a text, and its line; zeros where it is accepted.
 fn fault_of(alloc: Global, text: &[u8]) -> (u32, usize) {
     match read_world(alloc, text) {
-        Err(error) => match error.error() {
-            ReadError::Fault(fault) => (fault.rule.number(), fault.line),
-            ReadError::Memory => (0, 0),
-        },
-        Ok(_) => (0, 0),
+        Ok(_world) => (0, 0),
+        Err(error) => number_and_line(error.error()),
     }
 }
 
