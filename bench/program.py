@@ -4,7 +4,7 @@ import re
 import subprocess
 import time
 
-from texts import ARRAY, regions
+from texts import ARRAY, WORLD, counted_to, regions
 
 STEPS = 100_000  # steps of a run whose instructions are counted
 ENTRIES = 1_000_000  # as many as a journal may have
@@ -57,6 +57,12 @@ class Bench:
     def a_step(self, program, world, schedule=f"1*{STEPS}\n"):
         """The instructions of a step, beyond a run of no step."""
         return (self.instructions(self.run(program, world, schedule)) - self.instructions(self.run(program, world, ""))) / STEPS
+
+    def a_worker_step(self):
+        """The instructions of a step that a worker takes, beyond a shorter run by one worker."""
+        commands = [[self.program, "run", self.file(counted_to(end)), self.file(WORLD), "--workers"] for end in (12_000, 2_000)]
+        (long, most), (short, least) = ((self.instructions(it), len(self.journal(it).split())) for it in commands)
+        return (long - short) / (most - least)
 
     def an_entry(self, program, world):
         """The instructions of an entry of a replay, beyond an empty journal."""

@@ -12,6 +12,16 @@ LOOP = native("""    uint32_t count = 0u;
         count = count + 1u;
     }
     put_jint((jint)sum);""")
+
+
+def counted_to(end):
+    """A loop that ends after this many turns."""
+    return native(f"""    uint32_t count = 0u;
+    while (count < {end}u) {{
+        count = count + 1u;
+    }}""")
+
+
 BARE = native("    while (cls != NULL) {\n    }")
 MONITORS = native("""    while (cls != NULL) {
         (*env)->MonitorEnter(env, cls);
