@@ -1,9 +1,9 @@
 -- The loop that follows what waits.
-use Rattle.std.proofs.Common.{◌≡◌, ℕ, zero, suc, ◌<◌, Bool, true, List, [], ◌∷◌, ◌++◌, length, get_or, Option, Some, refl, sym, ap, ◌∙◌, subst, arith, ⊎_elim, inl, inr, ◌⊎◌}
+use Rattle.std.proofs.Common.{◌≡◌, ℕ, ◌<◌, Bool, true, List, [], ◌∷◌, ◌++◌, length, Option, Some, refl, sym, ap, ◌∙◌, subst, arith, ⊎_elim, inl, inr, ◌⊎◌}
 use Rattle.std.specs.Prelude.{slice_get, Result, Ok, Err, OnOk, OnErr}
 use Rattle.std.specs.List.{Contains}
 use Rattle.std.proofs.lemmas.List.Elements.{Contains-push, Contains-append_left, Contains-push_cases}
-use Rattle.std.proofs.lemmas.Option.{slice_get-get_or}
+use Rattle.std.proofs.lemmas.Option.{slice_get-get_or, slice_get_within, get_or_from_slice_get}
 use Rattle.reachability.specs.Reach.{IsReached, IsClosed}
 use Rattle.reachability.specs.Reach.IsReached.{Root, Referred}
 use Rattle.reachability.specs.Marks.{is_marked, Adds, IsFollowed, WaitsFor, AreReached}
@@ -87,10 +87,6 @@ marking_end references roots ms xs h e =
       complete = all_marked references roots ms none;
     }
 
-pub nothing_left : (xs : List ℕ) → length xs ≡ 0 → xs ≡ []
-nothing_left [] e = refl
-nothing_left (x ∷ xs) e = absurd (omega arith)
-
 -- what is reached is a place
 pub places_reached : (references : ℕ → List (Option ℕ)) (IsRoot IsPlace : ℕ → Type 0) → IsClosed IsPlace references → ((p : ℕ) → IsRoot p → IsPlace p) → (p : ℕ) → IsReached references IsRoot p → IsPlace p
 places_reached references IsRoot IsPlace closed roots p (Root x c) = roots x c
@@ -98,18 +94,8 @@ places_reached references IsRoot IsPlace closed roots p (Referred x q k r) = clo
 
 -- ---- values by place
 
-pub get_within : {X : Type 0} (xs : List X) (k : ℕ) (x : X) → slice_get xs k ≡ Some x → k < length xs
-get_within [] k x e = absurd (cc)
-get_within (y ∷ xs) zero x e = omega arith
-get_within (y ∷ xs) (suc k) x e = let rest : k < length xs = get_within xs k x e in omega arith
-
-get_or_get : {X : Type 0} (xs : List X) (k : ℕ) (x : X) → slice_get xs k ≡ Some x → get_or xs k x ≡ x
-get_or_get [] k x e = absurd (cc)
-get_or_get (y ∷ xs) zero x e = cc
-get_or_get (y ∷ xs) (suc k) x e = get_or_get xs k x e
-
 pub contains-get : {X : Type 0} (xs : List X) (k : ℕ) (x : X) → slice_get xs k ≡ Some x → Contains xs x
-contains-get xs k x e = (k, get_within xs k x e, get_or_get xs k x e)
+contains-get xs k x e = (k, slice_get_within xs k x e, get_or_from_slice_get xs k x x e)
 
 pub get-contains : {X : Type 0} (xs : List X) (x : X) (c : Contains xs x) → slice_get xs c.0 ≡ Some x
 get-contains {X = X} xs x c = slice_get-get_or xs c.0 x c.1 ∙ ap (λ (y : X). Some y) c.2
@@ -119,12 +105,6 @@ one_target x y xs k e f = cc
 
 pub no_target : (x : ℕ) (o : Option ℕ) (xs : List (Option ℕ)) (k : ℕ) → slice_get xs k ≡ Some o → slice_get xs k ≡ Some (Some x) → o ≡ Some x
 no_target x o xs k e f = cc
-
--- what is read doesn't depend on the default
-pub read_there : (xs : List Bool) (i : ℕ) (d e : Bool) → i < length xs → get_or xs i d ≡ get_or xs i e
-read_there [] i d e h = absurd (omega arith)
-read_there (x ∷ xs) zero d e h = refl
-read_there (x ∷ xs) (suc i) d e h = read_there xs i d e (omega arith)
 
 -- a root that is added waits, and where none is added all is as it was
 pub waits_after : {T E : Type 0} (r : Result T E) (P : ℕ → Type 0) (ms : List Bool) (xs : List ℕ) (ns : List Bool) (ys : List ℕ) → WaitsFor ms xs → OnOk r (Adds P ms xs ns ys) → OnErr r (ns ≡ ms) → OnErr r (ys ≡ xs) → WaitsFor ns ys

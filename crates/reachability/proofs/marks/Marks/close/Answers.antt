@@ -1,9 +1,9 @@
 use Rattle.std.proofs.Common.{◌≡◌, ℕ, ◌<◌, ◌+◌, ◌++◌, ◌∷◌, [], List, Bool, true, length, sym, ap, ◌∙◌, subst, arith}
 use Rattle.std.specs.List.{Contains}
-use Rattle.std.proofs.lemmas.List.{length_push}
+use Rattle.std.proofs.lemmas.List.{length_push, nil_from_length}
 use Rattle.std.proofs.lemmas.List.Elements.{Contains-push}
 use Rattle.reachability.specs.Marks.{is_marked, unmarked}
-use Rattle.reachability.proofs.Closure.{IsMarking, marking_start, marking_step, marking_end, nothing_left, places_reached}
+use Rattle.reachability.proofs.Closure.{IsMarking, marking_start, marking_step, marking_end, places_reached}
 use Rattle.reachability.proofs.marks.Marks.close.Goals as goal
 
 pub loop-place-init : goal.loop-place-init
@@ -40,4 +40,4 @@ loop-place-smaller g c =
 pub returns : goal.returns
 returns g c =
     let none : length c.loop-place.waiting.items ≡ 0 = omega (arith, c.in_default.ensures.cases.0, c.loop-place.waiting.ok) in
-    marking_end (g.G.Graph.references c.args.graph.now) c.args.self c.loop-place.marked.items c.loop-place.waiting.items c.loop-place.invariant (nothing_left c.loop-place.waiting.items none)
+    marking_end (g.G.Graph.references c.args.graph.now) c.args.self c.loop-place.marked.items c.loop-place.waiting.items c.loop-place.invariant (nil_from_length c.loop-place.waiting.items none)
