@@ -101,7 +101,7 @@ get_kept [] X i d h = absurd (cc)
 get_kept (x ∷ T) X zero d h = h
 get_kept (x ∷ T) X (suc i) d h = get_kept T X i d h
 
-at_kept : (T X : Classes) (c : ℕ) (d : Class) → class_at T c ≡ Some d → class_at (T ++ X) c ≡ Some d
+pub at_kept : (T X : Classes) (c : ℕ) (d : Class) → class_at T c ≡ Some d → class_at (T ++ X) c ≡ Some d
 at_kept T X zero d h = absurd (cc)
 at_kept T X (suc i) d h = get_kept T X i d h
 
@@ -112,7 +112,7 @@ get_seam : (T X : Classes) (j : ℕ) → slice_get (T ++ X) (length T + j) ≡ s
 get_seam [] X j = ap (slice_get X) (omega arith)
 get_seam (x ∷ T) X j = let e : length (x ∷ T) + j ≡ suc (length T + j) = omega arith in ap (slice_get (x ∷ (T ++ X))) e ∙ get_seam T X j
 
-get_cases : (T X : Classes) (i : ℕ) (d : Class) → slice_get (T ++ X) i ≡ Some d → (slice_get T i ≡ Some d) ⊎ ((j : ℕ) × (slice_get X j ≡ Some d) × (i ≡ length T + j))
+pub get_cases : (T X : Classes) (i : ℕ) (d : Class) → slice_get (T ++ X) i ≡ Some d → (slice_get T i ≡ Some d) ⊎ ((j : ℕ) × (slice_get X j ≡ Some d) × (i ≡ length T + j))
 get_cases [] X i d h = inr (i, h, omega arith)
 get_cases (x ∷ T) X zero d h = inl h
 get_cases (x ∷ T) X (suc i) d h = elim (get_cases T X i d h) [ inl e ↦ inl e | inr q ↦ inr (q.0, q.1, omega (arith, q.2)) ]

@@ -2,5 +2,6 @@ pub mod GrownTables
 mod Assignable
 mod Mangled
 pub mod MangledNames
-mod Unescaping
+pub mod Unescaping
 pub mod ClassIds
+pub mod FoundClasses

@@ -1,18 +1,13 @@
 -- unmangle is the inverse of mangle.
 use Rattle.std.proofs.Common.{◌≡◌, ℕ, Bool, true, false, not, ◌&&◌, List, [], ◌∷◌, ◌++◌, Option, Some, None, refl, sym, ap, ◌∙◌, subst, true≢false, ◌==◌, bytes_eq, if◌then◌else◌, drop, append-nil, codes, flat_map}
 use lib.Pointwise.{bytes_decides}
-use lib.Dec.{eqb→eq, T}
 use Rattle.std.specs.List.{list_all}
-use Rattle.std.proofs.lemmas.Bool.{and_parts, and_from, not_from_false}
+use Rattle.std.proofs.lemmas.Bool.{and_parts, and_from, not_from_false, eqb-true}
 use Rattle.base.specs.Bytes.{is_letter, is_name_part, first_passes, with_first, split_at}
 use Rattle.base.specs.Options.{option_filter}
 use Rattle.class_rules.specs.Mangling.{is_simple_name, is_class_name, escaped_byte, mangle, unescaped, after_first, split_last, is_unmangled, unmangle, IsInverse}
 
 -- ---- truth values
-
--- each number is 47, 95 or another
-number_is : (c d : ℕ) → (c == d) ≡ true → c ≡ d
-number_is c d e = eqb→eq c d (subst T (sym e) tt)
 
 -- ---- unescaping what was escaped
 
@@ -54,11 +49,11 @@ back_step c rest free inner = go (c == 47) (c == 95) refl refl
     go true u es eu =
         ap (λ b. unescaped ((if b then codes "_" else if c == 95 then codes "_1" else c ∷ []) ++ escaped rest)) es
         ∙ step 95 (escaped rest) (first_escaped rest (one_false (first_passes (λ d. d == 49) rest) (ap (λ b. not (b && first_passes (λ d. d == 49) rest)) (sym es) ∙ free)))
-        ∙ ap (λ xs. 47 ∷ xs) inner ∙ ap (λ n. n ∷ rest) (sym (number_is c 47 es))
+        ∙ ap (λ xs. 47 ∷ xs) inner ∙ ap (λ n. n ∷ rest) (sym (eqb-true c 47 es))
     go false true es eu =
         ap (λ b. unescaped ((if b then codes "_" else if c == 95 then codes "_1" else c ∷ []) ++ escaped rest)) es
         ∙ ap (λ b. unescaped ((if b then codes "_1" else c ∷ []) ++ escaped rest)) eu
-        ∙ ap (λ xs. 95 ∷ xs) inner ∙ ap (λ n. n ∷ rest) (sym (number_is c 95 eu))
+        ∙ ap (λ xs. 95 ∷ xs) inner ∙ ap (λ n. n ∷ rest) (sym (eqb-true c 95 eu))
     go false false es eu =
         ap (λ b. unescaped ((if b then codes "_" else if c == 95 then codes "_1" else c ∷ []) ++ escaped rest)) es
         ∙ ap (λ b. unescaped ((if b then codes "_1" else c ∷ []) ++ escaped rest)) eu
@@ -77,7 +72,7 @@ abbrev no_slash : List ℕ → Bool
 no_slash p = list_all (λ c. not (c == 47)) p
 
 part_no_slash : (c : ℕ) → is_name_part c ≡ true → (c == 47) ≡ false
-part_no_slash c h = elim (c == 47) as (λ b. (c == 47) ≡ b → b ≡ false) [ true ↦ λ e. absurd (true≢false (sym h ∙ ap is_name_part (number_is c 47 e))) | false ↦ λ e. refl ] refl
+part_no_slash c h = elim (c == 47) as (λ b. (c == 47) ≡ b → b ≡ false) [ true ↦ λ e. absurd (true≢false (sym h ∙ ap is_name_part (eqb-true c 47 e))) | false ↦ λ e. refl ] refl
 
 all_no_slash : (p : List ℕ) → list_all is_name_part p ≡ true → no_slash p ≡ true
 all_no_slash [] h = refl
@@ -108,7 +103,7 @@ split_joined (x ∷ rest) m h = ap (λ o. after_first x o (rest ++ 47 ∷ m)) (s
 
 -- a letter is no 1
 letter_not_one : (c : ℕ) → is_letter c ≡ true → (c == 49) ≡ false
-letter_not_one c h = elim (c == 49) as (λ b. (c == 49) ≡ b → b ≡ false) [ true ↦ λ e. absurd (true≢false (sym h ∙ ap is_letter (number_is c 49 e))) | false ↦ λ e. refl ] refl
+letter_not_one c h = elim (c == 49) as (λ b. (c == 49) ≡ b → b ≡ false) [ true ↦ λ e. absurd (true≢false (sym h ∙ ap is_letter (eqb-true c 49 e))) | false ↦ λ e. refl ] refl
 
 first_simple : (p q : List ℕ) → first_passes is_letter p ≡ true → first_passes (λ d. d == 49) (p ++ q) ≡ false
 first_simple [] q h = absurd (true≢false (sym h))

@@ -1,14 +1,18 @@
 -- The test of a name reads exactly the mangled names.
-use Rattle.std.proofs.Common.{◌≡◌, ℕ, Bool, true, false, eqb, ◌&&◌, ◌⊎◌, inl, inr, List, [], ◌∷◌, ◌++◌, refl, ap, sym, ◌∙◌, subst, append_assoc, Option, Some, None, is_some, if◌then◌else◌, ◌==◌, flat_map, arith}
+use Rattle.std.proofs.Common.{◌≡◌, ℕ, Bool, true, false, eqb, ◌&&◌, ◌⊎◌, inl, inr, List, [], ◌∷◌, ◌++◌, refl, ap, sym, ◌∙◌, subst, append_assoc, is_some, if◌then◌else◌, ◌==◌, flat_map, arith}
+use Rattle.std.specs.Cmp.{first_so, second_so}
+use Rattle.std.specs.Cmp.Derive.{one_truth}
 use Rattle.std.proofs.lemmas.Bool.Decides.{nat_tests}
 use Rattle.std.proofs.lemmas.Grind.{flat_map-append}
 use Rattle.std.specs.List.{list_all}
+use Rattle.std.proofs.Math.Bool.{and_assoc}
 use Rattle.std.proofs.lemmas.Bool.{eqb-true}
 use Rattle.base.specs.Bytes.{is_letter, is_name_part, with_first, split_at}
 use Rattle.class_rules.specs.Class.{array_name}
 use Rattle.class_rules.specs.Mangling.{is_simple_name, is_class_name, escaped_byte, mangle, unmangle}
 use Rattle.class_rules.specs.MangledNames.{is_word, reads_name, reads_underscore, reads_first, reads_after, reads_mangled}
 use Rattle.class_rules.proofs.Mangled.{inverse}
+use Rattle.class_rules.proofs.Unescaping.{some_of}
 
 abbrev escaped : List ℕ → List ℕ
 escaped p = flat_map escaped_byte p
@@ -35,14 +39,6 @@ is_slash c = c == 47
 tested : {P : Type 0} (b : Bool) → (b ≡ true → P) → (b ≡ false → P) → P
 tested true t f = t refl
 tested false t f = f refl
-
-and-left : (a b : Bool) → (a && b) ≡ true → a ≡ true
-and-left true b h = refl
-and-left false b h = absurd cc
-
-and-right : (a b : Bool) → (a && b) ≡ true → b ≡ true
-and-right true b h = h
-and-right false b h = absurd cc
 
 letter-no_slash : (b : ℕ) → is_letter b ≡ true → eqb b 47 ≡ false
 letter-no_slash b h = grind (arith, nat_tests)
@@ -102,9 +98,9 @@ mutual
       (λ is. let inside : reads_underscore bs s ≡ true = rw is at h in
       subst (λ x. Parts (x ∷ bs) s) (sym (eqb-true b 95 is)) (underscore bs s inside))
       (λ no. let inside : (is_word b && reads_name bs s) ≡ true = rw no at h in
-      let word = and-left _ _ inside in
+      let word = first_so _ _ inside in
       subst (λ xs. Parts (xs ++ bs) s) (escape-word b word)
-      (grow b bs s (word-part b word) (word-no_slash b word) (parts bs s (and-right _ _ inside))))
+      (grow b bs s (word-part b word) (word-no_slash b word) (parts bs s (second_so _ _ inside))))
 
   underscore : (bs : List ℕ) (s : Bool) → reads_underscore bs s ≡ true → Parts (95 ∷ bs) s
   underscore [] s h = absurd cc
@@ -112,15 +108,15 @@ mutual
       tested (is_letter b)
       (λ is. let inside : reads_name bs true ≡ true = rw is at h in separated b bs s is (parts bs true inside))
       (λ no. let inside : (eqb b 49 && reads_name bs s) ≡ true = rw no at h in
-      subst (λ x. Parts (95 ∷ x ∷ bs) s) (sym (eqb-true b 49 (and-left _ _ inside)))
-      (grow 95 bs s refl refl (parts bs s (and-right _ _ inside))))
+      subst (λ x. Parts (95 ∷ x ∷ bs) s) (sym (eqb-true b 49 (first_so _ _ inside)))
+      (grow 95 bs s refl refl (parts bs s (second_so _ _ inside))))
 
 reads-after : (ps name : List ℕ) → reads_after ps name ≡ true → (rest : List ℕ) × (name ≡ ps ++ rest) × (reads_first rest ≡ true)
 reads-after [] name h = (name, refl, h)
 reads-after (p ∷ ps) [] h = absurd cc
 reads-after (p ∷ ps) (b ∷ bs) h =
-    let head = eqb-true b p (and-left _ _ h) in
-    let tail = reads-after ps bs (and-right (eqb b p) _ h) in
+    let head = eqb-true b p (first_so _ _ h) in
+    let tail = reads-after ps bs (second_so (eqb b p) _ h) in
     (tail.0, ap (λ x. x ∷ bs) head ∙ ap (λ xs. p ∷ xs) tail.1, tail.2)
 
 from-parts : (b : ℕ) (bs : List ℕ) → is_letter b ≡ true → Parts bs false → (class method : List ℕ) × (begins_part class ≡ true) × (is_method_name method ≡ true) × (b ∷ bs ≡ escaped class ++ (95 ∷ escaped method))
@@ -130,7 +126,7 @@ from-parts b bs letter (inr k) =
 
 first-parts : (rest : List ℕ) → reads_first rest ≡ true → (class method : List ℕ) × (begins_part class ≡ true) × (is_method_name method ≡ true) × (rest ≡ escaped class ++ (95 ∷ escaped method))
 first-parts [] h = absurd cc
-first-parts (b ∷ bs) h = from-parts b bs (and-left (is_letter b) _ h) (parts bs false (and-right (is_letter b) _ h))
+first-parts (b ∷ bs) h = from-parts b bs (first_so (is_letter b) _ h) (parts bs false (second_so (is_letter b) _ h))
 
 -- a class and a method that make a name
 abbrev Made : List ℕ → Type 0
@@ -145,17 +141,17 @@ made-from name h =
 reads-part : (p : List ℕ) → list_all is_name_part p ≡ true → reads_name (escaped p) true ≡ true
 reads-part [] h = refl
 reads-part (b ∷ p) h =
-    let rest = reads-part p (and-right (is_name_part b) _ h) in
+    let rest = reads-part p (second_so (is_name_part b) _ h) in
     tested (eqb b 95)
     (λ is. subst (λ x. reads_name (escaped (x ∷ p)) true ≡ true) (sym (eqb-true b 95 is)) rest)
-    (λ no. let word : is_word b ≡ true = part-word b (and-left (is_name_part b) _ h) no in
+    (λ no. let word : is_word b ≡ true = part-word b (first_so (is_name_part b) _ h) no in
     rw (escape-word b word, no, word) rest)
 
 reads-method : (m : List ℕ) → is_method_name m ≡ true → (t : Bool) → reads_name (95 ∷ escaped m) t ≡ true
 reads-method [] h t = absurd cc
 reads-method (b ∷ m) h t =
-    let letter = and-left _ _ h in
-    rw (escape-word b (letter-word b letter), letter) (reads-part m (and-right (is_letter b) _ h))
+    let letter = first_so _ _ h in
+    rw (escape-word b (letter-word b letter), letter) (reads-part m (second_so (is_letter b) _ h))
 
 mutual
   reads-goes : (c : List ℕ) (s : Bool) (tail : List ℕ) → goes_on c ≡ true → ((t : Bool) → reads_name tail t ≡ true) → reads_name (escaped c ++ tail) s ≡ true
@@ -165,23 +161,23 @@ mutual
       (λ is. let inside : begins_part c ≡ true = rw is at h in
       subst (λ x. reads_name (escaped (x ∷ c) ++ tail) s ≡ true) (sym (eqb-true b 47 is)) (reads-begins c s tail inside k))
       (λ no. let inside : (is_name_part b && goes_on c) ≡ true = rw no at h in
-      let rest = reads-goes c s tail (and-right (is_name_part b) _ inside) k in
+      let rest = reads-goes c s tail (second_so (is_name_part b) _ inside) k in
       tested (eqb b 95)
       (λ is. subst (λ x. reads_name (escaped (x ∷ c) ++ tail) s ≡ true) (sym (eqb-true b 95 is)) rest)
-      (λ other. let word : is_word b ≡ true = part-word b (and-left (is_name_part b) _ inside) other in
+      (λ other. let word : is_word b ≡ true = part-word b (first_so (is_name_part b) _ inside) other in
       rw (escape-word b word, other, word) rest))
 
   reads-begins : (c : List ℕ) (s : Bool) (tail : List ℕ) → begins_part c ≡ true → ((t : Bool) → reads_name tail t ≡ true) → reads_underscore (escaped c ++ tail) s ≡ true
   reads-begins [] s tail h k = absurd cc
   reads-begins (b ∷ c) s tail h k =
-      let letter = and-left _ _ h in
-      rw (escape-word b (letter-word b letter), letter) (reads-goes c true tail (and-right (is_letter b) _ h) k)
+      let letter = first_so _ _ h in
+      rw (escape-word b (letter-word b letter), letter) (reads-goes c true tail (second_so (is_letter b) _ h) k)
 
 reads-class : (c tail : List ℕ) → begins_part c ≡ true → ((t : Bool) → reads_name tail t ≡ true) → reads_first (escaped c ++ tail) ≡ true
 reads-class [] tail h k = absurd cc
 reads-class (b ∷ c) tail h k =
-    let letter = and-left _ _ h in
-    rw (escape-word b (letter-word b letter), letter) (reads-goes c false tail (and-right (is_letter b) _ h) k)
+    let letter = first_so _ _ h in
+    rw (escape-word b (letter-word b letter), letter) (reads-goes c false tail (second_so (is_letter b) _ h) k)
 
 made-reads : (name : List ℕ) → Made name → reads_mangled name ≡ true
 made-reads name h =
@@ -207,13 +203,9 @@ abbrev go_on : List (List ℕ) → Bool
 go_on [] = true
 go_on (q ∷ qs) = list_all is_name_part q && list_all is_simple_name qs
 
-and_assoc : (a b c : Bool) → (a && (b && c)) ≡ ((a && b) && c)
-and_assoc true b c = refl
-and_assoc false b c = refl
-
 part-goes : (b : ℕ) (p : List ℕ) → (is_name_part b && go_on (split_at is_slash p)) ≡ go_on (with_first b (split_at is_slash p))
 part-goes b p = let inner = some_pieces p in
-    subst (λ qs. (is_name_part b && go_on qs) ≡ go_on (with_first b qs)) (sym inner.2) (and_assoc (is_name_part b) (list_all is_name_part inner.0) (list_all is_simple_name inner.1))
+    subst (λ qs. (is_name_part b && go_on qs) ≡ go_on (with_first b qs)) (sym inner.2) (sym (and_assoc (is_name_part b) (list_all is_name_part inner.0) (list_all is_simple_name inner.1)))
 
 first-goes : (b : ℕ) (qs : List ℕ) (others : List (List ℕ)) → (is_letter b && go_on (qs ∷ others)) ≡ list_all is_simple_name (with_first b (qs ∷ others))
 first-goes b qs others = tested (is_letter b) (λ is. rw is refl) (λ no. rw no refl)
@@ -241,10 +233,6 @@ mutual
 mangle-parts : (c m : List ℕ) → mangle c m ≡ 74 ∷ 97 ∷ 118 ∷ 97 ∷ 95 ∷ (escaped c ++ (95 ∷ escaped m))
 mangle-parts c m = ap (λ xs. 74 ∷ 97 ∷ 118 ∷ 97 ∷ 95 ∷ xs) (flat_map-append escaped_byte c (47 ∷ m))
 
-some_is : {A : Type 0} (o : Option A) → is_some o ≡ true → (x : A) × (o ≡ Some x)
-some_is None h = absurd cc
-some_is (Some x) h = (x, refl)
-
 read-some : (name : List ℕ) → reads_mangled name ≡ true → is_some (unmangle name) ≡ true
 read-some name h =
     let made = made-from name h in
@@ -252,18 +240,13 @@ read-some name h =
 
 some-read : (name : List ℕ) → is_some (unmangle name) ≡ true → reads_mangled name ≡ true
 some-read name h =
-    let found = some_is (unmangle name) h in
+    let found = some_of (unmangle name) h in
     let made = (inverse name found.0.0 found.0.1).0 found.1 in
     made-reads name (found.0.0, found.0.1, begins found.0.0 ∙ made.0, simple found.0.1 ∙ made.1, made.2 ∙ mangle-parts found.0.0 found.0.1)
 
-same_truth : (a b : Bool) → (a ≡ true → b ≡ true) → (b ≡ true → a ≡ true) → a ≡ b
-same_truth true b f g = sym (f refl)
-same_truth false true f g = absurd (let e : false ≡ true = g refl in cc)
-same_truth false false f g = refl
-
 -- a name reads as a mangled one exactly where a class and a method have it
 pub reads-some : (name : List ℕ) → reads_mangled name ≡ is_some (unmangle name)
-reads-some name = same_truth (reads_mangled name) (is_some (unmangle name)) (read-some name) (some-read name)
+reads-some name = one_truth (reads_mangled name) (is_some (unmangle name)) (read-some name) (some-read name)
 
 -- a class of arrays has no class name
 pub array_name-no_class : (element : List ℕ) → is_class_name (array_name element) ≡ false

@@ -23,7 +23,7 @@ split_last-found path i below here none =
     let whole : path ≡ take i path ++ (47 ∷ drop (i + 1) path) = grind (arith, common_steps, here) in
     ap split_last whole ∙ split-at (take i path) (drop (i + 1) path) none
 
-filter-some : {A : Type 0} (test : A → Bool) (o : Option A) → is_some (option_filter test o) ≡ true → option_filter test o ≡ o
+pub filter-some : {A : Type 0} (test : A → Bool) (o : Option A) → is_some (option_filter test o) ≡ true → option_filter test o ≡ o
 filter-some test None h = refl
 filter-some {A = A} test (Some x) h = go (test x) refl
   where
@@ -36,7 +36,7 @@ pub unmangle-parts : (name : List ℕ) → is_some (unmangle name) ≡ true → 
 unfolding unmangle
 unmangle-parts name h = filter-some (is_unmangled name) (split_last (unescaped (drop 5 name))) h
 
-some_of : {A : Type 0} (o : Option A) → is_some o ≡ true → (x : A) × (o ≡ Some x)
+pub some_of : {A : Type 0} (o : Option A) → is_some o ≡ true → (x : A) × (o ≡ Some x)
 some_of None h = cc
 some_of (Some x) h = (x, refl)
 
