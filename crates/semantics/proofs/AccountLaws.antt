@@ -3,7 +3,7 @@ use Rattle.std.proofs.Common.{◌≡◌, ◌≢◌, ℕ, zero, suc, Bool, true, 
 use Rattle.std.specs.Prelude.{◌==◌, ◌&&◌, not, is_none, IsSome, slice_get, slice_set, if◌then◌else◌, ◌⊎◌}
 use Rattle.std.specs.List.{filter}
 use Rattle.std.specs.Option.{option_map, option_and_then, option_map_or}
-use Rattle.std.proofs.lemmas.Bool.{false≢true}
+use Rattle.std.proofs.lemmas.Bool.{false≢true, and_parts, not-true}
 use Rattle.std.proofs.lemmas.Bool.Decides.{eqb_tells}
 use Rattle.std.proofs.lemmas.List.{append-nil}
 use Rattle.std.proofs.lemmas.List.Elements.{filter-append}
@@ -23,17 +23,9 @@ use Rattle.semantics.proofs.RunLaws.{replay_from-append}
 
 -- ---- that it can step
 
-and_parts : (x y : Bool) → (x && y) ≡ true → (x ≡ true) × (y ≡ true)
-and_parts true y h = (refl, h)
-and_parts false y h = absurd (false≢true h)
-
 no_stop : (stop : Option Stop) → is_none stop ≡ true → stop ≡ None
 no_stop None h = refl
 no_stop (Some stop) h = absurd (false≢true h)
-
-not_so : (b : Bool) → not b ≡ true → b ≡ false
-not_so true h = absurd (false≢true h)
-not_so false h = refl
 
 tested : (b : Bool) (after : Option State) (next : State) → (if b then after else None) ≡ Some next → (b ≡ true) × (after ≡ Some next)
 tested true after next h = (refl, h)
@@ -45,7 +37,7 @@ may_step unit classes s next k refused h =
     let can = (tested (can_step classes s k) (step_of unit classes s k refused (thread_at s k)) next h).0 in
     let parts = and_parts (is_none s.stop && is_live (thread_at s k)) (not (is_blocked classes s k)) can in
     let first = and_parts (is_none s.stop) (is_live (thread_at s k)) parts.0 in
-    record { running = no_stop s.stop first.0; live = first.1; free = not_so (is_blocked classes s k) parts.1 }
+    record { running = no_stop s.stop first.0; live = first.1; free = not-true (is_blocked classes s k) parts.1 }
 
 -- ---- what it leaves
 
@@ -80,7 +72,7 @@ steps_print unit classes s next k refused h =
     let step : Stepped s k next = by_step unit classes s next k refused h in
     prints s (record s { shared = step.shared; threads = set_thread s.threads k step.thread }) next k step.event refl step.is
 
-get-set_other : {A : Type 0} (xs : List A) (i j : ℕ) (w : A) → j ≢ i → slice_get (slice_set xs i w) j ≡ slice_get xs j
+pub get-set_other : {A : Type 0} (xs : List A) (i j : ℕ) (w : A) → j ≢ i → slice_get (slice_set xs i w) j ≡ slice_get xs j
 get-set_other [] i j w other = refl
 get-set_other (x ∷ xs) zero zero w other = absurd (other refl)
 get-set_other (x ∷ xs) zero (suc j) w other = refl

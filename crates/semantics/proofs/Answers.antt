@@ -24,7 +24,7 @@ use Rattle.semantics.specs.Value.{Flag, Int, OutOfRange}
 use Rattle.semantics.specs.Variable.{StaticReference, Empty, Live, Weakly, Cleared, Deleted}
 
 -- where an object has no monitor, none goes
-none_without : (ms : List Monitor) (n : ℕ) → monitor_of ms n ≡ None → without_monitor ms n ≡ ms
+pub none_without : (ms : List Monitor) (n : ℕ) → monitor_of ms n ≡ None → without_monitor ms n ≡ ms
 none_without [] n none = refl
 none_without (m ∷ ms) n none = by_test (m.object == n) none (λ rest. none_without ms n rest)
   where

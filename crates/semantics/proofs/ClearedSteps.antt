@@ -3,6 +3,7 @@
 use Rattle.std.specs.Prelude.{◌≡◌, ◌≢◌, ℕ, Bool, true, false, cond, List, [], ◌∷◌, ◌++◌, map, zip, length, drop, Option, Some, None, refl}
 use Rattle.std.specs.List.{AllByRecursion}
 use Rattle.std.proofs.Common.{ap, ◌∙◌, inl, inr, subst, sym}
+use Rattle.std.proofs.Math.Seq.{drop-length}
 use Rattle.std.proofs.lemmas.List.{append-nil}
 use Rattle.base.specs.Bytes.{Identifier, lookup}
 use Rattle.base.specs.Element.{JInt}
@@ -150,12 +151,8 @@ module _ (unit : SourceUnit) (classes : Classes) (in_use : BuffersInUse) (k : �
 
 -- ---- steps
 
-dropped : (heap : Heap) → drop (length heap) heap ≡ []
-dropped [] = refl
-dropped (o ∷ heap) = dropped heap
-
 dropped_same : (heap heap' : Heap) → heap' ≡ heap → drop (length heap) heap' ≡ []
-dropped_same heap heap' h = ap (drop (length heap)) h ∙ dropped heap
+dropped_same heap heap' h = ap (drop (length heap)) h ∙ drop-length heap
 
 none_between : (s : State) (k : ℕ) (a : Advance) → KeepsHeap s.shared.heap a → made_between s (advanced s k a) ≡ []
 none_between s k NoAdvance h = refl

@@ -3,7 +3,7 @@ use Rattle.std.specs.Prelude.{◌-◌, slice_set, ◌≡◌, ℕ, zero, suc, ◌
 use Rattle.std.proofs.Common.{◌∙◌, ap, arith}
 use Rattle.std.proofs.lemmas.Bool.{cond_both}
 use lib.ListN.{length-set}
-use Rattle.std.proofs.lemmas.List.Sums.{sum_by-cons}
+use Rattle.std.proofs.lemmas.List.Sums.{sum_by-cons, sum_by-append}
 use Rattle.std.proofs.lemmas.List.{take_all}
 use Rattle.semantics.specs.Heap.{Heap, object_at, class_of, values_of, with_value_at}
 use Rattle.semantics.specs.Object.{Object, ObjectValue, size, sizes}
@@ -11,10 +11,6 @@ use Rattle.semantics.specs.Reachable.{from_one, is_in, roots, reachable, live_si
 use Rattle.semantics.specs.State.{State}
 use Rattle.semantics.specs.World.{World}
 use Rattle.semantics.proofs.ReachableLemmas.{closed_rising, IsRising}
-
-sum-append : {A : Type 0} (f : A → ℕ) (xs ys : List A) → sum_by f (xs ++ ys) ≡ sum_by f xs + sum_by f ys
-sum-append f [] ys = omega arith
-sum-append f (x ∷ xs) ys = omega (arith, sum_by-cons f x (xs ++ ys), sum_by-cons f x xs, sum-append f xs ys)
 
 -- some of them take no more than all
 sum-filter : (f : ℕ → ℕ) (p : ℕ → Bool) (xs : List ℕ) → sum_by f (filter p xs) ≤ sum_by f xs
@@ -43,8 +39,8 @@ first_sizes heap (suc k) within =
     let o = get_below heap k (omega (arith, within)) in
     let here : size_at heap (suc k) ≡ size o.0 = rw o.1 refl in
     let before = first_sizes heap k (omega (arith, within)) in
-    let names = sum-append (size_at heap) (from_one k) (suc k ∷ []) in
-    let objects = sum-append size (take k heap) (o.0 ∷ []) in
+    let names = sum_by-append (size_at heap) (from_one k) (suc k ∷ []) in
+    let objects = sum_by-append size (take k heap) (o.0 ∷ []) in
     let same = ap sizes (take_more heap k o.0 o.1) in
     omega (arith, here, before, names, objects, same)
 

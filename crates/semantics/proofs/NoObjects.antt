@@ -2,7 +2,7 @@
 use Rattle.std.specs.Prelude.{◌≡◌, ℕ, zero, suc, ◌+◌, ◌≤◌, Bool, true, false, nat_lt, List, [], ◌∷◌, ◌++◌, length, filter, refl}
 use Rattle.std.specs.List.{enumerate_from}
 use Rattle.std.proofs.Common.{ap, ◌∙◌, cond, arith, length-append}
-use Rattle.std.proofs.lemmas.Bool.Decides.{nat_tests}
+use Rattle.std.proofs.lemmas.Bool.{le-ltb}
 use Rattle.std.proofs.lemmas.List.{length-map}
 use Rattle.std.proofs.lemmas.List.Elements.{filter-append}
 use Rattle.std.proofs.lemmas.List.FromFn.{length-enumerate_from}
@@ -20,9 +20,6 @@ fails : (b : Bool) (x : ℕ) (p : ℕ → Bool) → p x ≡ false → filter p (
 fails true x p e = rw e refl
 fails false x p e = refl
 
-not_above : (m n : ℕ) → n ≤ m → nat_lt m n ≡ false
-not_above m n h = grind (arith, nat_tests)
-
 -- no number from one to n is above m
 none_above : (m n : ℕ) (p : ℕ → Bool) → n ≤ m → filter (λ x. nat_lt m x) (filter p (from_one n)) ≡ []
 none_above m zero p h = refl
@@ -30,9 +27,9 @@ none_above m (suc n) p h =
     ap (filter (λ x. nat_lt m x)) (filter-append p (from_one n) (suc n ∷ []))
     ∙ filter-append (λ x. nat_lt m x) (filter p (from_one n)) (filter p (suc n ∷ []))
     ∙ ap (λ l. l ++ filter (λ x. nat_lt m x) (filter p (suc n ∷ []))) (none_above m n p (omega arith))
-    ∙ fails (p (suc n)) (suc n) (λ x. nat_lt m x) (not_above m (suc n) h)
+    ∙ fails (p (suc n)) (suc n) (λ x. nat_lt m x) (le-ltb m (suc n) h)
 
-length-class_objects : (classes : Classes) → length (class_objects classes) ≡ length classes
+pub length-class_objects : (classes : Classes) → length (class_objects classes) ≡ length classes
 length-class_objects classes = length-map (enumerate_from 1 classes) (λ (c : ℕ × Class). class_object classes c.0) ∙ length-enumerate_from 1 classes
 
 -- how many objects are made at load, where the world has none of its own

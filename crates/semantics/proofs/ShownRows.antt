@@ -3,7 +3,7 @@ use Rattle.std.proofs.Common.{◌≡◌, ℕ, zero, suc, ◌+◌, ◌<◌, ◌�
 use Rattle.std.specs.Prelude.{slice_get, filter, nat_lt, ◌==◌, ◌||◌}
 use Rattle.std.specs.List.{enumerate_from}
 use Rattle.std.specs.Option.{option_map_or}
-use Rattle.std.proofs.lemmas.Bool.{cases_lt}
+use Rattle.std.proofs.lemmas.Bool.{cases_lt, le-ltb, lt-ltb}
 use Rattle.std.proofs.lemmas.Bool.Decides.{nat_tests}
 use Rattle.std.proofs.lemmas.List.{length-map, take-append-drop, length-take-le}
 use Rattle.std.proofs.lemmas.List.Elements.{filter-append, Contains-append_left, Contains-push}
@@ -102,25 +102,19 @@ unfolding numbers_from
 numbers_push from zero = let e : from ≡ from + 0 = omega arith in ap (λ n. n ∷ []) e
 numbers_push from (suc k) = let e : from + 1 + k ≡ from + suc k = omega arith in ap (λ (l : List ℕ). from ∷ l) (numbers_push (from + 1) k ∙ ap (λ n. numbers_from (from + 1) k ++ n ∷ []) e)
 
-below : (limit n : ℕ) → n ≤ limit → nat_lt limit n ≡ false
-below limit n h = grind (arith, nat_tests)
-
-above : (limit n : ℕ) → limit < n → nat_lt limit n ≡ true
-above limit n h = grind (arith, nat_tests)
-
 -- the names above a limit
 names_above : (limit k : ℕ) → filter (λ n. nat_lt limit n) (from_one (limit + k)) ≡ numbers_from (limit + 1) k
 unfolding numbers_from
 names_above limit zero =
     let e : limit + 0 ≡ limit = omega arith in
-    ap (λ n. filter (λ n. nat_lt limit n) (from_one n)) e ∙ all_dropped (λ n. nat_lt limit n) limit (λ n high. below limit n high)
+    ap (λ n. filter (λ n. nat_lt limit n) (from_one n)) e ∙ all_dropped (λ n. nat_lt limit n) limit (λ n high. le-ltb limit n high)
 names_above limit (suc k) =
     let e : limit + suc k ≡ suc (limit + k) = omega arith in
     let f : suc (limit + k) ≡ limit + 1 + k = omega arith in
     ap (λ n. filter (λ n. nat_lt limit n) (from_one n)) e
     ∙ filter-append (λ n. nat_lt limit n) (from_one (limit + k)) (suc (limit + k) ∷ [])
     ∙ ap (λ (l : List ℕ). l ++ filter (λ n. nat_lt limit n) (suc (limit + k) ∷ [])) (names_above limit k)
-    ∙ ap (λ (l : List ℕ). numbers_from (limit + 1) k ++ l) (kept_one (λ n. nat_lt limit n) (suc (limit + k)) (above limit (suc (limit + k)) (omega arith)))
+    ∙ ap (λ (l : List ℕ). numbers_from (limit + 1) k ++ l) (kept_one (λ n. nat_lt limit n) (suc (limit + k)) (lt-ltb limit (suc (limit + k)) (omega arith)))
     ∙ ap (λ n. numbers_from (limit + 1) k ++ n ∷ []) f
     ∙ sym (numbers_push (limit + 1) k)
 

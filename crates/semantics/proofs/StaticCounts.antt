@@ -2,7 +2,7 @@
 use Rattle.std.specs.Prelude.{◌≡◌, ℕ, ◌+◌, ◌≤◌, nat_le, Bool, true, false, cond, ℤ, List, [], ◌∷◌, ◌++◌, length, Option, Some, None, refl}
 use Rattle.std.specs.List.{cons_option}
 use Rattle.std.specs.Str.{bytes_eq}
-use Rattle.std.proofs.Common.{arith, sym, ap, ◌∙◌, subst}
+use Rattle.std.proofs.Common.{arith, sym, ap, ◌∙◌, subst, le_refl, le-add_right}
 use Rattle.std.proofs.lemmas.Bool.{cond_both}
 use Rattle.base.specs.Bytes.{Identifier, lookup}
 use Rattle.base.specs.Element.{JInt}
@@ -80,9 +80,6 @@ one_more x v ss = let a = held_assign x v ss in let b = weight_few v in omega (a
 no_more : (x : Identifier) (ss : Statics) → held (assign x Deleted ss) ≤ held ss
 no_more x ss = let a = held_assign x Deleted ss in omega (arith, a)
 
-least : (n : ℕ) → n ≤ n
-least n = omega arith
-
 -- ---- what calls do
 
 -- the effect leaves no more than there were
@@ -94,7 +91,7 @@ Keeps s (Leaves made s' t' r) = held s'.statics ≤ held s.statics
 
 frames_keep : (classes : Classes) (s : Shared) (t : Thread) (frames : List Frame) → Keeps s (frames_effect classes s t frames)
 frames_keep classes s t frames =
-    cond_both (nat_le (capacities frames) most_references) _ (refuses_frames classes s t) (Keeps s) (λ e. least (held s.statics)) (λ e. least (held s.statics))
+    cond_both (nat_le (capacities frames) most_references) _ (refuses_frames classes s t) (Keeps s) (λ e. le_refl (held s.statics)) (λ e. le_refl (held s.statics))
 
 module _ (unit : SourceUnit) (classes : Classes) (in_use : BuffersInUse) (k : ℕ) (s : Shared) (t : Thread) (args : List Actual) where
   -- whatever is answered
@@ -107,7 +104,7 @@ module _ (unit : SourceUnit) (classes : Classes) (in_use : BuffersInUse) (k : �
   answer_keeps (Raises c) = tt
   answer_keeps (answer.Calls m) = tt
   answer_keeps (answer.Halts trap) = tt
-  answer_keeps a = least (held s.statics)
+  answer_keeps a = le_refl (held s.statics)
 
   effect_keeps : (f : JniFunction) → Keeps s (call_effect unit classes in_use k s t args f)
   effect_keeps f = subst (Keeps s) (sym (effect_is unit classes in_use k s t args JInt f)) (answer_keeps (call_answer unit classes k (sight_of_call s t JInt f args) f))
@@ -119,27 +116,24 @@ abbrev AddsOne : Shared → Advance → Type 0
 AddsOne s (Advances s' t event) = held s'.statics ≤ held s.statics + 1
 AddsOne s NoAdvance = Unit {0}
 
-same : (n : ℕ) → n ≤ n + 1
-same n = omega arith
-
 assigned_adds : (x : Identifier) (given : CallResult) (s : Shared) (t : Thread) (o : Option Variable) → AddsOne s (put_assigned x given s t o)
-assigned_adds x given s t (Some v) = same (held s.statics)
+assigned_adds x given s t (Some v) = le-add_right (held s.statics) 1
 assigned_adds x given s t None = one_more x (static_result given) s.statics
 
 put_adds : (target : Target) (given : CallResult) (s : Shared) (t : Thread) → AddsOne s (put target given s t)
-put_adds (Declared kind x) given s t = same (held s.statics)
+put_adds (Declared kind x) given s t = le-add_right (held s.statics) 1
 put_adds (Assigned x) given s t = assigned_adds x given s t (lookup x t.variables)
-put_adds (Tested then' else') given s t = same (held s.statics)
-put_adds Dropped given s t = same (held s.statics)
+put_adds (Tested then' else') given s t = le-add_right (held s.statics) 1
+put_adds Dropped given s t = le-add_right (held s.statics) 1
 
 adds_from : (s s' : Shared) (a : Advance) → held s'.statics ≤ held s.statics → AddsOne s' a → AddsOne s a
 adds_from s s' (Advances x t event) few h = omega (arith, few, h)
 adds_from s s' NoAdvance few h = tt
 
 element_adds : (s : Shared) (t : Thread) (x : Identifier) (i : ℕ) (z : ℤ) (o : Option Variable) → AddsOne s (set_element s t x i z o)
-element_adds s t x i z (Some (LocalArray T zs)) = same (held s.statics)
-element_adds s t x i z (Some (Elements T (Copy n zs))) = same (held s.statics)
-element_adds s t x i z (Some (Elements T (View n))) = same (held s.statics)
+element_adds s t x i z (Some (LocalArray T zs)) = le-add_right (held s.statics) 1
+element_adds s t x i z (Some (Elements T (Copy n zs))) = le-add_right (held s.statics) 1
+element_adds s t x i z (Some (Elements T (View n))) = le-add_right (held s.statics) 1
 element_adds s t x i z (Some (Elements T NoBuffer)) = tt
 element_adds s t x i z (Some (Scalar v)) = tt
 element_adds s t x i z (Some (LocalRef level r)) = tt
@@ -149,7 +143,7 @@ element_adds s t x i z None = tt
 
 entry_adds : (s : Shared) (o : Option Thread) → AddsOne s (entry_advance s o)
 entry_adds s None = tt
-entry_adds s (Some t) = same (held s.statics)
+entry_adds s (Some t) = le-add_right (held s.statics) 1
 
 module _ (unit : SourceUnit) (classes : Classes) (in_use : BuffersInUse) (k : ℕ) (s : Shared) (t : Thread) where
   module _ (line : ℕ) (target : Target) (f : JniFunction) (args : List Actual) (rest : List Task) where
@@ -160,13 +154,13 @@ module _ (unit : SourceUnit) (classes : Classes) (in_use : BuffersInUse) (k : �
         (put_adds target given (record s' { heap = s'.heap ++ made }) (resumed unit classes in_use k s t line target f args rest t' given))
 
     call_adds : (e : CallEffect) → Keeps s e → AddsOne s (after_call unit classes in_use k s t line target f args rest e)
-    call_adds (Throws c) h = completed_adds _ s _ _ (least (held s.statics))
-    call_adds (Halts trap) h = same (held s.statics)
-    call_adds (Enters function arguments) h = same (held s.statics)
+    call_adds (Throws c) h = completed_adds _ s _ _ (le_refl (held s.statics))
+    call_adds (Halts trap) h = le-add_right (held s.statics) 1
+    call_adds (Enters function arguments) h = le-add_right (held s.statics) 1
     call_adds (Leaves made s' t' given) h = completed_adds made s' t' given h
 
     refusal_adds : (b : Bool) → AddsOne s (after_refusal unit classes in_use k s t line target f args rest b)
-    refusal_adds true = completed_adds [] s _ _ (least (held s.statics))
+    refusal_adds true = completed_adds [] s _ _ (le_refl (held s.statics))
     refusal_adds false = tt
 
     checked_keeps : (o : Option Trap) (e : CallEffect) → Keeps s e → Keeps s (checked o e)
@@ -180,22 +174,22 @@ module _ (unit : SourceUnit) (classes : Classes) (in_use : BuffersInUse) (k : �
     step_adds true = refusal_adds (makes_objects (effect_of_call unit classes in_use k s t line target f args rest))
 
   return_adds : (given : CallResult) (callers : List Caller) → AddsOne s (return_by k s t given callers)
-  return_adds given [] = same (held s.statics)
+  return_adds given [] = le-add_right (held s.statics) 1
   return_adds given (c ∷ callers) =
       let back = given_back t.pending c.result given in
       put_adds c.target back s (received c.result back (resumed_in t c callers))
 
   module _ (rest : List Task) where
     effect_adds : (e : Effect) → AddsOne s (after_effect unit classes in_use k s t rest e)
-    effect_adds (Becomes tasks) = same (held s.statics)
-    effect_adds (Sets x v) = same (held s.statics)
+    effect_adds (Becomes tasks) = le-add_right (held s.statics) 1
+    effect_adds (Sets x v) = le-add_right (held s.statics) 1
     effect_adds (SetsNull target) = put_adds target _ s (with_tasks t rest)
     effect_adds (SetsElement x i z) = element_adds s (with_tasks t rest) x i z (lookup x t.variables)
-    effect_adds (MakesArray T x n) = same (held s.statics)
-    effect_adds (Prints z) = same (held s.statics)
+    effect_adds (MakesArray T x n) = le-add_right (held s.statics) 1
+    effect_adds (Prints z) = le-add_right (held s.statics) 1
     effect_adds (Calls line target f args) = step_adds line target f args rest false
     effect_adds (Returns given) = return_adds given t.callers
-    effect_adds (TrapsAt trap line) = same (held s.statics)
+    effect_adds (TrapsAt trap line) = le-add_right (held s.statics) 1
     effect_adds NoEffect = tt
 
     refused_adds : (e : Effect) → AddsOne s (after_refused_effect unit classes in_use k s t rest e)

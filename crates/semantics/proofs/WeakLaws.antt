@@ -3,10 +3,11 @@ use Rattle.std.specs.Prelude.{◌≡◌, ◌≢◌, ℕ, zero, suc, ◌+◌, ◌
 use Rattle.std.specs.List.{list_all, list_any, cons_option}
 use Rattle.std.specs.Option.{option_map, option_and_then, option_map_or}
 use Rattle.std.proofs.Common.{sym, ◌∙◌, ap, subst, inl, inr, arith}
-use Rattle.std.proofs.lemmas.Bool.{false≢true, false_from_ne_true, and_from}
+use Rattle.std.proofs.lemmas.Bool.{false≢true, false_from_ne_true, and_from, and_parts, both_ways, not-true}
 use Rattle.std.proofs.lemmas.Bool.Decides.{nat_tests}
 use Rattle.std.proofs.lemmas.List.{append-nil}
 use Rattle.std.proofs.lemmas.List.Elements.{filter-append}
+use Rattle.std.proofs.lemmas.Option.{cond_some}
 use Rattle.syntax.specs.Tree.{Static, SourceUnit}
 use Rattle.semantics.specs.AccountLaws.{ClearingsStay, ClearingsAreFew, LostAreCleared}
 use Rattle.semantics.specs.Heap.{Heap}
@@ -15,7 +16,7 @@ use Rattle.semantics.specs.Reachable.{from_one, roots, IsName, Reached, FromRoot
 use Rattle.semantics.specs.Run.{replay, replay_from, account_at, entries_of, ending_of}
 use Rattle.semantics.specs.Start.{start, null_static}
 use Rattle.syntax.specs.Parts.{statics_of}
-use Rattle.semantics.specs.State.{State, thread_at}
+use Rattle.semantics.specs.State.{State}
 use Rattle.semantics.specs.Step.{turn_step, clearing_step}
 use Rattle.semantics.specs.Thread.{Thread, Unfinished}
 use Rattle.semantics.specs.Variable.{StaticReference, Empty, Live, Weakly, Cleared, Deleted, Statics}
@@ -25,25 +26,14 @@ use Rattle.semantics.proofs.AccountLaws.{left_out}
 use Rattle.semantics.proofs.ReachableLemmas.{In, in_head, in_tail, in_cases, in_append_cases, in_filter, from_filter, to_contains, contains_in, reached_lists, reachable_lists}
 use Rattle.semantics.proofs.RunLaws.{replay_from-append}
 use Rattle.semantics.proofs.StaticCounts.{held, held_is, turn_adds}
+use Rattle.semantics.proofs.ClearedMade.{thread_stays}
 
 -- ---- a clearing
-
-both_true : (x y : Bool) → (x && y) ≡ true → (x ≡ true) × (y ≡ true)
-both_true true y h = (refl, h)
-both_true false y h = absurd (false≢true h)
-
-tested : (b : Bool) (after next : State) → cond b (Some after) None ≡ Some next → (b ≡ true) × (after ≡ next)
-tested true after next h = (refl, cc (h))
-tested false after next h = let bad : None ≡ Some next = h in absurd (cc)
 
 -- where it is possible, this is what it leaves
 pub clearing_leaves : (w : World) (s next : State) (names : List ℕ) → clearing_step w s names ≡ Some next → (may_clear w s names ≡ true) × (with_cleared names s ≡ next)
 unfolding clearing_step
-clearing_leaves w s next names h = tested (may_clear w s names) (with_cleared names s) next h
-
-same_thread : (s : State) (names : List ℕ) (k : ℕ) → thread_at (with_cleared names s) k ≡ thread_at s k
-same_thread s names zero = refl
-same_thread s names (suc i) = refl
+clearing_leaves w s next names h = cond_some (may_clear w s names) (with_cleared names s) next h
 
 module _ (unit : SourceUnit) (w : World) (journal : Journal) (names : List ℕ) (k : ℕ) where
   longer : Journal
@@ -53,7 +43,7 @@ module _ (unit : SourceUnit) (w : World) (journal : Journal) (names : List ℕ) 
   unfolding longer
   same_part s =
       let entries : entries_of (journal ++ Clearing names ∷ []) k ≡ entries_of journal k = ap length (left_out (is_step_of k) journal (Clearing names) refl) in
-      let ending : ending_of (with_cleared names s) k ≡ ending_of s k = ap (λ (o : Option Thread). option_map_or (λ (t : Thread). t.ending) o Unfinished) (same_thread s names k) in
+      let ending : ending_of (with_cleared names s) k ≡ ending_of s k = ap (λ (o : Option Thread). option_map_or (λ (t : Thread). t.ending) o Unfinished) (thread_stays s names k) in
       rw (entries, ending) refl
 
   last : (s : State) (o : Option State) → clearing_step w s names ≡ o → IsSome (option_and_then (λ s'. replay_from unit w s' []) o)
@@ -75,11 +65,11 @@ clearings_stay unit w journal names k some =
 
 -- ---- lists of names
 
-all_of : (p : ℕ → Bool) (xs : List ℕ) → ((x : ℕ) → In xs x → p x ≡ true) → list_all p xs ≡ true
+pub all_of : (p : ℕ → Bool) (xs : List ℕ) → ((x : ℕ) → In xs x → p x ≡ true) → list_all p xs ≡ true
 all_of p [] h = refl
 all_of p (y ∷ ys) h = and_from (p y) (list_all p ys) (h y (in_head y ys)) (all_of p ys (λ x k. h x (in_tail y ys x k)))
 
-none_of : (p : ℕ → Bool) (xs : List ℕ) → ((x : ℕ) → In xs x → p x ≡ false) → list_any p xs ≡ false
+pub none_of : (p : ℕ → Bool) (xs : List ℕ) → ((x : ℕ) → In xs x → p x ≡ false) → list_any p xs ≡ false
 none_of p [] h = refl
 none_of p (y ∷ ys) h = rw (h y (in_head y ys), none_of p ys (λ x k. h x (in_tail y ys x k))) refl
 
@@ -87,7 +77,7 @@ nothing_in : (xs : List ℕ) → ((x : ℕ) → In xs x → ⊥) → xs ≡ []
 nothing_in [] h = refl
 nothing_in (y ∷ ys) h = absurd (h y (in_head y ys))
 
-in_from_one : (n x : ℕ) → In (from_one n) x → x ≤ n
+pub in_from_one : (n x : ℕ) → In (from_one n) x → x ≤ n
 in_from_one zero x h = absurd (false≢true h)
 in_from_one (suc n) x h = by_part (in_append_cases (from_one n) (suc n ∷ []) x h) (in_from_one n x)
   where
@@ -105,11 +95,11 @@ Ascends xs = (xs ≡ []) ⊎ (are_rising xs ≡ true)
 
 rising_further : (xs : List ℕ) (n : ℕ) → Ascends xs → list_all (λ m. nat_lt m n) xs ≡ true → are_rising (xs ++ n ∷ []) ≡ true
 rising_further [] n h below = refl
-rising_further (x ∷ []) n h below = and_from (nat_lt x n) true (both_true (nat_lt x n) true below).0 refl
+rising_further (x ∷ []) n h below = and_from (nat_lt x n) true (and_parts (nat_lt x n) true below).0 refl
 rising_further (x ∷ y ∷ xs) n (inl e) below = absurd (cc)
 rising_further (x ∷ y ∷ xs) n (inr r) below =
-    let parts = both_true (nat_lt x y) (are_rising (y ∷ xs)) r in
-    let under = both_true (nat_lt x n) (list_all (λ m. nat_lt m n) (y ∷ xs)) below in
+    let parts = and_parts (nat_lt x y) (are_rising (y ∷ xs)) r in
+    let under = and_parts (nat_lt x n) (list_all (λ m. nat_lt m n) (y ∷ xs)) below in
     and_from (nat_lt x y) (are_rising (y ∷ xs ++ n ∷ [])) parts.0 (rising_further (y ∷ xs) n (inr parts.1) under.1)
 
 ascends : (p : ℕ → Bool) (n : ℕ) → Ascends (filter p (from_one n))
@@ -131,14 +121,6 @@ filter_twice p q (y ∷ ys) = by_first (q y) (filter_twice p q ys)
         → filter p (cond b (y ∷ filter q ys) (filter q ys)) ≡ cond (b && p y) (y ∷ filter (λ x. q x && p x) ys) (filter (λ x. q x && p x) ys)
     by_first true further = ap (λ l. cond (p y) (y ∷ l) l) further
     by_first false further = further
-
-is_false : (b : Bool) → not b ≡ true → b ≡ false
-is_false true h = absurd (false≢true h)
-is_false false h = refl
-
-never : (b : Bool) → b ≡ true → b ≡ false → ⊥
-never true h e = false≢true (sym e)
-never false h e = false≢true h
 
 -- ---- the weak references that are left
 
@@ -171,7 +153,7 @@ module _ (w : World) (s : State) where
   in_lost x k =
       let first = from_filter (λ n. not (is_in (reachable w s) n)) (rising objects weakly) x k in
       let second = from_filter (is_in weakly) (from_one (length objects)) x first.1 in
-      (is_false (is_in (reachable w s) x) first.0, second.0, second.1)
+      (not-true (is_in (reachable w s) x) first.0, second.0, second.1)
 
   to_lost : (x : ℕ) → In (from_one (length objects)) x → In weakly x → is_in (reachable w s) x ≡ false → In (lost w s) x
   to_lost x name held_so e =
@@ -181,7 +163,7 @@ module _ (w : World) (s : State) where
   from_beside x name k true e = (reachable_lists w s).sound x (to_contains (reachable w s) x e)
   from_beside x name k false e =
       let passed = from_filter (λ n. not (is_in (lost w s) n)) weakly x k in
-      absurd (never (is_in (lost w s) x) (to_lost x (contains_in (from_one (length objects)) x name) passed.1 e) (is_false (is_in (lost w s) x) passed.0))
+      absurd (both_ways (is_in (lost w s) x) (not-true (is_in (lost w s) x) passed.0) (to_lost x (contains_in (from_one (length objects)) x name) passed.1 e))
 
   by_root : (x : ℕ) → IsName objects x → In (roots w s) x ⊎ In (held_beside s (lost w s)) x → Reachable w s x
   by_root x name (inl k) = FromRoot x name (to_contains (roots w s) x k)
@@ -196,7 +178,7 @@ module _ (w : World) (s : State) where
   unreached x k =
       false_from_ne_true (is_in (reached_with w s (held_beside s (lost w s))) x)
       (λ e. let r = no_further x ((reached_lists objects (roots w s ++ held_beside s (lost w s))).sound x (to_contains (reached_with w s (held_beside s (lost w s))) x e)) in
-      never (is_in (reachable w s) x) (contains_in (reachable w s) x ((reachable_lists w s).complete x r)) (in_lost x k).0)
+      both_ways (is_in (reachable w s) x) (in_lost x k).0 (contains_in (reachable w s) x ((reachable_lists w s).complete x r)))
 
   lost_ascends : Ascends (lost w s)
   lost_ascends = subst Ascends (sym (filter_twice (λ n. not (is_in (reachable w s) n)) (is_in weakly) (from_one (length objects)))) (ascends (λ n. is_in weakly n && not (is_in (reachable w s) n)) (length objects))
@@ -222,7 +204,7 @@ module _ (w : World) (s : State) where
           let first = from_filter (λ n. not (is_in (reachable w s) n)) (rising objects (weakly_held (cleared_statics (lost w s) s.shared.statics))) x k in
           let second = from_filter (is_in (weakly_held (cleared_statics (lost w s) s.shared.statics))) (from_one (length objects)) x first.1 in
           let left = from_filter (λ n. not (is_in (lost w s) n)) weakly x (subst (λ l. In l x) (weak_left (lost w s) s.shared.statics) second.0) in
-          never (is_in (lost w s) x) (to_lost x second.1 left.1 (is_false (is_in (reachable w s) x) first.0)) (is_false (is_in (lost w s) x) left.0)
+          both_ways (is_in (lost w s) x) (not-true (is_in (lost w s) x) left.0) (to_lost x second.1 left.1 (not-true (is_in (reachable w s) x) first.0))
 
   pub is_cleared : lost w s ≢ [] → clearing_step w s (lost w s) ≡ Some (with_cleared (lost w s) s)
   unfolding clearing_step
@@ -250,7 +232,7 @@ one_out p (y ∷ ys) x k e = by_first (p y) refl (in_cases y ys x k) (one_out p 
         → length (cond b (y ∷ filter p ys) (filter p ys)) + 1 ≤ length (y ∷ ys)
     by_first false f h further all = omega (arith, all)
     by_first true f (inr h) further all = let rest = further h e in omega (arith, rest)
-    by_first true f (inl same) further all = absurd (never (p x) (subst (λ z. p z ≡ true) same f) e)
+    by_first true f (inl same) further all = absurd (both_ways (p x) e (subst (λ z. p z ≡ true) same f))
 
 first_of : (names : List ℕ) → are_rising names ≡ true → (n : ℕ) × In names n
 first_of [] h = absurd (false≢true h)
@@ -258,7 +240,7 @@ first_of (n ∷ names) h = (n, in_head n names)
 
 all_in : (p : ℕ → Bool) (xs : List ℕ) (x : ℕ) → list_all p xs ≡ true → In xs x → p x ≡ true
 all_in p [] x h k = absurd (false≢true k)
-all_in p (y ∷ ys) x h k = by_first (in_cases y ys x k) (both_true (p y) (list_all p ys) h) (all_in p ys x)
+all_in p (y ∷ ys) x h k = by_first (in_cases y ys x k) (and_parts (p y) (list_all p ys) h) (all_in p ys x)
   where
     by_first : (y ≡ x) ⊎ In ys x → (p y ≡ true) × (list_all p ys ≡ true) → (list_all p ys ≡ true → In ys x → p x ≡ true) → p x ≡ true
     by_first (inl e) both further = subst (λ z. p z ≡ true) e both.0
