@@ -85,7 +85,7 @@ heap_changes own s t heap x = record {
 }
 
 -- a buffer that isn't NULL, or is
-buffer_null : (u : ElementType) (b : variable.Buffer) → variable_is_null (Elements u b) ≡ Gives (is_no_buffer b)
+pub buffer_null : (u : ElementType) (b : variable.Buffer) → variable_is_null (Elements u b) ≡ Gives (is_no_buffer b)
 buffer_null u NoBuffer = refl
 buffer_null u (Copy n zs) = refl
 buffer_null u (View n) = refl

@@ -1,5 +1,5 @@
 -- The element type of an instruction is the one in memory; what is left of a `jint` in an element is its conversion to the element type, as a word.
-use Rattle.std.proofs.Common.{◌≡◌, ℕ, ℤ, ◌<◌, ◌^◌, ◌%◌, lit<, refl, sym, arith}
+use Rattle.std.proofs.Common.{◌≡◌, ℤ, ◌<◌, ◌^◌, lit<, refl, sym, arith, mod-eq_of_lt}
 use Rattle.std.specs.Prelude.{FitsSigned}
 use Rattle.std.specs.Int.{w8, w16, w32, cast_unsigned}
 use Rattle.std.proofs.Math.Nat.{mod-lt}
@@ -17,13 +17,10 @@ element_same element.Short = refl
 element_same element.Byte = refl
 element_same element.Char = refl
 
-in_range : (n : ℕ) → n < 2 ^ 32 → n % 2 ^ 32 ≡ n
-in_range n h = omega arith
-
 pub element_words : (t : ElementType) (z : ℤ) → FitsSigned w32 z → element_word (element_of t) (cast_unsigned w32 z) ≡ cast_unsigned w32 (convert t z)
 element_words JInt z fits =
     let small : cast_unsigned w32 z < 2 ^ 32 = Fits-lt-pow (Fits-of_z fits) in
-    rw (in_range (cast_unsigned w32 z) small) (sym (of_z-to_z {w = w32} (Fits-of_lt small)))
+    rw (mod-eq_of_lt small) (sym (of_z-to_z {w = w32} (Fits-of_lt small)))
 element_words JShort z fits = refl
 element_words JByte z fits = refl
 element_words JChar z fits = refl

@@ -15,7 +15,7 @@ use Rattle.code.specs.Depth.{Listing}
 use Rattle.code_meaning.specs.Layout.{Slot, Known}
 use Rattle.code_meaning.specs.Fits.{IsOwn}
 use Rattle.code_meaning.specs.Slots.{Visible, Slots, ShowsNumber, ShowsSlot, Shows}
-use Rattle.code_meaning.proofs.SlotLaws.{get-set_other}
+use Rattle.semantics.proofs.AccountLaws.{get-set_other}
 
 -- ---- any change
 

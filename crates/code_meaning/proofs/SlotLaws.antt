@@ -20,6 +20,7 @@ use Rattle.semantics.specs.Task.{VariableKind, ScalarKind, ReferenceKind, FieldK
 use Rattle.semantics.specs.Value.{Value, Gives, convert}
 use Rattle.semantics.specs.Variable as variable
 use Rattle.semantics.specs.Variable.{NoBuffer, StaticReference, Empty, Statics, as_argument, assign}
+use Rattle.semantics.proofs.AccountLaws.{get-set_other}
 use Rattle.code.specs.declared.instr.NullableVariable.{NullableVariable}
 use Rattle.code.specs.declared.instr.NullableVariable.TheVariants as nullable
 use Rattle.code.specs.Depth.{Listing}
@@ -30,7 +31,7 @@ use Rattle.code_meaning.specs.Coding.{nullable_of}
 use Rattle.code_meaning.specs.Slots.{word_of, ValueHasType, Visible, IsAsBefore, OthersStay, IsSet, IsNulled, IsReferred, IsFieldSet, IsMethodSet, IsBufferSet, IsMade, IsElementSet, IsHeld, HasNoVariable, is_empty, nulled_statics, static_index, Handle, OfField, OfMethod, Slots, ShowsNumber, ShowsElement, ShowsStatic, ShowsSlot, Shows, with_null}
 use Rattle.code_meaning.specs.Fits.{IsPlaceOf, IsBufferType, IsHandleType, IsOwn, IndexWithin, IsStaticType}
 use Rattle.code_meaning.specs.Stands.{AreAmong, IsSlotOf}
-use Rattle.code_meaning.proofs.StaticPlaces.{StaticStays, statics_stay, assigned_stays, assigned_place, assigned_held, same_name}
+use Rattle.code_meaning.proofs.StaticPlaces.{StaticStays, statics_stay, assigned_stays, assigned_place, assigned_held}
 
 -- ---- a slot is written
 
@@ -38,13 +39,6 @@ pub get-set_same : {A : Type 0} (xs : List A) (i : ℕ) (w : A) → i < length x
 get-set_same [] i w below = absurd (omega arith)
 get-set_same (x ∷ xs) zero w below = refl
 get-set_same (x ∷ xs) (suc i) w below = get-set_same xs i w (omega arith)
-
-pub get-set_other : {A : Type 0} (xs : List A) (i j : ℕ) (w : A) → j ≢ i → slice_get (slice_set xs i w) j ≡ slice_get xs j
-get-set_other [] i j w other = refl
-get-set_other (x ∷ xs) zero zero w other = absurd (other refl)
-get-set_other (x ∷ xs) zero (suc j) w other = refl
-get-set_other (x ∷ xs) (suc i) zero w other = refl
-get-set_other (x ∷ xs) (suc i) (suc j) w other = get-set_other xs i j w (λ e. other (ap suc e))
 
 -- ---- names
 
@@ -281,7 +275,7 @@ static_changes code known old new slots x h shows held = record {
   each = λ y s at.
       elim (bytes_eq y x) as (λ b. bytes_eq y x ≡ b → ShowsSlot new y slots s s.ty) [
         | true ↦ λ e.
-            let same : y ≡ x = same_name y x e in
+            let same : y ≡ x = (bytes_eq-Decides y x).0 e in
             subst (λ (z : Identifier). ShowsSlot new z slots s s.ty) (sym same) (no_variable_shown old new x slots h s s.ty held (subst (λ (z : Identifier). ShowsSlot old z slots s s.ty) same (shows.each y s at)))
         | false ↦ λ e.
             let other : y ≢ x = not_from_Decides (bytes_eq y x) (bytes_eq-Decides y x) e in

@@ -16,7 +16,7 @@ use Rattle.code_meaning.specs.Layout.{Slot, Known}
 use Rattle.code_meaning.specs.Fits.{IsStaticType}
 use Rattle.code_meaning.specs.Slots.{visible_to, type_of_array, kind_of_variable, HasNoVariable, IsAsBefore, IsHeld, is_empty, static_index, Slots, ShowsSlot, Shows}
 use Rattle.code_meaning.proofs.SlotLaws.{slot_stays, static_changes}
-use Rattle.code_meaning.proofs.StaticPlaces.{assigned_stays, assigned_place, assigned_held, there_at, same_name}
+use Rattle.code_meaning.proofs.StaticPlaces.{assigned_stays, assigned_place, assigned_held, there_at}
 
 -- ---- what a thread sees
 
@@ -112,7 +112,7 @@ module _ (own : Identifier → Option ℕ) (shared : Shared) (t : Thread) (x : I
         each = λ y s at.
             elim (bytes_eq y x) as (λ b. bytes_eq y x ≡ b → ShowsSlot (visible_to own after t) y slots s s.ty) [
               | true ↦ λ e.
-                  let same : y ≡ x = same_name y x e in
+                  let same : y ≡ x = (bytes_eq-Decides y x).0 e in
                   subst (λ (z : Identifier). ShowsSlot (visible_to own after t) z slots s s.ty) (sym same) (variable_shown v is slots s (subst (λ (z : Identifier). ShowsSlot (visible_to own shared t) z slots s s.ty) same (shows.each y s at)))
               | false ↦ λ e.
                   let other : y ≢ x = not_from_Decides (bytes_eq y x) (bytes_eq-Decides y x) e in

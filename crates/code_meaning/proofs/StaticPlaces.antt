@@ -4,28 +4,11 @@ use Rattle.std.specs.Prelude.{slice_get}
 use Rattle.std.specs.Option.{option_map}
 use Rattle.std.specs.Str.{bytes_eq}
 use Rattle.std.proofs.lemmas.Slice.Eq.{bytes_eq-Decides}
-use Rattle.std.proofs.lemmas.Bool.Decides.{not_from_Decides}
+use Rattle.std.proofs.lemmas.Cmp.{nat_list_eq_equiv}
 use Rattle.base.specs.Bytes.{Identifier, lookup}
 use Rattle.semantics.specs.Variable.{StaticReference, Statics, assign}
 use Rattle.code_meaning.specs.Slots.{static_index}
-
--- two names that are equal, and two that aren't
-pub same_name : (x y : Identifier) → bytes_eq x y ≡ true → x ≡ y
-same_name x y h = (bytes_eq-Decides x y).0 h
-
-pub same_bytes : (x : Identifier) → bytes_eq x x ≡ true
-same_bytes x =
-    elim (bytes_eq x x) as (λ b. bytes_eq x x ≡ b → b ≡ true) [
-      | true ↦ λ e. refl
-      | false ↦ λ e. absurd (not_from_Decides (bytes_eq x x) (bytes_eq-Decides x x) e refl)
-    ] refl
-
-pub other_bytes : (x y : Identifier) → x ≢ y → bytes_eq x y ≡ false
-other_bytes x y other =
-    elim (bytes_eq x y) as (λ b. bytes_eq x y ≡ b → b ≡ false) [
-      | true ↦ λ e. absurd (other (same_name x y e))
-      | false ↦ λ e. refl
-    ] refl
+use Rattle.type_rules.proofs.NameLists.{other_name}
 
 -- ---- another name
 
@@ -38,13 +21,13 @@ pub statics_stay : (old new : Statics) → new ≡ old → (x : Identifier) → 
 statics_stay old new same x = record { place = ap (static_index x) same; there = ap (λ (ss : Statics). lookup x ss) same }
 
 pub assigned_stays : (x y : Identifier) (h : StaticReference) (ss : Statics) → y ≢ x → StaticStays ss (assign x h ss) y
-assigned_stays x y h [] other = record { place = rw (other_bytes y x other) refl; there = rw (other_bytes y x other) refl }
+assigned_stays x y h [] other = record { place = rw (other_name y x other) refl; there = rw (other_name y x other) refl }
 assigned_stays x y h ((z, w) ∷ rest) other =
     let further = assigned_stays x y h rest other in
     elim (bytes_eq x z) as (λ b. bytes_eq x z ≡ b → StaticStays ((z, w) ∷ rest) (if b then (x, h) ∷ rest else (z, w) ∷ assign x h rest) y) [
       | true ↦ λ e.
-          let none : bytes_eq y x ≡ false = other_bytes y x other in
-          let none' : bytes_eq y z ≡ false = subst (λ (n : Identifier). bytes_eq y n ≡ false) (same_name x z e) none in
+          let none : bytes_eq y x ≡ false = other_name y x other in
+          let none' : bytes_eq y z ≡ false = subst (λ (n : Identifier). bytes_eq y n ≡ false) ((bytes_eq-Decides x z).0 e) none in
           record { place = rw (none, none') refl; there = rw (none, none') refl }
       | false ↦ λ e. record {
         place = ap (λ (o : Option ℕ). if bytes_eq y z then Some 0 else option_map suc o) further.place;
@@ -56,10 +39,10 @@ assigned_stays x y h ((z, w) ∷ rest) other =
 
 -- it holds what is assigned
 pub assigned_held : (x : Identifier) (h : StaticReference) (ss : Statics) → lookup x (assign x h ss) ≡ Some h
-assigned_held x h [] = rw (same_bytes x) refl
+assigned_held x h [] = rw (nat_list_eq_equiv.refl x) refl
 assigned_held x h ((z, w) ∷ rest) =
     elim (bytes_eq x z) as (λ b. bytes_eq x z ≡ b → lookup x (if b then (x, h) ∷ rest else (z, w) ∷ assign x h rest) ≡ Some h) [
-      | true ↦ λ e. rw (same_bytes x) refl
+      | true ↦ λ e. rw (nat_list_eq_equiv.refl x) refl
       | false ↦ λ e. rw e (assigned_held x h rest)
     ] refl
 
@@ -68,7 +51,7 @@ pub assigned_place : (x : Identifier) (h : StaticReference) (i : ℕ) (ss : Stat
 assigned_place x h i [] at = absurd (cc)
 assigned_place x h i ((z, w) ∷ rest) at =
     elim (bytes_eq x z) as (λ b. bytes_eq x z ≡ b → (if b then Some 0 else option_map suc (static_index x rest)) ≡ Some i → static_index x (if b then (x, h) ∷ rest else (z, w) ∷ assign x h rest) ≡ Some i) [
-      | true ↦ λ e k. rw (same_bytes x) k
+      | true ↦ λ e k. rw (nat_list_eq_equiv.refl x) k
       | false ↦ λ e k. rw e (later (static_index x rest) refl k (λ j is. assigned_place x h j rest is))
     ] refl at
   where
@@ -81,7 +64,7 @@ pub there_at : (x : Identifier) (i : ℕ) (v : StaticReference) (ss : Statics) �
 there_at x i v [] at there = absurd (cc)
 there_at x i v ((z, w) ∷ rest) at there =
     elim (bytes_eq x z) as (λ b. bytes_eq x z ≡ b → (if b then Some 0 else option_map suc (static_index x rest)) ≡ Some i → (if b then Some w else lookup x rest) ≡ Some v → slice_get ((z, w) ∷ rest) i ≡ Some (x, v)) [
-      | true ↦ λ e k l. first i (same_name x z e) k l
+      | true ↦ λ e k l. first i ((bytes_eq-Decides x z).0 e) k l
       | false ↦ λ e k l. later i (static_index x rest) refl k (λ j is. there_at x j v rest is l)
     ] refl at there
   where

@@ -1,8 +1,10 @@
 -- Each function of an accepted unit fits.
 use Rattle.std.proofs.Common.{◌≡◌, ℕ, ◌+◌, ◌≤◌, true, false, List, [], ◌∷◌, ◌++◌, length, map, nat_le, Some, None, refl, ap, ◌∙◌, subst, arith, leb-true, length-append}
+use Rattle.std.specs.Cmp.{first_so, second_so}
 use Rattle.std.specs.Prelude.{IsTrue}
 use Rattle.std.specs.List.{list_all, AllByRecursion}
 use Rattle.std.specs.Str.{bytes_eq}
+use Rattle.std.proofs.lemmas.Bool.{or_parts}
 use Rattle.base.specs.Bytes.{Identifier, lookup}
 use Rattle.syntax.specs.Limits.{numbers_in_range, block_height, block_well_formed, IsTree}
 use Rattle.syntax.specs.Parts.{functions_of, statements_of, own_expressions, parameter_names}
@@ -21,7 +23,6 @@ use Rattle.lower.proofs.EntryLayouts.{no_statics, one_static_more}
 use Rattle.lower.proofs.TypeFacts.{scope_of, HasNoTruth}
 use Rattle.type_rules.proofs.PlaceLists.{AreUnbroken, first_unbroken, front_unbroken, back_unbroken, rest_unbroken}
 use Rattle.type_rules.proofs.KeptPlaces.{static_kept}
-use Rattle.lower.proofs.Tests.{and_left, and_right, or_right}
 use Rattle.lower.proofs.NameFacts.{AreTaken, taken_first}
 use Rattle.lower.proofs.BodyFacts.{AreInRange, block_fits}
 use Rattle.lower.proofs.LengthFacts.{block_length}
@@ -161,17 +162,17 @@ all_fit (FunctionItem f ∷ items) names statics known taken well_typed h =
     let whole = front_unbroken (function_places names (scope_of statics) f) further well_typed in
     let kept = body_kept statics f known names whole in
     let fits = function_fits statics f known kept
-    (and_left _ (list_all (λ f. list_all (λ s. list_all numbers_in_range (own_expressions s)) (statements_of f.body)) all) h.numbers)
-    (and_left _ (list_all (λ f. block_well_formed f.body) all) h.formed)
-    (leb-true (block_height f.body) 32 (and_left _ (list_all (λ f. nat_le (block_height f.body) 32) all) h.low)) in (
+    (first_so _ (list_all (λ f. list_all (λ s. list_all numbers_in_range (own_expressions s)) (statements_of f.body)) all) h.numbers)
+    (first_so _ (list_all (λ f. block_well_formed f.body) all) h.formed)
+    (leb-true (block_height f.body) 32 (first_so _ (list_all (λ f. nat_le (block_height f.body) 32) all) h.low)) in (
       known,
       fits,
       function_returns f h.regions.0,
       function_counted statics f known fits kept (head_once names (scope_of statics) f whole),
-      all_fit items (f.name ∷ names) statics known (λ x none. taken x (or_right (bytes_eq x f.name) (has_name names x) none)) (back_unbroken (function_places names (scope_of statics) f) further well_typed) (record {
-        numbers = and_right (list_all (λ s. list_all numbers_in_range (own_expressions s)) (statements_of f.body)) _ h.numbers;
-        formed = and_right (block_well_formed f.body) _ h.formed;
-        low = and_right (nat_le (block_height f.body) 32) _ h.low;
+      all_fit items (f.name ∷ names) statics known (λ x none. taken x (or_parts (bytes_eq x f.name) (has_name names x) none).1) (back_unbroken (function_places names (scope_of statics) f) further well_typed) (record {
+        numbers = second_so (list_all (λ s. list_all numbers_in_range (own_expressions s)) (statements_of f.body)) _ h.numbers;
+        formed = second_so (block_well_formed f.body) _ h.formed;
+        low = second_so (nat_le (block_height f.body) 32) _ h.low;
         regions = h.regions.1;
       }),
     )

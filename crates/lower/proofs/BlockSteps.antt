@@ -19,6 +19,7 @@ use Rattle.code.specs.declared.instr.Plain.TheVariants as plain
 use Rattle.code.specs.declared.instr.PlainTrap.TheVariants as trap
 use Rattle.code.specs.Depth.{Listing}
 use Rattle.code.specs.Effect.{element_word}
+use Rattle.code.proofs.Words.{negative_index}
 use Rattle.semantics.specs.CallEffects.{ScalarResult}
 use Rattle.semantics.specs.Effect.{Returns, with_value, return_effect, element_effect, effect_of}
 use Rattle.semantics.specs.Sight.{in_range}
@@ -35,7 +36,7 @@ use Rattle.code_meaning.specs.Stands.{held, HasAt, AreAmong, IsSlotOf, NumberSta
 use Rattle.code_meaning.specs.Does.{Works, WritesBuffer, Stops, DoesEffect}
 use Rattle.code_meaning.proofs.SlotLaws.{fewer_shown, shows_buffer_again, shows_element_set}
 use Rattle.lower.proofs.CodePlaces.{has_front, has_back}
-use Rattle.lower.proofs.TermSteps.{negative_past, none_negative, seen_as, slot_has, shows_number, untouched_held, begun_left, left_first}
+use Rattle.lower.proofs.TermSteps.{none_negative, seen_as, slot_has, shows_number, untouched_held, begun_left, left_first}
 use Rattle.lower.proofs.Bodies.{number_begins, begins}
 use Rattle.code_meaning.proofs.ElementWords.{element_words, convert_fits}
 use Rattle.lower.proofs.PathsReturn.{then_returns, else_returns, any_after}
@@ -342,7 +343,7 @@ module _ (code : Listing) (known : Known) (place : ℕ) (stack : List ℕ) (slot
         trap = trap.OutOfRange;
         is = refl;
         at = d.at.0;
-        works = rw (d.operands, negative_past n size d.index.2.0 shown.few) refl;
+        works = rw (d.operands, negative_index n size d.index.2.0 shown.few) refl;
       }
   write_array line x (Flag b) z rest t size start d = absurd (subst IsIndexType d.index.2 d.index.1)
   write_array line x (Truth b) z rest t size start d = absurd (subst IsIndexType d.index.2 d.index.1)

@@ -1,5 +1,6 @@
 -- The body of an accepted function fits.
 use Rattle.std.proofs.Common.{◌≡◌, ◌≤◌, Bool, true, false, not, ◌&&◌, List, ◌∷◌, ◌++◌, Some, map, refl, sym, ap, ◌∙◌, subst, arith}
+use Rattle.std.specs.Cmp.{first_so, second_so}
 use Rattle.std.specs.List.{list_all}
 use Rattle.std.proofs.lemmas.List.Folds.{list_all-append}
 use Rattle.base.specs.Bytes.{Identifier}
@@ -17,7 +18,6 @@ use Rattle.code_meaning.proofs.SlotLaws.{first_or_after}
 use Rattle.lower.proofs.TypeFacts.{scope_of, HasNoTruth}
 use Rattle.type_rules.proofs.PlaceLists.{AreUnbroken}
 use Rattle.type_rules.proofs.KeptPlaces.{IsKept, own_kept, inside_kept, block_kept, paths_kept}
-use Rattle.lower.proofs.Tests.{and_left, and_right}
 use Rattle.lower.proofs.NameFacts.{AreTaken, taken_more, taken_after}
 use Rattle.lower.proofs.StatementFacts.{AreFine, are_fine, called_expressions, CallHolds, call_fits_name, right_fits, buffer_fits, assigned_fits, element_fits, jint_fits, truth_fits, tested_fits, returned_fits, size_fits}
 
@@ -48,20 +48,20 @@ pub record BlockHolds (l : Layout) (taken : List Identifier) (returns : ResultTy
 -- ---- one statement
 
 first_in_range : (s : Stmt) → AreInRange (statements_within s) → list_all numbers_in_range (own_expressions s) ≡ true
-first_in_range (tree.If line test then') h = and_left (list_all numbers_in_range (own_expressions (tree.If line test then'))) (list_all (λ s. list_all numbers_in_range (own_expressions s)) (statements_of then')) h
+first_in_range (tree.If line test then') h = first_so (list_all numbers_in_range (own_expressions (tree.If line test then'))) (list_all (λ s. list_all numbers_in_range (own_expressions s)) (statements_of then')) h
 first_in_range (tree.IfElse line test then' else') h =
-    and_left (list_all numbers_in_range (own_expressions (tree.IfElse line test then' else'))) (list_all (λ s. list_all numbers_in_range (own_expressions s)) (statements_of then' ++ statements_of else')) h
-first_in_range (tree.While line test body) h = and_left (list_all numbers_in_range (own_expressions (tree.While line test body))) (list_all (λ s. list_all numbers_in_range (own_expressions s)) (statements_of body)) h
-first_in_range s h = and_left (list_all numbers_in_range (own_expressions s)) true h
+    first_so (list_all numbers_in_range (own_expressions (tree.IfElse line test then' else'))) (list_all (λ s. list_all numbers_in_range (own_expressions s)) (statements_of then' ++ statements_of else')) h
+first_in_range (tree.While line test body) h = first_so (list_all numbers_in_range (own_expressions (tree.While line test body))) (list_all (λ s. list_all numbers_in_range (own_expressions s)) (statements_of body)) h
+first_in_range s h = first_so (list_all numbers_in_range (own_expressions s)) true h
 
 inside_in_range : (s : Stmt) (inside : List Stmt) → AreInRange (s ∷ inside) → AreInRange inside
-inside_in_range s inside h = and_right (list_all numbers_in_range (own_expressions s)) (list_all (λ s. list_all numbers_in_range (own_expressions s)) inside) h
+inside_in_range s inside h = second_so (list_all numbers_in_range (own_expressions s)) (list_all (λ s. list_all numbers_in_range (own_expressions s)) inside) h
 
 both_in_range : (front back : List Stmt) → AreInRange (front ++ back) → AreInRange front × AreInRange back
 both_in_range front back h =
     let p : Stmt → Bool = λ s. list_all numbers_in_range (own_expressions s) in
     let e : (list_all p front && list_all p back) ≡ true = sym (list_all-append p front back) ∙ h in
-    (and_left (list_all p front) (list_all p back) e, and_right (list_all p front) (list_all p back) e)
+    (first_so (list_all p front) (list_all p back) e, second_so (list_all p front) (list_all p back) e)
 
 own_low : (s : Stmt) → highest (map height (own_expressions s)) ≤ statement_height s
 own_low (tree.If line test then') = omega arith
@@ -135,11 +135,11 @@ end_formed (Next s rest) h = absurd (cc)
 next_formed : (s : Stmt) (rest : Block) → block_well_formed (Next s rest) ≡ true → (well_formed s ≡ true) × (block_well_formed rest ≡ true)
 next_formed (tree.Return line) rest h = (refl, end_formed rest h)
 next_formed (tree.ReturnValue line e) rest h = (refl, end_formed rest h)
-next_formed (tree.If line test then') rest h = (and_left (block_well_formed then') (block_well_formed rest) h, and_right (block_well_formed then') (block_well_formed rest) h)
+next_formed (tree.If line test then') rest h = (first_so (block_well_formed then') (block_well_formed rest) h, second_so (block_well_formed then') (block_well_formed rest) h)
 next_formed (tree.IfElse line test then' else') rest h =
-    (and_left (block_well_formed then' && block_well_formed else') (block_well_formed rest) h, and_right (block_well_formed then' && block_well_formed else') (block_well_formed rest) h)
-next_formed (tree.While line test body) rest h = (and_left (block_well_formed body) (block_well_formed rest) h, and_right (block_well_formed body) (block_well_formed rest) h)
-next_formed s rest h = (and_left (well_formed s) (block_well_formed rest) h, and_right (well_formed s) (block_well_formed rest) h)
+    (first_so (block_well_formed then' && block_well_formed else') (block_well_formed rest) h, second_so (block_well_formed then' && block_well_formed else') (block_well_formed rest) h)
+next_formed (tree.While line test body) rest h = (first_so (block_well_formed body) (block_well_formed rest) h, second_so (block_well_formed body) (block_well_formed rest) h)
+next_formed s rest h = (first_so (well_formed s) (block_well_formed rest) h, second_so (well_formed s) (block_well_formed rest) h)
 
 module _ (l : Layout) (taken : List Identifier) (returns : ResultType) (s : Stmt) (rest : Block) (h : BlockHolds l taken returns (Next s rest)) where
   first_holds : StmtHolds l taken returns s
@@ -164,7 +164,7 @@ module _ (l : Layout) (taken : List Identifier) (returns : ResultType) (s : Stmt
 
 -- what may be dropped
 drops : (f : JniFunction) → may_be_dropped (Some f) ≡ true → is_droppable (prototype f).result ≡ true
-drops f h = and_right (not (is_push f)) (is_droppable (prototype f).result) h
+drops f h = second_so (not (is_push f)) (is_droppable (prototype f).result) h
 
 -- ---- all statements
 
@@ -217,7 +217,7 @@ mutual
         block_fits then' l taken returns (record {
           well_typed = well_typed.0;
           numbers = numbers.0;
-          formed = and_left (block_well_formed then') (block_well_formed else') h.formed;
+          formed = first_so (block_well_formed then') (block_well_formed else') h.formed;
           low = omega (arith, h.low);
           names = h.names;
           no_truth = h.no_truth;
@@ -225,7 +225,7 @@ mutual
         block_fits else' (closed l (block_layout l then')) (taken ++ names_declared (statements_of then')) returns (record {
           well_typed = well_typed.1;
           numbers = numbers.1;
-          formed = and_right (block_well_formed then') (block_well_formed else') h.formed;
+          formed = second_so (block_well_formed then') (block_well_formed else') h.formed;
           low = omega (arith, h.low);
           names = taken_more taken (names_declared (statements_of then')) l.known h.names;
           no_truth = h.no_truth;

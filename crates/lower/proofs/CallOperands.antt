@@ -3,6 +3,7 @@ use Rattle.std.proofs.Common.{◌≡◌, ℕ, Bool, true, List, [], ◌∷◌, �
 use Rattle.std.specs.Prelude.{is_none}
 use Rattle.std.specs.Option.{option_map}
 use Rattle.std.proofs.lemmas.List.{append-nil}
+use Rattle.std.proofs.lemmas.Option.{same_Some}
 use Rattle.base.specs.Bytes.{Identifier, lookup}
 use Rattle.type_rules.specs.ExprTypes.{is_jint}
 use Rattle.code.specs.declared.instr.Instr.{Instr}
@@ -58,9 +59,6 @@ abbrev pub words_under : Known → List Operand → List ℕ
 words_under known [] = []
 words_under known (o ∷ operands) = by_step (step_of known o) [] (words_under known operands ++ operand_held o)
 
-pub some_same : (t u : Term) → Some t ≡ Some u → t ≡ u
-some_same t u e = cc
-
 -- ---- one argument
 
 -- a name that takes a step is that of a number
@@ -89,7 +87,7 @@ module _ (known : Known) where
 
   open_rest : (line : ℕ) (o : Operand) (t : Term) → step_of known o ≡ Some t → operand_rest known line o ≡ term_code known line t
   open_rest line (NumberOperand (Done v)) t e = absurd (cc)
-  open_rest line (NumberOperand u) t e = ap (term_code known line) (some_same u t e)
+  open_rest line (NumberOperand u) t e = ap (term_code known line) (same_Some u t e)
   open_rest line (PassedName x) t e =
       let both = passed_open (names_number known x) x t e in
       number_coded (lookup x known) both.0 ∙ ap (term_code known line) both.1
@@ -97,7 +95,7 @@ module _ (known : Known) where
 
   open_held : (o : Operand) (t : Term) → step_of known o ≡ Some t → operand_held o ≡ held t
   open_held (NumberOperand (Done v)) t e = absurd (cc)
-  open_held (NumberOperand u) t e = ap held (some_same u t e)
+  open_held (NumberOperand u) t e = ap held (same_Some u t e)
   open_held (PassedName x) t e = ap held (passed_open (names_number known x) x t e).1
   open_held (Given a) t e = absurd (cc)
 
@@ -108,13 +106,13 @@ module _ (known : Known) where
 
   open_open : (o : Operand) (t : Term) → step_of known o ≡ Some t → IsOpen t
   open_open (NumberOperand (Done v)) t e = absurd (cc)
-  open_open (NumberOperand u) t e = subst IsOpen (some_same u t e) tt
+  open_open (NumberOperand u) t e = subst IsOpen (same_Some u t e) tt
   open_open (PassedName x) t e = subst IsOpen (passed_open (names_number known x) x t e).1 tt
   open_open (Given a) t e = absurd (cc)
 
   open_begun : (o : Operand) (operands : List Operand) (t : Term) → step_of known o ≡ Some t → AreBegun known (o ∷ operands) → IsBegun t × AreUntouched operands
   open_begun (NumberOperand (Done v)) operands t e h = absurd (cc)
-  open_begun (NumberOperand u) operands t e h = subst (λ (v : Term). IsBegun v × AreUntouched operands) (some_same u t e) h
+  open_begun (NumberOperand u) operands t e h = subst (λ (v : Term). IsBegun v × AreUntouched operands) (same_Some u t e) h
   open_begun (PassedName x) operands t e h =
       let both = passed_open (names_number known x) x t e in
       (subst IsBegun both.1 tt, h.0 both.0)

@@ -1,11 +1,12 @@
 -- The steps of a call whose operands are worked out, and which is then made.
 use Rattle.lower.proofs.Steps.{step_inside}
-use Rattle.lower.proofs.Tests.{and_left, and_right}
 use Rattle.std.proofs.Common.{◌≡◌, ℕ, ◌+◌, Bool, true, List, [], ◌∷◌, ◌++◌, length, Option, Some, None, inl, inr, if◌then◌else◌, ◌&&◌, refl, sym, ap, ◌∙◌, subst, arith, append_assoc, length-append, suc, false, ℤ}
+use Rattle.std.specs.Cmp.{first_so, second_so}
 use Rattle.std.specs.Prelude.{slice_set, is_none, IsTrue, zip, map, FitsSigned, ◌||◌}
 use Rattle.std.specs.List.{list_any, AllZip}
 use Rattle.std.specs.Option.{option_map}
 use Rattle.std.specs.Int.{w32}
+use Rattle.std.proofs.lemmas.Option.{same_Some}
 use Rattle.base.specs.Bytes.{Identifier, lookup}
 use Rattle.base.specs.Element.{ElementType}
 use Rattle.syntax.specs.Tree as tree
@@ -37,7 +38,7 @@ use Rattle.code_meaning.specs.Stands.{held, HasAt, operand_text, operands_texts,
 use Rattle.code_meaning.specs.Does.{IsOperand, TakesNumber, TakesReference, TakesField, TakesMethod, TakesStatic, TakesBuffer, TakesTest, GoesInto, TakesResult, DoesEffect, word_given, words_given, text_given, texts_given, OperandFits, IsVariableKind, ActualFits}
 use Rattle.code_meaning.proofs.SlotLaws.{fewer_shown, number_below, shows_set, shows_referred, shows_field_set, shows_method_set, shows_buffer_set, static_changes}
 use Rattle.lower.proofs.TermSteps.{shows_number}
-use Rattle.lower.proofs.CallOperands.{step_of, are_done, by_step, first_term, open_term, with_open, rest_after, words_under, some_same, passed_open, passed_done, open_is_open, open_is_begun, count_same, rest_open, rest_with, texts_with, begun_with, held_with, held_open, ready_rest}
+use Rattle.lower.proofs.CallOperands.{step_of, are_done, by_step, first_term, open_term, with_open, rest_after, words_under, passed_open, passed_done, open_is_open, open_is_begun, count_same, rest_open, rest_with, texts_with, begun_with, held_with, held_open, ready_rest}
 
 -- ---- the source's step
 
@@ -93,7 +94,7 @@ module _ (known : Known) (sight : Sight) where
 
   open_reduced : (o : Operand) (operands : List Operand) (t : Term) → step_of known o ≡ Some t → IsSeen known sight o → reduce_first sight (o ∷ operands) ≡ outcome_map (λ (u : Term). NumberOperand u ∷ operands) (reduce sight t)
   open_reduced (NumberOperand (Done v)) operands t e h = absurd (cc)
-  open_reduced (NumberOperand u) operands t e h = ap (λ (v : Term). outcome_map (λ (w : Term). NumberOperand w ∷ operands) (reduce sight v)) (some_same u t e)
+  open_reduced (NumberOperand u) operands t e h = ap (λ (v : Term). outcome_map (λ (w : Term). NumberOperand w ∷ operands) (reduce sight v)) (same_Some u t e)
   open_reduced (PassedName x) operands t e h =
       let both = passed_open (names_number known x) x t e in
       number_reduced (names_number known x) x operands (reduce_first sight operands) both.0 h ∙ ap (λ (v : Term). outcome_map (λ (w : Term). NumberOperand w ∷ operands) (reduce sight v)) both.1
@@ -190,7 +191,7 @@ module _ (known : Known) where
 
   open_there : (w : Where) (p : ParameterKind) (o : Operand) (t : Term) → OperandStands known w (p, o) → step_of known o ≡ Some t → (w ≡ operand.Number) × TakesInt p × TermHasType known t Jint
   open_there w p (NumberOperand (Done v)) t h e = absurd (cc)
-  open_there w p (NumberOperand u) t h e = number_there w p t (subst (λ (v : Term). OperandStands known w (p, NumberOperand v)) (some_same u t e) h)
+  open_there w p (NumberOperand u) t h e = number_there w p t (subst (λ (v : Term). OperandStands known w (p, NumberOperand v)) (same_Some u t e) h)
   open_there w p (PassedName x) t h e = name_there w p x t h e
   open_there w p (Given a) t h e = absurd (cc)
 
@@ -469,7 +470,7 @@ module _ (code : Listing) (known : Known) (place : ℕ) (stack : List ℕ) (slot
   none_is (Some t) h = absurd (cc)
 
   both_ready : (o : Operand) (operands : List Operand) → are_done known (o ∷ operands) ≡ true → (step_of known o ≡ None) × (are_done known operands ≡ true)
-  both_ready o operands h = (none_is (step_of known o) (and_left (is_none (step_of known o)) (are_done known operands) h), and_right (is_none (step_of known o)) (are_done known operands) h)
+  both_ready o operands h = (none_is (step_of known o) (first_so (is_none (step_of known o)) (are_done known operands) h), second_so (is_none (step_of known o)) (are_done known operands) h)
 
   are_operands : (found : List Where) (parameters : List ParameterKind) (operands : List Operand) → are_done known operands ≡ true → AllZip (OperandStands known) found (zip parameters operands)
       → AllZip (IsOperand code known place stack slots visible) found (map (look_up visible.sight) (zip parameters operands))

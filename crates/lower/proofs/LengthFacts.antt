@@ -25,9 +25,9 @@ use Rattle.code_meaning.specs.Fits.{IsNullable, HasElements, TermHasType, Number
 use Rattle.code_meaning.specs.Length.{binary_steps, expr_steps, passed_steps, argument_steps, arguments_steps, call_steps, value_steps, right_steps, test_steps, return_steps, stmt_steps, block_steps}
 use Rattle.lower.proofs.Bodies.{one_write}
 use Rattle.lower.proofs.TypeFacts.{scope_of, slot_of_name}
-use Rattle.lower.proofs.StatementFacts.{jint_is, ref_is}
 use Rattle.type_rules.proofs.PlaceLists.{AreUnbroken}
 use Rattle.type_rules.proofs.KeptPlaces.{own_kept, inside_kept, block_kept, paths_kept}
+use Rattle.type_rules.proofs.TypeTests.{jint_is, ref_is}
 use Rattle.lower.proofs.BodyFacts.{scope_after}
 use Rattle.lower.proofs.NamesOnce.{IntsAgree, StmtsAgree, both_agree, own_agrees, agree_after}
 

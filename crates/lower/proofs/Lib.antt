@@ -14,7 +14,6 @@ pub mod Within
 pub mod Functions
 pub mod RegionFacts
 pub mod TypeFacts
-pub mod Tests
 pub mod NameFacts
 pub mod CallCounts
 pub mod NamesOnce

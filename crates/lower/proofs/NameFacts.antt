@@ -1,7 +1,7 @@
 -- A name that is known is taken, so none is declared twice.
-use Rattle.std.proofs.Common.{◌≡◌, true, false, ◌||◌, List, [], ◌∷◌, ◌++◌, Some, None, sym, ap, ◌∙◌, if◌then◌else◌}
+use Rattle.std.proofs.Common.{◌≡◌, true, false, List, [], ◌∷◌, ◌++◌, Some, None, ap, ◌∙◌, if◌then◌else◌}
 use Rattle.std.specs.Str.{bytes_eq}
-use Rattle.std.proofs.lemmas.List.Folds.{list_any-append}
+use Rattle.std.proofs.lemmas.Bool.{or_parts}
 use Rattle.base.specs.Bytes.{Identifier, lookup}
 use Rattle.base.specs.Element.{JChar}
 use Rattle.syntax.specs.Parts.{statements_within, names_declared}
@@ -9,8 +9,8 @@ use Rattle.syntax.specs.Tree as tree
 use Rattle.syntax.specs.Tree.{ResultType, Stmt, Block, End, Next}
 use Rattle.type_rules.specs.ExprTypes.{Buffer, Array}
 use Rattle.type_rules.specs.TypeRules.{variable_type, has_name}
+use Rattle.type_rules.proofs.NameLists.{both_none}
 use Rattle.code_meaning.specs.Layout.{Slot, Known, Layout, new_slot, layout_after}
-use Rattle.lower.proofs.Tests.{or_left, or_right}
 
 -- a name that isn't taken isn't known
 abbrev pub AreTaken : List Identifier → Known → Type 0
@@ -18,12 +18,7 @@ AreTaken taken known = (x : Identifier) → has_name taken x ≡ false → looku
 
 pub taken_first : (names : List Identifier) (known : Known) (x : Identifier) (s : Slot) → AreTaken names known → AreTaken (x ∷ names) ((x, s) ∷ known)
 taken_first names known x s h y none =
-    ap (λ b. if b then Some s else lookup y known) (or_left (bytes_eq y x) (has_name names y) none) ∙ h y (or_right (bytes_eq y x) (has_name names y) none)
-
-both_none : (xs ys : List Identifier) (x : Identifier) → has_name (xs ++ ys) x ≡ false → (has_name xs x ≡ false) × (has_name ys x ≡ false)
-both_none xs ys x h =
-    let e : (has_name xs x || has_name ys x) ≡ false = sym (list_any-append (bytes_eq x) xs ys) ∙ h in
-    (or_left (has_name xs x) (has_name ys x) e, or_right (has_name xs x) (has_name ys x) e)
+    ap (λ b. if b then Some s else lookup y known) (or_parts (bytes_eq y x) (has_name names y) none).0 ∙ h y (or_parts (bytes_eq y x) (has_name names y) none).1
 
 pub taken_more : (names more : List Identifier) (known : Known) → AreTaken names known → AreTaken (names ++ more) known
 taken_more names more known h x none = h x (both_none names more x none).0
@@ -31,7 +26,7 @@ taken_more names more known h x none = h x (both_none names more x none).0
 taken_declared : (names : List Identifier) (known : Known) (x : Identifier) (s : Slot) → AreTaken names known → AreTaken (names ++ x ∷ []) ((x, s) ∷ known)
 taken_declared names known x s h y none =
     let both = both_none names (x ∷ []) y none in
-    ap (λ b. if b then Some s else lookup y known) (or_left (bytes_eq y x) false both.1) ∙ h y both.0
+    ap (λ b. if b then Some s else lookup y known) (or_parts (bytes_eq y x) false both.1).0 ∙ h y both.0
 
 pub taken_after : (s : Stmt) (l : Layout) (taken : List Identifier) → AreTaken taken l.known → AreTaken (taken ++ names_declared (statements_within s)) (layout_after l s).known
 taken_after (tree.Declare line t x r) l taken h = taken_declared taken l.known x (new_slot (variable_type t) l) h

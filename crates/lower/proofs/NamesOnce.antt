@@ -2,6 +2,9 @@
 use Rattle.std.proofs.Common.{◌≡◌, ◌≢◌, ℕ, Bool, true, false, ◌||◌, List, [], ◌∷◌, ◌++◌, map, Some, None, refl, sym, ap, ◌∙◌, subst, append_assoc}
 use Rattle.std.specs.Prelude.{filter_map}
 use Rattle.std.specs.Str.{bytes_eq}
+use Rattle.std.proofs.Math.Bool.{or-false}
+use Rattle.std.proofs.lemmas.Bool.{or_parts, or_right, or_left, or_from}
+use Rattle.std.proofs.lemmas.Cmp.{nat_list_eq_equiv}
 use Rattle.std.proofs.lemmas.List.{append-nil}
 use Rattle.std.proofs.lemmas.List.Elements.{filter_map-append}
 use Rattle.std.proofs.lemmas.List.Folds.{list_any-append}
@@ -15,13 +18,13 @@ use Rattle.type_rules.specs.ExprTypes.{ExprType, Ref, Global, Weak, Buffer, Arra
 use Rattle.type_rules.specs.TypeRules.{variable_type, has_name, has_repeated, Place, HeadForm, parameter_type, with_declared, places_within, places_of, function_places}
 use Rattle.type_rules.proofs.PlaceLists.{AreUnbroken, not_twice, first_unbroken}
 use Rattle.type_rules.proofs.KeptPlaces.{own_kept, inside_kept, block_kept, paths_kept}
+use Rattle.type_rules.proofs.NameLists.{has_last}
 use Rattle.code_meaning.specs.Layout.{Slot, Known, Layout, new_slot, layout_after, parameter_slot, parameter_slots, numbers_after, references_after, entry_layout}
 use Rattle.code_meaning.specs.Length.{int_parameter, int_declared, int_names}
 use Rattle.code_meaning.specs.Fits.{AreStatics, IsStaticType}
 use Rattle.code_meaning.proofs.SlotLaws.{first_or_after}
 use Rattle.lower.proofs.NameFacts.{AreTaken}
 use Rattle.lower.proofs.TypeFacts.{scope_of}
-use Rattle.lower.proofs.Tests.{or_left, or_right}
 
 -- ---- names that are fresh
 
@@ -34,37 +37,18 @@ fresh_both : (taken front back : List Identifier) → AreFresh taken front → A
 fresh_both taken [] back h k = subst (λ (t : List Identifier). AreFresh t back) (append-nil taken) k
 fresh_both taken (x ∷ front) back h k = (h.0, fresh_both (taken ++ x ∷ []) front back h.1 (subst (λ (t : List Identifier). AreFresh t back) (sym (append_assoc taken (x ∷ []) front)) k))
 
-same_name : (x : Identifier) → bytes_eq x x ≡ true
-same_name x = (bytes_eq-Decides x x).1 refl
-
 both_have : (xs ys : List Identifier) (x : Identifier) → has_name (xs ++ ys) x ≡ (has_name xs x || has_name ys x)
 both_have xs ys x = list_any-append (bytes_eq x) xs ys
 
-or_true : (a b : Bool) → a ≡ true → (a || b) ≡ true
-or_true true b h = refl
-or_true false b h = absurd (cc)
-
-or_second : (a b : Bool) → b ≡ true → (a || b) ≡ true
-or_second true b h = refl
-or_second false b h = h
-
-or_none : (a b : Bool) → a ≡ false → b ≡ false → (a || b) ≡ false
-or_none true b h k = absurd (cc)
-or_none false b h k = k
-
-or_false : (a : Bool) → (a || false) ≡ a
-or_false true = refl
-or_false false = refl
-
 both_lack : (xs ys : List Identifier) (x : Identifier) → has_name xs x ≡ false → has_name ys x ≡ false → has_name (xs ++ ys) x ≡ false
-both_lack xs ys x h k = both_have xs ys x ∙ or_none (has_name xs x) (has_name ys x) h k
+both_lack xs ys x h k = both_have xs ys x ∙ or_from (has_name xs x) (has_name ys x) h k
 
 -- a name that is taken isn't among them
 fresh_lack : (taken names : List Identifier) (x : Identifier) → has_name taken x ≡ true → AreFresh taken names → has_name names x ≡ false
 fresh_lack taken [] x h fresh = refl
 fresh_lack taken (y ∷ names) x h fresh =
-    or_none (bytes_eq x y) (has_name names x) (by_same (bytes_eq x y) refl)
-    (fresh_lack (taken ++ y ∷ []) names x (both_have taken (y ∷ []) x ∙ or_true (has_name taken x) (has_name (y ∷ []) x) h) fresh.1)
+    or_from (bytes_eq x y) (has_name names x) (by_same (bytes_eq x y) refl)
+    (fresh_lack (taken ++ y ∷ []) names x (both_have taken (y ∷ []) x ∙ or_left (has_name taken x) (has_name (y ∷ []) x) h) fresh.1)
   where
     by_same : (b : Bool) → bytes_eq x y ≡ b → bytes_eq x y ≡ false
     by_same true e = absurd (let same : x ≡ y = (bytes_eq-Decides x y).0 e in let c : true ≡ false = sym h ∙ ap (λ z. has_name taken z) same ∙ fresh.0 in cc)
@@ -103,12 +87,12 @@ module _ (returns : ResultType) where
 -- a name that isn't declared is no `jint` that is
 ints_lack : (statements : List Stmt) (x : Identifier) → has_name (names_declared statements) x ≡ false → has_name (filter_map int_declared statements) x ≡ false
 ints_lack [] x h = refl
-ints_lack (tree.Declare line tree.JIntVariable y r ∷ rest) x h = or_none (bytes_eq x y) (has_name (filter_map int_declared rest) x) (or_left (bytes_eq x y) (has_name (names_declared rest) x) h) (ints_lack rest x (or_right (bytes_eq x y) (has_name (names_declared rest) x) h))
-ints_lack (tree.Declare line tree.JSize y r ∷ rest) x h = or_none (bytes_eq x y) (has_name (filter_map int_declared rest) x) (or_left (bytes_eq x y) (has_name (names_declared rest) x) h) (ints_lack rest x (or_right (bytes_eq x y) (has_name (names_declared rest) x) h))
-ints_lack (tree.Declare line t y r ∷ rest) x h = ints_lack rest x (or_right (bytes_eq x y) (has_name (names_declared rest) x) h)
-ints_lack (tree.DeclareBuffer line t y r ∷ rest) x h = ints_lack rest x (or_right (bytes_eq x y) (has_name (names_declared rest) x) h)
-ints_lack (tree.DeclareChars line y r ∷ rest) x h = ints_lack rest x (or_right (bytes_eq x y) (has_name (names_declared rest) x) h)
-ints_lack (tree.DeclareArray line t y size ∷ rest) x h = ints_lack rest x (or_right (bytes_eq x y) (has_name (names_declared rest) x) h)
+ints_lack (tree.Declare line tree.JIntVariable y r ∷ rest) x h = or_from (bytes_eq x y) (has_name (filter_map int_declared rest) x) (or_parts (bytes_eq x y) (has_name (names_declared rest) x) h).0 (ints_lack rest x (or_parts (bytes_eq x y) (has_name (names_declared rest) x) h).1)
+ints_lack (tree.Declare line tree.JSize y r ∷ rest) x h = or_from (bytes_eq x y) (has_name (filter_map int_declared rest) x) (or_parts (bytes_eq x y) (has_name (names_declared rest) x) h).0 (ints_lack rest x (or_parts (bytes_eq x y) (has_name (names_declared rest) x) h).1)
+ints_lack (tree.Declare line t y r ∷ rest) x h = ints_lack rest x (or_parts (bytes_eq x y) (has_name (names_declared rest) x) h).1
+ints_lack (tree.DeclareBuffer line t y r ∷ rest) x h = ints_lack rest x (or_parts (bytes_eq x y) (has_name (names_declared rest) x) h).1
+ints_lack (tree.DeclareChars line y r ∷ rest) x h = ints_lack rest x (or_parts (bytes_eq x y) (has_name (names_declared rest) x) h).1
+ints_lack (tree.DeclareArray line t y size ∷ rest) x h = ints_lack rest x (or_parts (bytes_eq x y) (has_name (names_declared rest) x) h).1
 ints_lack (s ∷ rest) x h = ints_lack rest x h
 
 -- the name that a statement declares is among these where it is that of a `jint`
@@ -133,15 +117,12 @@ AreAmongTaken before taken = (x : Identifier) → has_name taken x ≡ false →
 
 -- one name more that is taken
 more_taken : (before taken : List Identifier) (x : Identifier) → AreAmongTaken before taken → AreAmongTaken before (taken ++ x ∷ [])
-more_taken before taken x h y none = h y (or_left (has_name taken y) (has_name (x ∷ []) y) (sym (both_have taken (x ∷ []) y) ∙ none))
+more_taken before taken x h y none = h y (or_parts (has_name taken y) (has_name (x ∷ []) y) (sym (both_have taken (x ∷ []) y) ∙ none)).0
 
 more_before : (before taken : List Identifier) (x : Identifier) → AreAmongTaken before taken → AreAmongTaken (before ++ x ∷ []) (taken ++ x ∷ [])
 more_before before taken x h y none =
     let e : (has_name taken y || has_name (x ∷ []) y) ≡ false = sym (both_have taken (x ∷ []) y) ∙ none in
-    both_lack before (x ∷ []) y (h y (or_left (has_name taken y) (has_name (x ∷ []) y) e)) (or_right (has_name taken y) (has_name (x ∷ []) y) e)
-
-has_last : (names : List Identifier) (x : Identifier) → has_name (names ++ x ∷ []) x ≡ true
-has_last names x = both_have names (x ∷ []) x ∙ or_second (has_name names x) (has_name (x ∷ []) x) (or_true (bytes_eq x x) false (same_name x))
+    both_lack before (x ∷ []) y (h y (or_parts (has_name taken y) (has_name (x ∷ []) y) e).0) (or_parts (has_name taken y) (has_name (x ∷ []) y) e).1
 
 -- a name that is declared as no `jint` isn't among them
 other_lack : (before taken : List Identifier) (rest : List Stmt) (x : Identifier) → AreAmongTaken before taken → has_name taken x ≡ false → AreFresh (taken ++ x ∷ []) (names_declared rest) → has_name (before ++ filter_map int_declared rest) x ≡ false
@@ -149,7 +130,7 @@ other_lack before taken rest x among new fresh =
     both_lack before (filter_map int_declared rest) x (among x new) (ints_lack rest x (fresh_lack (taken ++ x ∷ []) (names_declared rest) x (has_last taken x) fresh))
 
 int_has : (before rest : List Identifier) (x : Identifier) → has_name (before ++ x ∷ rest) x ≡ true
-int_has before rest x = both_have before (x ∷ rest) x ∙ or_second (has_name before x) (has_name (x ∷ rest) x) (or_true (bytes_eq x x) (has_name rest x) (same_name x))
+int_has before rest x = both_have before (x ∷ rest) x ∙ or_right (has_name before x) (has_name (x ∷ rest) x) (or_left (bytes_eq x x) (has_name rest x) (nat_list_eq_equiv.refl x))
 
 moved : (before rest : List Identifier) (x : Identifier) (statements : List Stmt) → StmtsAgree ((before ++ x ∷ []) ++ rest) statements → StmtsAgree (before ++ x ∷ rest) statements
 moved before rest x statements h = subst (λ (ints : List Identifier). StmtsAgree ints statements) (append_assoc before (x ∷ []) rest) h
@@ -195,10 +176,10 @@ own_agrees ints s h = h.0
 -- a parameter's name that isn't among others is no `jint` of theirs
 parameters_lack : (ps : List Parameter) (x : Identifier) → has_name (map (λ p. p.name) ps) x ≡ false → has_name (filter_map int_parameter ps) x ≡ false
 parameters_lack [] x h = refl
-parameters_lack (p ∷ ps) x h = by_type p.type (or_left (bytes_eq x p.name) (has_name (map (λ p. p.name) ps) x) h) (parameters_lack ps x (or_right (bytes_eq x p.name) (has_name (map (λ p. p.name) ps) x) h))
+parameters_lack (p ∷ ps) x h = by_type p.type (or_parts (bytes_eq x p.name) (has_name (map (λ p. p.name) ps) x) h).0 (parameters_lack ps x (or_parts (bytes_eq x p.name) (has_name (map (λ p. p.name) ps) x) h).1)
   where
     by_type : (type : ParameterType) → bytes_eq x p.name ≡ false → has_name (filter_map int_parameter ps) x ≡ false → has_name (filter_map int_parameter (record { type = type; name = p.name } ∷ ps)) x ≡ false
-    by_type IntParameter first further = or_none (bytes_eq x p.name) (has_name (filter_map int_parameter ps) x) first further
+    by_type IntParameter first further = or_from (bytes_eq x p.name) (has_name (filter_map int_parameter ps) x) first further
     by_type (ReferenceParameter r) first further = further
 
 static_no_int : (s : ExprType) → IsStaticType s → false ≡ is_jint (Some s)
@@ -211,7 +192,7 @@ one_parameter : (type : ParameterType) (name : Identifier) (ps : List Parameter)
     → IntsAgree (filter_map int_parameter (record { type = type; name = name } ∷ ps)) ((name, parameter_slot type n r) ∷ known)
 one_parameter IntParameter name ps n r known new h y s at =
     first_or_after name y (parameter_slot IntParameter n r) s known ((bytes_eq y name || has_name (filter_map int_parameter ps) y) ≡ is_jint (Some s.ty))
-    (λ same is. or_true (bytes_eq y name) (has_name (filter_map int_parameter ps) y) (ap (λ z. bytes_eq z name) same ∙ same_name name) ∙ ap (λ (t : Slot). is_jint (Some t.ty)) is)
+    (λ same is. or_left (bytes_eq y name) (has_name (filter_map int_parameter ps) y) (ap (λ z. bytes_eq z name) same ∙ nat_list_eq_equiv.refl name) ∙ ap (λ (t : Slot). is_jint (Some t.ty)) is)
     (λ other found. by_other (bytes_eq y name) refl other found) at
   where
     by_other : (b : Bool) → bytes_eq y name ≡ b → y ≢ name → lookup y known ≡ Some s → (b || has_name (filter_map int_parameter ps) y) ≡ is_jint (Some s.ty)
@@ -223,16 +204,16 @@ parameters_agree : (ps : List Parameter) (n r : ℕ) (statics : Known) (names : 
 parameters_agree [] n r statics names are once x s at = static_no_int s.ty (are x s at).0
 parameters_agree (p ∷ ps) n r statics names are once x s at =
     let further = map (λ (q : Parameter). q.name) ps in
-    let new : (has_name further p.name || has_name names p.name) ≡ false = sym (both_have further names p.name) ∙ or_left (has_name (further ++ names) p.name) (has_repeated (further ++ names)) once in
-    one_parameter p.type p.name ps n r (parameter_slots ps (numbers_after p.type n) (references_after p.type r) ++ statics) (or_left (has_name further p.name) (has_name names p.name) new)
-    (parameters_agree ps (numbers_after p.type n) (references_after p.type r) statics names are (or_right (has_name (further ++ names) p.name) (has_repeated (further ++ names)) once)) x s at
+    let new : (has_name further p.name || has_name names p.name) ≡ false = sym (both_have further names p.name) ∙ (or_parts (has_name (further ++ names) p.name) (has_repeated (further ++ names)) once).0 in
+    one_parameter p.type p.name ps n r (parameter_slots ps (numbers_after p.type n) (references_after p.type r) ++ statics) (or_parts (has_name further p.name) (has_name names p.name) new).0
+    (parameters_agree ps (numbers_after p.type n) (references_after p.type r) statics names are (or_parts (has_name (further ++ names) p.name) (has_repeated (further ++ names)) once).1) x s at
 
 -- the head of a function that breaks no rule names nothing twice
 pub head_once : (names : List Identifier) (scope : Scope) (f : Function) → AreUnbroken (function_places names scope f) → has_repeated (parameter_names f ++ map (λ s. s.0) scope) ≡ false
 head_once names scope f well_typed =
     let place : Place = record { line = f.line; known = scope; taken = names; returns = f.result; form = HeadForm f } in
     let inside = places_of f.result ((f.class_name, Ref) ∷ map {B = Identifier × ExprType} (λ p. (p.name, parameter_type p.type)) f.parameters ++ scope) (parameter_names f ++ map (λ s. s.0) scope) f.body in
-    or_right (has_name names f.name) (has_repeated (parameter_names f ++ map (λ s. s.0) scope)) (not_twice place (first_unbroken place inside well_typed))
+    (or_parts (has_name names f.name) (has_repeated (parameter_names f ++ map (λ s. s.0) scope)) (not_twice place (first_unbroken place inside well_typed))).1
 
 module _ (statics : Known) (f : Function) (are : AreStatics statics) (once : has_repeated (parameter_names f ++ map (λ s. s.0) (scope_of statics)) ≡ false)
     (all_taken : AreTaken (parameter_names f ++ map (λ s. s.0) (scope_of statics)) (entry_layout statics f).known)
@@ -251,18 +232,18 @@ module _ (statics : Known) (f : Function) (are : AreStatics statics) (once : has
 
   among : AreAmongTaken before taken
   among x none =
-      let e : has_name further x ≡ false = or_right (bytes_eq x f.class_name) (has_name further x) none in
-      parameters_lack f.parameters x (or_left (has_name (map (λ p. p.name) f.parameters) x) (has_name (map (λ s. s.0) (scope_of statics)) x) (sym (both_have (map (λ p. p.name) f.parameters) (map (λ s. s.0) (scope_of statics)) x) ∙ e))
+      let e : has_name further x ≡ false = (or_parts (bytes_eq x f.class_name) (has_name further x) none).1 in
+      parameters_lack f.parameters x (or_parts (has_name (map (λ p. p.name) f.parameters) x) (has_name (map (λ s. s.0) (scope_of statics)) x) (sym (both_have (map (λ p. p.name) f.parameters) (map (λ s. s.0) (scope_of statics)) x) ∙ e)).0
 
   pub body_agrees : StmtsAgree (int_names f) (statements_of f.body)
   body_agrees = declared_agree (statements_of f.body) before taken among fresh
 
   class_new : has_name before f.class_name ≡ false
-  class_new = parameters_lack f.parameters f.class_name (or_left (has_name (map (λ p. p.name) f.parameters) f.class_name) (has_name (map (λ s. s.0) (scope_of statics)) f.class_name) (sym (both_have (map (λ p. p.name) f.parameters) (map (λ s. s.0) (scope_of statics)) f.class_name) ∙ or_left (has_name further f.class_name) (has_repeated further) once))
+  class_new = parameters_lack f.parameters f.class_name (or_parts (has_name (map (λ p. p.name) f.parameters) f.class_name) (has_name (map (λ s. s.0) (scope_of statics)) f.class_name) (sym (both_have (map (λ p. p.name) f.parameters) (map (λ s. s.0) (scope_of statics)) f.class_name) ∙ (or_parts (has_name further f.class_name) (has_repeated further) once).0)).0
 
   entry_agree : IntsAgree before (entry_layout statics f).known
   entry_agree = agree_first before f.class_name (record { ty = Ref; index = 0 }) (parameter_slots f.parameters 0 1 ++ statics) class_new
-      (parameters_agree f.parameters 0 1 statics (map (λ s. s.0) (scope_of statics)) are (or_right (has_name further f.class_name) (has_repeated further) once))
+      (parameters_agree f.parameters 0 1 statics (map (λ s. s.0) (scope_of statics)) are (or_parts (has_name further f.class_name) (has_repeated further) once).1)
 
   -- a name that is known there is taken, and so isn't declared
   known_taken : (x : Identifier) (s : Slot) → lookup x (entry_layout statics f).known ≡ Some s → has_name taken x ≡ true
@@ -275,4 +256,4 @@ module _ (statics : Known) (f : Function) (are : AreStatics statics) (once : has
   pub entry_agrees : IntsAgree (int_names f) (entry_layout statics f).known
   entry_agrees x s at =
       let none : has_name (filter_map int_declared (statements_of f.body)) x ≡ false = ints_lack (statements_of f.body) x (fresh_lack taken (names_declared (statements_of f.body)) x (known_taken x s at) fresh) in
-      both_have before (filter_map int_declared (statements_of f.body)) x ∙ ap (λ b. has_name before x || b) none ∙ or_false (has_name before x) ∙ entry_agree x s at
+      both_have before (filter_map int_declared (statements_of f.body)) x ∙ ap (λ b. has_name before x || b) none ∙ or-false (has_name before x) ∙ entry_agree x s at

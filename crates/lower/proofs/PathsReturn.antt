@@ -1,27 +1,12 @@
 -- Where every path through a block returns, every path through its tasks does.
 use Rattle.std.proofs.Common.{◌≡◌, ℕ, Bool, true, false, ◌&&◌, ◌||◌, ◌⊎◌, inl, inr, List, [], ◌∷◌, ◌++◌, Option, Some, None, refl}
 use Rattle.std.specs.List.{list_any}
+use Rattle.std.proofs.lemmas.Bool.{or_right, or_left}
 use Rattle.syntax.specs.Tree as tree
 use Rattle.syntax.specs.Tree.{Call, Test, TestExpr, TestCall, Stmt, Block, End, Next}
 use Rattle.jni.specs.JniFunction.{JniFunction, function_named}
 use Rattle.semantics.specs.Task.{Task, Tested, invocation, if_task, task_of, tasks_of}
 use Rattle.code_meaning.specs.Stands.{stmt_returns, block_returns, task_returns}
-
-either_true : (a b : Bool) → a ≡ true → (a || b) ≡ true
-either_true true b h = refl
-either_true false b h = absurd (cc)
-
-or_true : (a b : Bool) → b ≡ true → (a || b) ≡ true
-or_true true b h = refl
-or_true false b h = h
-
-or_cases : (a b : Bool) → (a || b) ≡ true → (a ≡ true) ⊎ (b ≡ true)
-or_cases true b h = inl refl
-or_cases false b h = inr h
-
-and_cases : (a b : Bool) → (a && b) ≡ true → (a ≡ true) × (b ≡ true)
-and_cases true b h = (refl, h)
-and_cases false b h = absurd (cc)
 
 invocation_returns : (line : ℕ) (a b : Block) (c : Call) (o : Option JniFunction) → (block_returns a && block_returns b) ≡ true → task_returns (invocation line (Tested a b) c o) ≡ true
 invocation_returns line a b c None h = refl
@@ -38,8 +23,8 @@ stmt_task_returns (tree.ReturnValue line e) h = refl
 stmt_task_returns s h = absurd (cc)
 
 first_returns : (a b c d : Bool) → (a ≡ true → c ≡ true) → (b ≡ true → d ≡ true) → (a || b) ≡ true → (c || d) ≡ true
-first_returns true b c d f g h = either_true c d (f refl)
-first_returns false b c d f g h = or_true c d (g h)
+first_returns true b c d f g h = or_left c d (f refl)
+first_returns false b c d f g h = or_right c d (g h)
 
 pub block_tasks_return : (b : Block) → block_returns b ≡ true → list_any task_returns (tasks_of b) ≡ true
 block_tasks_return (End line) h = absurd (cc)
@@ -52,7 +37,7 @@ any_left (t ∷ a) b h = first_returns (task_returns t) (list_any task_returns a
 
 any_right : (a b : List Task) → list_any task_returns b ≡ true → list_any task_returns (a ++ b) ≡ true
 any_right [] b h = h
-any_right (t ∷ a) b h = or_true (task_returns t) (list_any task_returns (a ++ b)) (any_right a b h)
+any_right (t ∷ a) b h = or_right (task_returns t) (list_any task_returns (a ++ b)) (any_right a b h)
 
 -- the path of a branch that is taken, and what is to do after it
 path_or_rest : (b : Block) (rest : List Task) → (block_returns b ≡ true) ⊎ (list_any task_returns rest ≡ true) → list_any task_returns (tasks_of b ++ rest) ≡ true

@@ -1,30 +1,19 @@
 -- Every path through an accepted function returns.
-use Rattle.std.proofs.Common.{◌≡◌, Bool, true, false, ◌&&◌, ◌||◌, inl, inr, refl, sym, subst}
+use Rattle.std.proofs.Common.{◌≡◌, true, inl, inr, refl, sym, subst}
 use Rattle.std.specs.Prelude.{IsTrue}
+use Rattle.std.proofs.lemmas.Bool.{or_right, and_from, or_left}
 use Rattle.syntax.specs.Tree as tree
 use Rattle.syntax.specs.Tree.{Stmt, Block, End, Next, Function}
 use Rattle.region_rules.specs.RegionStates.{RegionState, state_at_entry}
 use Rattle.region_rules.specs.Regions.{On, Returned, Keeps, KeepsBlock, AcceptedFunction}
 use Rattle.code_meaning.specs.Stands.{stmt_returns, block_returns}
 
-both_true : (a b : Bool) → a ≡ true → b ≡ true → (a && b) ≡ true
-both_true true b h k = k
-both_true false b h k = absurd (cc)
-
-left_true : (a b : Bool) → a ≡ true → (a || b) ≡ true
-left_true true b h = refl
-left_true false b h = absurd (cc)
-
-right_true : (a b : Bool) → b ≡ true → (a || b) ≡ true
-right_true true b h = refl
-right_true false b h = h
-
 mutual
   stmt_path : (s : Stmt) (before : RegionState) → Keeps before s Returned → stmt_returns s ≡ true
   stmt_path (tree.If line test then') before (o, Returned, k, j) = absurd (cc)
   stmt_path (tree.If line test then') before (o, On a, k, j) = absurd (let e = j.1 in cc)
   stmt_path (tree.IfElse line test then' else') before (o, Returned, second, k, k', j) =
-      both_true (block_returns then') (block_returns else') (block_path then' before _ k) (block_path else' before _ (subst (KeepsBlock before _ else') (sym j) k'))
+      and_from (block_returns then') (block_returns else') (block_path then' before _ k) (block_path else' before _ (subst (KeepsBlock before _ else') (sym j) k'))
   stmt_path (tree.IfElse line test then' else') before (o, On a, Returned, k, k', j) = absurd (cc)
   stmt_path (tree.IfElse line test then' else') before (o, On a, On b, k, k', j) = absurd (let e = j.1 in cc)
   stmt_path (tree.While line test body) before (o, turn, k, c, e) = absurd (cc)
@@ -34,8 +23,8 @@ mutual
 
   block_path : (b : Block) (outer before : RegionState) → KeepsBlock outer before b Returned → block_returns b ≡ true
   block_path (End line) outer before h = absurd (let e = h.1 in cc)
-  block_path (Next s rest) outer before (inl (middle, k, r)) = right_true (stmt_returns s) (block_returns rest) (block_path rest outer middle r)
-  block_path (Next s rest) outer before (inr h) = left_true (stmt_returns s) (block_returns rest) (stmt_path s before h.0)
+  block_path (Next s rest) outer before (inl (middle, k, r)) = or_right (stmt_returns s) (block_returns rest) (block_path rest outer middle r)
+  block_path (Next s rest) outer before (inr h) = or_left (stmt_returns s) (block_returns rest) (stmt_path s before h.0)
 
 pub function_returns : (f : Function) → AcceptedFunction f → IsTrue (block_returns f.body)
 function_returns f h = block_path f.body (state_at_entry f) (state_at_entry f) h

@@ -1,9 +1,11 @@
 -- A statement that is well-typed fits.
 use Rattle.std.proofs.Common.{◌≡◌, ℕ, ◌<◌, ◌≤◌, ◌⊎◌, inl, inr, Bool, true, false, not, ◌&&◌, ◌||◌, List, [], ◌∷◌, ◌++◌, map, flat_map, length, nat_le, Option, Some, None, is_some, refl, sym, ap, ◌∙◌, subst, arith, leb-true}
+use Rattle.std.specs.Cmp.{first_so, second_so}
 use Rattle.std.specs.List.{list_all, AllZip}
 use Rattle.std.specs.Option.{is_none}
+use Rattle.std.proofs.lemmas.Bool.{not-false}
 use Rattle.base.specs.Bytes.{Identifier, lookup}
-use Rattle.base.specs.Element.{ElementType, JInt, JShort, JByte, JChar, same_element}
+use Rattle.base.specs.Element.{ElementType}
 use Rattle.base.specs.Options.{some_passes}
 use Rattle.syntax.specs.Limits.{height, highest, numbers_in_range}
 use Rattle.syntax.specs.Parts.{call_of_right_side, argument_expressions, call_expressions, right_side_expressions, test_expressions}
@@ -12,7 +14,7 @@ use Rattle.syntax.specs.Tree.{ResultType, Void, IntResult, ReferenceResult, Expr
 use Rattle.jni.specs.Access.{Access, ElementsCopy, ArrayView, CharsCopy, CharsView}
 use Rattle.jni.specs.JniFunction.{JniFunction, PushLocalFrame, function_named, prototype, parameters_for, takes_count}
 use Rattle.jni.specs.Prototype.{ParameterKind, Nullable, NonNull, ClassObject, AnyArray, ObjectArray, StringObject, NumberArray, LocalVariable, StaticVariable, FieldID, MethodID, Passed, IntNumber, TextBytes, ArrayVariable, BufferVariable, Mode, IsCopy, ResultKind, NewLocal, NewGlobal, GivesFlag, GivesInt, GivesField, GivesMethod, GivesBuffer, GivesNothing, AnyReference, WeakVariable, NewWeak}
-use Rattle.type_rules.specs.ExprTypes.{ExprType, Word, Jint, Flag, Truth, Ref, Global, Weak, FieldId, MethodId, Buffer, Array, type_in, type_of, is_word, is_jint, is_flag, is_truth, is_index, has_elements, is_null, is_ref, is_global, is_field, is_method, is_reference, is_array_of, is_buffer_for, name_type, text_fits, address_fits, argument_fits, arguments_fit, call_arguments_fit, is_weak, is_any_reference}
+use Rattle.type_rules.specs.ExprTypes.{ExprType, Word, Jint, Flag, Truth, Ref, Global, Weak, FieldId, MethodId, Buffer, Array, type_in, type_of, is_jint, is_flag, is_truth, is_index, has_elements, is_null, is_ref, is_field, is_method, is_reference, is_array_of, is_buffer_for, name_type, text_fits, address_fits, argument_fits, arguments_fit, call_arguments_fit, is_any_reference}
 use Rattle.type_rules.specs.TypeRules.{result_fits, is_push, call_fits, may_be_tested, value_sets, right_side_sets, buffer_begins, test_fits, return_fits, has_wrong_count, has_wrong_mode, is_mode, is_mode_parameter, modes_fit, copies_reference}
 use Rattle.type_rules.specs.TypeGroups.{IsIndexType}
 use Rattle.semantics.specs.Term as term
@@ -20,47 +22,11 @@ use Rattle.semantics.specs.Term.{Term, Read, term_of}
 use Rattle.code_meaning.specs.Layout.{Slot, Known}
 use Rattle.code_meaning.specs.Fits.{IsVariable, HasElements, NumberFits, TakesLocal, TakesGlobal, NameFits, ReferenceFits, FieldFits, MethodFits, PassedFits, ArrayFits, BufferFits, ArgumentFits, CallFits, ResultFits, CallGives, ValueFits, RightFits, TestFits, ReturnFits, AnyReferenceFits, IsStaticType}
 use Rattle.type_rules.proofs.TypeCases.{indexed, index_is_value}
+use Rattle.type_rules.proofs.TypeTests.{word_is, jint_is, flag_is, truth_is, ref_is, global_is, weak_is, field_is, method_is, array_is, null_is, first_passed}
+use Rattle.type_rules.proofs.CallParameters.{parameters_count, modes_of_all}
 use Rattle.lower.proofs.TypeFacts.{scope_of, slot_of_name, HasNoTruth, IsFine, elements, number_fits}
-use Rattle.lower.proofs.Tests.{and_left, and_right, not_false}
-use Rattle.lower.proofs.CallCounts.{parameters_count, passed_no_mode}
 
 -- ---- types by their tests
-
-word_is : (o : Option ExprType) → is_word o ≡ true → o ≡ Some Word
-word_is (Some Word) h = refl
-word_is o h = absurd (cc)
-
-pub jint_is : (o : Option ExprType) → is_jint o ≡ true → o ≡ Some Jint
-jint_is (Some Jint) h = refl
-jint_is o h = absurd (cc)
-
-flag_is : (o : Option ExprType) → is_flag o ≡ true → o ≡ Some Flag
-flag_is (Some Flag) h = refl
-flag_is o h = absurd (cc)
-
-truth_is : (o : Option ExprType) → is_truth o ≡ true → o ≡ Some Truth
-truth_is (Some Truth) h = refl
-truth_is o h = absurd (cc)
-
-pub ref_is : (o : Option ExprType) → is_ref o ≡ true → o ≡ Some Ref
-ref_is (Some Ref) h = refl
-ref_is o h = absurd (cc)
-
-global_is : (o : Option ExprType) → is_global o ≡ true → o ≡ Some Global
-global_is (Some Global) h = refl
-global_is o h = absurd (cc)
-
-weak_is : (o : Option ExprType) → is_weak o ≡ true → o ≡ Some Weak
-weak_is (Some Weak) h = refl
-weak_is o h = absurd (cc)
-
-field_is : (o : Option ExprType) → is_field o ≡ true → o ≡ Some FieldId
-field_is (Some FieldId) h = refl
-field_is o h = absurd (cc)
-
-method_is : (o : Option ExprType) → is_method o ≡ true → o ≡ Some MethodId
-method_is (Some MethodId) h = refl
-method_is o h = absurd (cc)
 
 reference_is : (o : Option ExprType) → is_reference o ≡ true → (s : ExprType) × (o ≡ Some s) × ((s ≡ Ref) ⊎ (s ≡ Global))
 reference_is (Some Ref) h = (Ref, refl, inl refl)
@@ -79,31 +45,12 @@ any_reference_is (Some Global) h = (Global, refl, inr tt)
 any_reference_is (Some Weak) h = (Weak, refl, inr tt)
 any_reference_is o h = absurd (cc)
 
-same_types : (t u : ElementType) → same_element t u ≡ true → u ≡ t
-same_types JInt JInt h = refl
-same_types JShort JShort h = refl
-same_types JByte JByte h = refl
-same_types JChar JChar h = refl
-same_types t u h = absurd (cc)
-
-array_is : (t : ElementType) (o : Option ExprType) → is_array_of t o ≡ true → (size : ℕ) × (o ≡ Some (Array t size))
-array_is t (Some (Array u size)) h = (size, ap (λ (e : ElementType). Some (Array e size)) (same_types t u h))
-array_is t o h = absurd (cc)
-
 some_buffer : (access : Access) (o : Option ExprType) → is_buffer_for access o ≡ true → (s : ExprType) × (o ≡ Some s)
 some_buffer access (Some s) h = (s, refl)
 some_buffer (ElementsCopy t) None h = absurd (cc)
 some_buffer ArrayView None h = absurd (cc)
 some_buffer CharsCopy None h = absurd (cc)
 some_buffer CharsView None h = absurd (cc)
-
-null_is : (e : Expr) → is_null e ≡ true → e ≡ tree.Named tree.Null
-null_is (tree.Named tree.Null) h = refl
-null_is e h = absurd (cc)
-
-or_only : (a b : Bool) → (a || b) ≡ true → b ≡ false → a ≡ true
-or_only true b h k = refl
-or_only false b h k = absurd (let c : true ≡ false = sym h ∙ k in cc)
 
 first_only : (b : Bool) → (b || false || false) ≡ true → b ≡ true
 first_only true h = refl
@@ -123,8 +70,8 @@ AreFine (e ∷ rest) = IsFine e × AreFine rest
 pub are_fine : (all : List Expr) → list_all numbers_in_range all ≡ true → highest (map height all) ≤ 32 → AreFine all
 are_fine [] range low = tt
 are_fine (e ∷ rest) range low = (
-  record { range = and_left (numbers_in_range e) (list_all numbers_in_range rest) range; low = omega (arith, low) },
-  are_fine rest (and_right (numbers_in_range e) (list_all numbers_in_range rest) range) (omega (arith, low)),
+  record { range = first_so (numbers_in_range e) (list_all numbers_in_range rest) range; low = omega (arith, low) },
+  are_fine rest (second_so (numbers_in_range e) (list_all numbers_in_range rest) range) (omega (arith, low)),
 )
 
 -- ---- calls
@@ -281,22 +228,22 @@ module _ (known : Known) where
     all_fit (p ∷ parameters) [] fine h modes count = absurd (omega (arith, count))
     all_fit (p ∷ parameters) (a ∷ arguments) fine h modes count =
         let both = are_both (argument_expressions a) (flat_map argument_expressions arguments) fine in (
-          one_fits p a both.0 (and_left (argument_fits (scope_of known) p a) (arguments_fit (scope_of known) parameters arguments) h) (and_left (not (is_mode_parameter p) || is_mode a) (modes_fit parameters arguments) modes),
-          all_fit parameters arguments both.1 (and_right (argument_fits (scope_of known) p a) (arguments_fit (scope_of known) parameters arguments) h) (and_right (not (is_mode_parameter p) || is_mode a) (modes_fit parameters arguments) modes) (omega (arith, count)),
+          one_fits p a both.0 (first_so (argument_fits (scope_of known) p a) (arguments_fit (scope_of known) parameters arguments) h) (first_so (not (is_mode_parameter p) || is_mode a) (modes_fit parameters arguments) modes),
+          all_fit parameters arguments both.1 (second_so (argument_fits (scope_of known) p a) (arguments_fit (scope_of known) parameters arguments) h) (second_so (not (is_mode_parameter p) || is_mode a) (modes_fit parameters arguments) modes) (omega (arith, count)),
         )
 
     -- a call of a function that is known
     fits_with : (c : Call) → CallHolds known (Some c) → (is : KnownCall c) → (fits : CallFits known c) × (fits.function ≡ is.function)
     fits_with c holds is =
         let parameters = parameters_for is.function (length c.arguments) in
-        let arguments : call_arguments_fit (scope_of known) c (Some is.function) ≡ true = sym (ap (call_arguments_fit (scope_of known) c) is.named) ∙ not_false (call_arguments_fit (scope_of known) c (function_named c.function)) holds.arguments in
-        let count : takes_count is.function (length c.arguments) ≡ true = not_false (takes_count is.function (length c.arguments)) (sym (ap (has_wrong_count c) is.named) ∙ holds.count) in
+        let arguments : call_arguments_fit (scope_of known) c (Some is.function) ≡ true = sym (ap (call_arguments_fit (scope_of known) c) is.named) ∙ not-false (call_arguments_fit (scope_of known) c (function_named c.function)) holds.arguments in
+        let count : takes_count is.function (length c.arguments) ≡ true = not-false (takes_count is.function (length c.arguments)) (sym (ap (has_wrong_count c) is.named) ∙ holds.count) in
         let modes : not (modes_fit (prototype is.function).parameters c.arguments) ≡ false = sym (ap (has_wrong_mode c) is.named) ∙ holds.modes in (
           record {
             function = is.function;
             named = is.named;
             count = count;
-            arguments = all_fit parameters c.arguments holds.fine arguments (passed_no_mode is.function c.arguments (not_false (modes_fit (prototype is.function).parameters c.arguments) modes)) (parameters_count is.function (length c.arguments) count);
+            arguments = all_fit parameters c.arguments holds.fine arguments (modes_of_all is.function c.arguments (not-false (modes_fit (prototype is.function).parameters c.arguments) modes)) (parameters_count is.function (length c.arguments) count);
           },
           refl,
         )
@@ -323,7 +270,7 @@ module _ (known : Known) where
         let is = known_call c holds.function in
         let fits = fits_with c holds is in
         let known_fits : call_fits o (Some is.function) ≡ true = sym (ap (call_fits o) is.named) ∙ h in
-        let result = result_type o (prototype is.function).result (and_right (not (is_push is.function)) (result_fits o (prototype is.function).result) known_fits) in
+        let result = result_type o (prototype is.function).result (second_so (not (is_push is.function)) (result_fits o (prototype is.function).result) known_fits) in
         (result.0, result.1, record { fits = fits.0; result = subst (λ f. ResultFits result.0 (prototype f).result) (sym fits.1) result.2 })
 
     same_type : (a b : ExprType) → Some a ≡ Some b → a ≡ b
@@ -340,7 +287,7 @@ module _ (known : Known) where
     value_fits Word e fine h k = number_fits known e Word no_truth fine (word_is (type_of (scope_of known) e) h) tt
     value_fits Jint e fine h k = number_fits known e Jint no_truth fine (jint_is (type_of (scope_of known) e) h) tt
     value_fits Flag e fine h k = number_fits known e Flag no_truth fine (flag_is (type_of (scope_of known) e) h) tt
-    value_fits Ref e fine h k = null_is e (or_only (is_null e) (is_some (name_type (scope_of known) e)) h k)
+    value_fits Ref e fine h k = null_is e (first_passed (is_null e) (is_some (name_type (scope_of known) e)) h k)
     value_fits Global e fine h k = null_is e h
     value_fits Weak e fine h k = null_is e h
     value_fits FieldId e fine h k = null_is e h
@@ -419,6 +366,6 @@ module _ (known : Known) where
 
 pub size_fits : (size : ℕ) → (nat_le 1 size && nat_le size 1024) ≡ true → (0 < size) × (size ≤ 1024)
 size_fits size h =
-    let some = leb-true 1 size (and_left (nat_le 1 size) (nat_le size 1024) h) in
-    let few = leb-true size 1024 (and_right (nat_le 1 size) (nat_le size 1024) h) in
+    let some = leb-true 1 size (first_so (nat_le 1 size) (nat_le size 1024) h) in
+    let few = leb-true size 1024 (second_so (nat_le 1 size) (nat_le size 1024) h) in
     (omega (arith, some), few)

@@ -1,5 +1,5 @@
 -- The first instruction of a term's code replaces the leftmost part that can be reduced, or traps where it does.
-use Rattle.std.proofs.Common.{◌≡◌, ℕ, zero, suc, ℤ, pos, negsuc, ◌+◌, ◌-◌, ◌<◌, ◌≤◌, ◌^◌, ◌%◌, ◌*◌, ◌/◌, ◌⊎◌, inl, inr, lit<, Bool, true, false, not, List, [], ◌∷◌, ◌++◌, length, Option, Some, None, if◌then◌else◌, refl, sym, ap, ◌∙◌, subst, arith, append_assoc}
+use Rattle.std.proofs.Common.{◌≡◌, ℕ, zero, suc, ℤ, pos, negsuc, ◌+◌, ◌-◌, ◌<◌, ◌≤◌, ◌^◌, ◌%◌, ◌*◌, ◌/◌, ◌⊎◌, inl, inr, lit<, Bool, true, false, not, List, [], ◌∷◌, ◌++◌, length, Option, Some, None, if◌then◌else◌, refl, sym, ap, ◌∙◌, subst, arith, append_assoc, mod-eq_of_lt}
 use Rattle.std.specs.Prelude.{FitsSigned, nat_lt, nat_le, int_lt, int_le, is_none, slice_get, ◌==◌}
 use Rattle.std.specs.Bool.{beq}
 use Rattle.std.specs.Ordering.{int_eq}
@@ -32,6 +32,7 @@ use Rattle.code.specs.declared.instr.Plain.TheVariants as plain
 use Rattle.code.specs.declared.instr.PlainTrap.{PlainTrap}
 use Rattle.code.specs.declared.instr.PlainTrap.TheVariants as trap
 use Rattle.code.specs.Effect.{plain_of, truth_word, operate}
+use Rattle.code.proofs.Words.{negative_index}
 use Rattle.semantics.specs.Value.{Value, Word, Int, Flag, Truth, OutOfRange, Gives, Traps, Stuck, outcome_map, convert}
 use Rattle.semantics.specs.Term as term
 use Rattle.semantics.specs.Term.{Term, Done, Read, IsNull, Prefix, And, Or, Binary, Reduction, done, with_part, reduce}
@@ -120,20 +121,16 @@ signed_is known (Binary op a b) s h = sym (result_unsigned (group op) h.0 s h.1)
 
 -- ---- numbers
 
--- a number of 32 bits is its own remainder
-own_remainder : (n : ℕ) → n < 2 ^ 32 → n % 2 ^ 32 ≡ n
-own_remainder n h = omega arith
-
 -- what a word becomes by the cast to `jint`
 abbrev convert_int : ℕ → ℤ
 convert_int n = convert JInt (pos n)
 
 -- a word that becomes a `jint` keeps its bits
 same_word : (n : ℕ) → n < 2 ^ 32 → cast_unsigned w32 (convert_int n) ≡ n
-same_word n h = rw (own_remainder n h) (of_z-to_z {w = w32} (Fits-of_lt h))
+same_word n h = rw (mod-eq_of_lt h) (of_z-to_z {w = w32} (Fits-of_lt h))
 
 int_fits : (n : ℕ) → n < 2 ^ 32 → FitsSigned w32 (convert_int n)
-int_fits n h = rw (own_remainder n h) (sfits_to_z (Fits-of_lt h))
+int_fits n h = rw (mod-eq_of_lt h) (sfits_to_z (Fits-of_lt h))
 
 -- `jint`s are equal where their words are
 equal_words : (a b : ℤ) → FitsSigned w32 a → FitsSigned w32 b → int_eq a b ≡ (cast_unsigned w32 a == cast_unsigned w32 b)
@@ -146,10 +143,6 @@ equal_words a b h k =
 not_below : (a b : ℕ) → b ≤ a → (q : Bool) → nat_lt a b ≡ q → q ≡ false
 not_below a b h true e = absurd (let below = ltb-true a b e in omega (arith, h, below))
 not_below a b h false e = refl
-
--- the word of a negative `jint` is no index of an array
-pub negative_past : (n size : ℕ) → FitsSigned w32 (negsuc n) → size ≤ 1024 → nat_lt (cast_unsigned w32 (negsuc n)) size ≡ false
-negative_past n size h few = not_below (cast_unsigned w32 (negsuc n)) size (omega (arith, h.sfits, few)) (nat_lt (cast_unsigned w32 (negsuc n)) size) refl
 
 positive : (n : ℕ) → (n == 0) ≡ false → 0 < n
 positive zero h = absurd (cc)
@@ -579,7 +572,7 @@ module _ (known : Known) (line : ℕ) (slots : Slots) (visible : Visible) where
   index_step x (Word n) r s t size start at shown i h e = element_step x (Word n) s t size start n at shown refl refl e (nat_lt n size) refl
   index_step x (Int (pos n)) r s t size start at shown i h e = element_step x (Int (pos n)) s t size start n at shown refl refl e (nat_lt n size) refl
   index_step x (Int (negsuc n)) r s t size start at shown i h e =
-      gives_trap (term.Element x (Done (Int (negsuc n)))) s (instr.LoadElement (record { start = start; len = size }) line) trap.OutOfRange (ap (of_slot (element_code line)) at) refl (λ stack. rw (negative_past n size h.0 shown.few) refl)
+      gives_trap (term.Element x (Done (Int (negsuc n)))) s (instr.LoadElement (record { start = start; len = size }) line) trap.OutOfRange (ap (of_slot (element_code line)) at) refl (λ stack. rw (negative_index n size h.0 shown.few) refl)
   index_step x (Flag b) r s t size start at shown i h e = absurd (subst IsIndexType h i)
   index_step x (Truth b) r s t size start at shown i h e = absurd (subst IsIndexType h i)
 

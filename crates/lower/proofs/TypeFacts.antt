@@ -2,14 +2,14 @@
 use Rattle.std.proofs.Common.{◌≡◌, ℕ, ◌+◌, ◌≤◌, ◌^◌, ◌⊎◌, inl, inr, Bool, true, false, ◌&&◌, max, [], ◌∷◌, map, nat_lt, Option, Some, None, refl, sym, ap, ◌∙◌, subst, arith, if◌then◌else◌}
 use Rattle.std.specs.Option.{option_or}
 use Rattle.std.specs.Str.{bytes_eq}
-use Rattle.std.proofs.lemmas.Bool.{ltb-true}
+use Rattle.std.proofs.lemmas.Bool.{ltb-true, and_parts}
 use Rattle.base.specs.Bytes.{Identifier, lookup}
 use Rattle.syntax.specs.Limits.{height, number_limit, numbers_in_range}
 use Rattle.syntax.specs.Parts.{null_tested}
 use Rattle.syntax.specs.Tree.{Constant, True, False, Null, PrefixOp, LogicalNot, Complement, ToWord, ToInt, BinaryOp, LogicalOr, LogicalAnd, Equal, NotEqual, Expr, Number, Named, Variable, Element, Prefix, Binary, Paren}
 use Rattle.type_rules.specs.ExprTypes.{ExprType, Word, Jint, Flag, Truth, Ref, Global, FieldId, MethodId, Buffer, Array, Scope, OperatorGroup, Logic, Equality, group, binary_type, prefix_type, is_castable, is_index, has_elements, is_nullable, constant_type, null_test_type, type_in, type_of}
 use Rattle.type_rules.specs.TypeGroups.{OperatorFits}
-use Rattle.type_rules.proofs.TypeCases.{IsValueType, given, and_true, castable, indexed, operands, number_is_value, index_is_value, null_cases, none_right, or_none}
+use Rattle.type_rules.proofs.TypeCases.{IsValueType, given, castable, indexed, operands, number_is_value, index_is_value, null_cases, none_right, or_none}
 use Rattle.semantics.specs.Term as term
 use Rattle.semantics.specs.Term.{Term, binary_term, term_of}
 use Rattle.code_meaning.specs.Layout.{Slot, Known}
@@ -97,7 +97,7 @@ prefix_typed known op o s t h types = absurd (cc)
 element_typed : (known : Known) (x : Identifier) (o : Option ExprType) (s : ExprType) (t : Term) → (if has_elements (type_in (scope_of known) x) && is_index o then Some Jint else None) ≡ Some s → HasTypes known t o → TermHasType known (term.Element x t) s
 element_typed known x o s t h types =
     let passed = given (has_elements (type_in (scope_of known) x) && is_index o) Jint s h in
-    let both = and_true (has_elements (type_in (scope_of known) x)) (is_index o) passed.0 in
+    let both = and_parts (has_elements (type_in (scope_of known) x)) (is_index o) passed.0 in
     let r = indexed o both.1 in
     let e = elements (type_in (scope_of known) x) both.0 in
     let at = slot_of_name x known e.0 e.1 in
@@ -143,7 +143,7 @@ term_type (Variable x) known s no_truth range h v = variable_well_typed known x 
 term_type (Element x i) known s no_truth range h v = element_typed known x (type_of (scope_of known) i) s (term_of i) h (λ r e w. term_type i known r no_truth range e w)
 term_type (Prefix op a) known s no_truth range h v = prefix_typed known op (type_of (scope_of known) a) s (term_of a) h (λ r e w. term_type a known r no_truth range e w)
 term_type (Binary op a b) known s no_truth range h v =
-    let both = and_true (numbers_in_range a) (numbers_in_range b) range in
+    let both = and_parts (numbers_in_range a) (numbers_in_range b) range in
     operation_typed known op a b s h (λ r e w. term_type a known r no_truth both.0 e w) (λ r e w. term_type b known r no_truth both.1 e w)
 term_type (Paren a) known s no_truth range h v = term_type a known s no_truth range h v
 

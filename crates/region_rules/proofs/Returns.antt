@@ -6,10 +6,10 @@ use Rattle.region_rules.specs.Endings.{EndsByReturn}
 use Rattle.region_rules.specs.RegionStates.{RegionState, state_at_entry}
 use Rattle.region_rules.specs.Regions.{Path, On, Returned, Join, IsEnd, Keeps, KeepsBlock, AcceptedFunction, where_true, where_false}
 
-goes_on : (a : RegionState) → On a ≡ Returned → ⊥
+pub goes_on : (a : RegionState) → On a ≡ Returned → ⊥
 goes_on a e = cc
 
-returns_not : (a : RegionState) → Returned ≡ On a → ⊥
+pub returns_not : (a : RegionState) → Returned ≡ On a → ⊥
 returns_not a e = cc
 
 -- paths of which the join returns return both

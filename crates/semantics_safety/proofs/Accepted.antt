@@ -3,6 +3,7 @@ use Rattle.std.proofs.Common.{◌≡◌, ℕ, Bool, true, false, List, [], ◌�
 use Rattle.std.specs.Prelude.{flat_map}
 use Rattle.std.specs.List.{list_any, AllByRecursion}
 use Rattle.std.specs.Str.{bytes_eq}
+use Rattle.std.proofs.lemmas.Bool.{or_parts}
 use Rattle.std.proofs.lemmas.Slice.Eq.{bytes_eq-Decides}
 use Rattle.base.specs.Bytes.{Identifier, lookup}
 use Rattle.syntax.specs.Parts.{functions_of, statics_of, parameter_names}
@@ -24,10 +25,10 @@ use Rattle.semantics_safety.specs.Stands.{IsSound}
 use Rattle.semantics_safety.specs.StepSafe.{HasCalls, AcceptedIsSafe}
 use Rattle.semantics_safety.specs.Wanted.{GoesOn}
 use Rattle.semantics_safety.specs.WeakNames.{WeakNames, IsOfKind, AreOfKind, static_types, weak_names}
-use Rattle.semantics_safety.proofs.EntryPoints.{entry_scope, entry_point, IsStaticType, SeesStatics, HasNamesOnce, or_false}
+use Rattle.semantics_safety.proofs.EntryPoints.{entry_scope, entry_point, IsStaticType, SeesStatics, HasNamesOnce}
 use Rattle.semantics_safety.proofs.NameLaws.{front_same}
 use Rattle.semantics_safety.proofs.SetLaws.{kinds_named}
-use Rattle.type_rules.proofs.PlaceLists.{AreUnbroken, first_empty, second_empty, front_unbroken, back_unbroken, none_broken, first_false, second_false}
+use Rattle.type_rules.proofs.PlaceLists.{AreUnbroken, first_empty, second_empty, front_unbroken, back_unbroken, none_broken}
 use Rattle.semantics_safety.proofs.Runs.{Enters, FindsCallable, runs_are_safe, threads_are_sound}
 use Rattle.semantics_safety.proofs.MethodsFound.{found_is_callable}
 use Rattle.semantics.specs.Activation.{function_at}
@@ -48,8 +49,8 @@ names_once : (taken : List Identifier) (scope : Scope) (f : Function) → broken
 names_once taken scope f none =
     let place = head_place taken scope f in
     let p : TypeRule → Bool = λ rule. breaks rule place place.form in
-    let twice = second_false (p UnknownName) (list_any p (DeclaredTwice ∷ other_rules)) (none_broken p f.line typing_rules none) in
-    second_false (has_name taken f.name) (has_repeated (parameter_names f ++ map (λ s. s.0) scope)) (first_false (p DeclaredTwice) (list_any p other_rules) twice)
+    let twice = (or_parts (p UnknownName) (list_any p (DeclaredTwice ∷ other_rules)) (none_broken p f.line typing_rules none)).1 in
+    (or_parts (has_name taken f.name) (has_repeated (parameter_names f ++ map (λ s. s.0) scope)) ((or_parts (p DeclaredTwice) (list_any p other_rules) twice).0)).1
 
 -- ---- statics
 
@@ -106,8 +107,8 @@ static_new : (taken : List Identifier) (scope : Scope) (g : Static) → broken_a
 static_new taken scope g none =
     let place = static_place taken scope g in
     let p : TypeRule → Bool = λ rule. breaks rule place place.form in
-    let twice = second_false (p UnknownName) (list_any p (DeclaredTwice ∷ other_rules)) (none_broken p g.line typing_rules none) in
-    first_false (p DeclaredTwice) (list_any p other_rules) twice
+    let twice = (or_parts (p UnknownName) (list_any p (DeclaredTwice ∷ other_rules)) (none_broken p g.line typing_rules none)).1 in
+    (or_parts (p DeclaredTwice) (list_any p other_rules) twice).0
 
 static_kind : (weak : Bool) (type : StaticType) → weak ≡ is_weak (Some (static_type type)) → IsOfKind weak (static_type type)
 static_kind weak (ReferenceStatic r) e = e
@@ -123,11 +124,11 @@ AreLeft all taken items = (x : Identifier) → has_name taken x ≡ false → ty
 
 left_static : (all : List Static) (taken : List Identifier) (g : Static) (items : List Item) → AreLeft all taken (StaticItem g ∷ items) → AreLeft all (g.name ∷ taken) items
 left_static all taken g items left x new =
-    let both = or_false (bytes_eq x g.name) (has_name taken x) new in
+    let both = or_parts (bytes_eq x g.name) (has_name taken x) new in
     left x both.1 ∙ ap (λ (b : Bool). if b then Some (static_type g.type) else type_in (static_types (statics_in items)) x) both.0
 
 left_function : (all : List Static) (taken : List Identifier) (f : Function) (items : List Item) → AreLeft all taken (FunctionItem f ∷ items) → AreLeft all (f.name ∷ taken) items
-left_function all taken f items left x new = left x (or_false (bytes_eq x f.name) (has_name taken x) new).1
+left_function all taken f items left x new = left x (or_parts (bytes_eq x f.name) (has_name taken x) new).1
 
 -- ---- functions by their names
 
@@ -139,8 +140,8 @@ function_new : (taken : List Identifier) (scope : Scope) (f : Function) → brok
 function_new taken scope f none =
     let place = head_place taken scope f in
     let p : TypeRule → Bool = λ rule. breaks rule place place.form in
-    let twice = second_false (p UnknownName) (list_any p (DeclaredTwice ∷ other_rules)) (none_broken p f.line typing_rules none) in
-    first_false (has_name taken f.name) (has_repeated (parameter_names f ++ map (λ s. s.0) scope)) (first_false (p DeclaredTwice) (list_any p other_rules) twice)
+    let twice = (or_parts (p UnknownName) (list_any p (DeclaredTwice ∷ other_rules)) (none_broken p f.line typing_rules none)).1 in
+    (or_parts (has_name taken f.name) (has_repeated (parameter_names f ++ map (λ s. s.0) scope)) ((or_parts (p DeclaredTwice) (list_any p other_rules) twice).0)).0
 
 -- a name is no other's
 other_path : (x y : Identifier) → bytes_eq y x ≡ false → bytes_eq x y ≡ false
@@ -152,12 +153,12 @@ other_path x y e = by_test (bytes_eq x y) refl
 
 first_after_static : (taken : List Identifier) (g : Static) (items : List Item) (fs : List Function) → AllByRecursion (IsFirst (g.name ∷ taken) items) fs → AllByRecursion (IsFirst taken (StaticItem g ∷ items)) fs
 first_after_static taken g items [] h = tt
-first_after_static taken g items (f ∷ fs) h = (((or_false (bytes_eq f.name g.name) (has_name taken f.name) h.0.0).1, h.0.1), first_after_static taken g items fs h.1)
+first_after_static taken g items (f ∷ fs) h = (((or_parts (bytes_eq f.name g.name) (has_name taken f.name) h.0.0).1, h.0.1), first_after_static taken g items fs h.1)
 
 first_after_function : (taken : List Identifier) (g : Function) (items : List Item) (fs : List Function) → AllByRecursion (IsFirst (g.name ∷ taken) items) fs → AllByRecursion (IsFirst taken (FunctionItem g ∷ items)) fs
 first_after_function taken g items [] h = tt
 first_after_function taken g items (f ∷ fs) h =
-    let both = or_false (bytes_eq f.name g.name) (has_name taken f.name) h.0.0 in
+    let both = or_parts (bytes_eq f.name g.name) (has_name taken f.name) h.0.0 in
     let skips = ap (λ (b : Bool). if b then Some g else find (λ (f' : Function). bytes_eq f'.name f.name) (functions_in items)) (other_path g.name f.name both.0) in
     ((both.1, skips ∙ h.0.1), first_after_function taken g items fs h.1)
 

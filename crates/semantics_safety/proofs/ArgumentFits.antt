@@ -1,23 +1,25 @@
 -- The arguments of a call that fit by the rules of types, and whose names may be used, are operands that fit.
-use Rattle.std.proofs.Common.{◌≡◌, ℕ, Bool, true, false, not, ◌&&◌, ◌||◌, List, [], ◌∷◌, ◌++◌, map, length, Option, Some, None, refl, sym, ap, ◌∙◌}
+use Rattle.std.proofs.Common.{◌≡◌, Bool, true, false, not, ◌||◌, List, [], ◌∷◌, ◌++◌, map, length, Option, Some, None, refl, sym, ap, ◌∙◌}
 use Rattle.std.specs.Prelude.{flat_map, zip}
 use Rattle.std.specs.List.{list_any}
+use Rattle.std.proofs.lemmas.Bool.{and_parts, or_parts}
 use Rattle.std.proofs.lemmas.Grind.{flat_map-append}
 use Rattle.base.specs.Bytes.{Identifier}
-use Rattle.base.specs.Element.{ElementType, JInt, JShort, JByte, JChar, same_element}
+use Rattle.base.specs.Element.{ElementType}
 use Rattle.syntax.specs.Parts.{names_in, elements_in, argument_expressions}
 use Rattle.syntax.specs.Tree.{Null, Expr, Number, Named, Variable, Element, Prefix, Binary, Paren, Argument, Value, Text, AddressOf}
 use Rattle.jni.specs.Access.{Access, ElementsCopy, ArrayView, CharsCopy, CharsView}
 use Rattle.jni.specs.Prototype.{ParameterKind, Nullable, NonNull, AnyReference, ClassObject, AnyArray, ObjectArray, StringObject, NumberArray, LocalVariable, StaticVariable, WeakVariable, FieldID, MethodID, Passed, IntNumber, TextBytes, ArrayVariable, BufferVariable, Mode, IsCopy}
-use Rattle.type_rules.specs.ExprTypes.{ExprType, Jint, Flag, Ref, Global, Weak, Buffer, Array, type_in, type_of, is_jint, is_flag, is_ref, is_global, is_weak, is_any_reference, is_reference, is_field, is_method, is_array_of, is_buffer_for, is_null, name_type, argument_fits, arguments_fit}
+use Rattle.type_rules.specs.ExprTypes.{ExprType, Jint, Ref, Global, Weak, Buffer, type_in, type_of, is_jint, is_any_reference, is_reference, is_buffer_for, is_null, name_type, argument_fits, arguments_fit}
 use Rattle.type_rules.specs.ExprTypes as ty
 use Rattle.type_rules.specs.TypeRules.{is_mode, is_mode_parameter, modes_fit}
+use Rattle.type_rules.proofs.TypeTests.{jint_is, flag_is, ref_is, global_is, weak_is, field_is, method_is, array_is}
 use Rattle.region_rules.specs.RegionRules.{is_dead, is_untested, is_free}
 use Rattle.region_rules.specs.RegionStates.{RegionState, state_of}
 use Rattle.semantics.specs.Task.{operand}
 use Rattle.semantics.specs.Term.{term_of}
 use Rattle.semantics_safety.specs.Points.{Point, ReferenceFits, AnyReferenceFits, ReferenceArgumentFits, GivenFits, PassedFits, HasType, OperandFits, OperandsFit}
-use Rattle.semantics_safety.proofs.ExpressionFits.{AreStated, MayRead, is_live, usable_if, expression_fits}
+use Rattle.semantics_safety.proofs.ExpressionFits.{AreStated, MayRead, is_live, usable_if, expression_fits, none_of_both}
 
 -- ---- expressions together
 
@@ -27,27 +29,16 @@ pub record MayReadAll (regions : RegionState) (es : List Expr) : Type 0 where
   pub unfree : list_any (λ x. is_free (state_of regions x)) (flat_map names_in es) ≡ false
   pub tested : list_any (λ x. is_untested (state_of regions x)) (flat_map elements_in es) ≡ false
 
-neither : (a b : Bool) → (a || b) ≡ false → (a ≡ false) × (b ≡ false)
-neither true b h = absurd (cc)
-neither false b h = (refl, h)
-
-any_append : (p : Identifier → Bool) (xs ys : List Identifier) → list_any p (xs ++ ys) ≡ false → (list_any p xs ≡ false) × (list_any p ys ≡ false)
-any_append p [] ys h = (refl, h)
-any_append p (x ∷ xs) ys h =
-    let both = neither (p x) (list_any p (xs ++ ys)) h in
-    let later = any_append p xs ys both.1 in
-    (ap (λ (b : Bool). b || list_any p xs) both.0 ∙ later.0, later.1)
-
 -- the first of them, and the others
 pub first_read : (regions : RegionState) (e : Expr) (es : List Expr) → MayReadAll regions (e ∷ es) → MayRead regions e × MayReadAll regions es
 first_read regions e es h =
-    let alive = any_append (λ x. is_dead (state_of regions x)) (names_in e) (flat_map names_in es) h.alive in
-    let unfree = any_append (λ x. is_free (state_of regions x)) (names_in e) (flat_map names_in es) h.unfree in
-    let tested = any_append (λ x. is_untested (state_of regions x)) (elements_in e) (flat_map elements_in es) h.tested in
+    let alive = none_of_both (λ x. is_dead (state_of regions x)) (names_in e) (flat_map names_in es) h.alive in
+    let unfree = none_of_both (λ x. is_free (state_of regions x)) (names_in e) (flat_map names_in es) h.unfree in
+    let tested = none_of_both (λ x. is_untested (state_of regions x)) (elements_in e) (flat_map elements_in es) h.tested in
     (record { alive = alive.0; unfree = unfree.0; tested = tested.0 }, record { alive = alive.1; unfree = unfree.1; tested = tested.1 })
 
 parts_read : (p : Identifier → Bool) (f : Expr → List Identifier) (xs ys : List Expr) → list_any p (flat_map f (xs ++ ys)) ≡ false → (list_any p (flat_map f xs) ≡ false) × (list_any p (flat_map f ys) ≡ false)
-parts_read p f xs ys h = any_append p (flat_map f xs) (flat_map f ys) (ap (list_any p) (sym (flat_map-append f xs ys)) ∙ h)
+parts_read p f xs ys h = none_of_both p (flat_map f xs) (flat_map f ys) (ap (list_any p) (sym (flat_map-append f xs ys)) ∙ h)
 
 pub both_read : (regions : RegionState) (xs ys : List Expr) → MayReadAll regions (xs ++ ys) → MayReadAll regions xs × MayReadAll regions ys
 both_read regions xs ys h =
@@ -57,49 +48,6 @@ both_read regions xs ys h =
     (record { alive = alive.0; unfree = unfree.0; tested = tested.0 }, record { alive = alive.1; unfree = unfree.1; tested = tested.1 })
 
 -- ---- the tests, turned round
-
-both_so : (a b : Bool) → (a && b) ≡ true → (a ≡ true) × (b ≡ true)
-both_so true b h = (refl, h)
-both_so false b h = absurd (cc)
-
-pub is_a_jint : (o : Option ExprType) → is_jint o ≡ true → o ≡ Some Jint
-is_a_jint (Some Jint) h = refl
-is_a_jint o h = absurd (cc)
-
-pub is_a_flag : (o : Option ExprType) → is_flag o ≡ true → o ≡ Some Flag
-is_a_flag (Some Flag) h = refl
-is_a_flag o h = absurd (cc)
-
-pub is_a_ref : (o : Option ExprType) → is_ref o ≡ true → o ≡ Some Ref
-is_a_ref (Some Ref) h = refl
-is_a_ref o h = absurd (cc)
-
-pub is_a_global : (o : Option ExprType) → is_global o ≡ true → o ≡ Some Global
-is_a_global (Some Global) h = refl
-is_a_global o h = absurd (cc)
-
-pub is_a_weak : (o : Option ExprType) → is_weak o ≡ true → o ≡ Some Weak
-is_a_weak (Some Weak) h = refl
-is_a_weak o h = absurd (cc)
-
-pub is_a_field : (o : Option ExprType) → is_field o ≡ true → o ≡ Some ty.FieldId
-is_a_field (Some ty.FieldId) h = refl
-is_a_field o h = absurd (cc)
-
-pub is_a_method : (o : Option ExprType) → is_method o ≡ true → o ≡ Some ty.MethodId
-is_a_method (Some ty.MethodId) h = refl
-is_a_method o h = absurd (cc)
-
-pub element_same : (t u : ElementType) → same_element t u ≡ true → u ≡ t
-element_same JInt JInt h = refl
-element_same JShort JShort h = refl
-element_same JByte JByte h = refl
-element_same JChar JChar h = refl
-element_same t u h = absurd (cc)
-
-array_of : (t : ElementType) (o : Option ExprType) → is_array_of t o ≡ true → (size : ℕ) × (o ≡ Some (Array t size))
-array_of t (Some (Array u size)) h = (size, ap (λ (v : ElementType). Some (Array v size)) (element_same t u h))
-array_of t o h = absurd (cc)
 
 pub buffer_for : (access : Access) (o : Option ExprType) → is_buffer_for access o ≡ true → (t : ElementType) × (writable : Bool) × (o ≡ Some (Buffer t writable))
 buffer_for (ElementsCopy t) (Some (Buffer u true)) h = (u, true, refl)
@@ -132,10 +80,10 @@ module _ (p : Point) (stated : AreStated p) where
   any_reference_fits x o e h alive = absurd (cc)
 
   alive_name : (x : Identifier) → MayReadAll p.regions (Variable x ∷ []) → is_dead (state_of p.regions x) ≡ false
-  alive_name x h = (neither (is_dead (state_of p.regions x)) false h.alive).0
+  alive_name x h = (or_parts (is_dead (state_of p.regions x)) false h.alive).0
 
   unfree_name : (x : Identifier) → MayReadAll p.regions (Variable x ∷ []) → is_free (state_of p.regions x) ≡ false
-  unfree_name x h = (neither (is_free (state_of p.regions x)) false h.unfree).0
+  unfree_name x h = (or_parts (is_free (state_of p.regions x)) false h.unfree).0
 
   -- NULL or a reference
   null_or_reference : (e : Expr) → (is_null e || is_reference (name_type p.names e)) ≡ true → MayReadAll p.regions (e ∷ []) → ReferenceArgumentFits p (Value e)
@@ -160,29 +108,29 @@ module _ (p : Point) (stated : AreStated p) where
   mode_argument a h = absurd (cc)
 
   local_argument : (a : Argument) → argument_fits p.names LocalVariable a ≡ true → MayReadAll p.regions (argument_expressions a) → GivenFits p LocalVariable a
-  local_argument (Value (Variable x)) h read = is_live p stated x (is_a_ref (type_in p.names x) h) (alive_name x read)
+  local_argument (Value (Variable x)) h read = is_live p stated x (ref_is (type_in p.names x) h) (alive_name x read)
   local_argument a h read = absurd (cc)
 
   static_argument : (a : Argument) → argument_fits p.names StaticVariable a ≡ true → GivenFits p StaticVariable a
-  static_argument (Value (Variable x)) h = is_a_global (type_in p.names x) h
+  static_argument (Value (Variable x)) h = global_is (type_in p.names x) h
   static_argument a h = absurd (cc)
 
   weak_argument : (a : Argument) → argument_fits p.names WeakVariable a ≡ true → GivenFits p WeakVariable a
-  weak_argument (Value (Variable x)) h = is_a_weak (type_in p.names x) h
+  weak_argument (Value (Variable x)) h = weak_is (type_in p.names x) h
   weak_argument a h = absurd (cc)
 
   field_argument : (a : Argument) → argument_fits p.names FieldID a ≡ true → GivenFits p FieldID a
   field_argument (Value (Named c)) h = tt
-  field_argument (Value (Variable x)) h = is_a_field (type_in p.names x) h
+  field_argument (Value (Variable x)) h = field_is (type_in p.names x) h
   field_argument a h = absurd (cc)
 
   method_argument : (a : Argument) → argument_fits p.names MethodID a ≡ true → GivenFits p MethodID a
   method_argument (Value (Named c)) h = tt
-  method_argument (Value (Variable x)) h = is_a_method (type_in p.names x) h
+  method_argument (Value (Variable x)) h = method_is (type_in p.names x) h
   method_argument a h = absurd (cc)
 
   array_argument : (t : ElementType) (a : Argument) → argument_fits p.names (ArrayVariable t) a ≡ true → GivenFits p (ArrayVariable t) a
-  array_argument t (Value (Variable x)) h = array_of t (type_in p.names x) h
+  array_argument t (Value (Variable x)) h = array_is t (type_in p.names x) h
   array_argument t a h = absurd (cc)
 
   no_access : (access : Access) → is_buffer_for access None ≡ true → ⊥
@@ -207,7 +155,7 @@ module _ (p : Point) (stated : AreStated p) where
 
   copy_argument : (a : Argument) → argument_fits p.names IsCopy a ≡ true → GivenFits p IsCopy a
   copy_argument (Value (Named c)) h = tt
-  copy_argument (AddressOf x) h = is_a_flag (type_in p.names x) h
+  copy_argument (AddressOf x) h = flag_is (type_in p.names x) h
   copy_argument a h = absurd (cc)
 
   text_argument : (a : Argument) → argument_fits p.names TextBytes a ≡ true → GivenFits p TextBytes a
@@ -215,7 +163,7 @@ module _ (p : Point) (stated : AreStated p) where
   text_argument a h = absurd (cc)
 
   number_argument : (a : Argument) → argument_fits p.names IntNumber a ≡ true → MayReadAll p.regions (argument_expressions a) → OperandFits p IntNumber (operand (IntNumber, a))
-  number_argument (Value e) h read = expression_fits p stated e Jint (first_read p.regions e [] read).0 (is_a_jint (type_of p.names e) h) tt
+  number_argument (Value e) h read = expression_fits p stated e Jint (first_read p.regions e [] read).0 (jint_is (type_of p.names e) h) tt
   number_argument (Text t) h read = absurd (cc)
   number_argument (AddressOf x) h read = absurd (cc)
 
@@ -225,7 +173,7 @@ module _ (p : Point) (stated : AreStated p) where
   no_reference false h = absurd (cc)
 
   passed_number : (e : Expr) → is_jint (type_of p.names e) ≡ true → MayReadAll p.regions (e ∷ []) → HasType p (term_of e) Jint
-  passed_number e h read = expression_fits p stated e Jint (first_read p.regions e [] read).0 (is_a_jint (type_of p.names e) h) tt
+  passed_number e h read = expression_fits p stated e Jint (first_read p.regions e [] read).0 (jint_is (type_of p.names e) h) tt
 
   passed_name : (x : Identifier) (o : Option ExprType) → type_in p.names x ≡ o → (is_jint o || false || is_reference o) ≡ true → is_dead (state_of p.regions x) ≡ false → PassedFits p x o
   passed_name x (Some Jint) e h alive = tt
@@ -311,8 +259,8 @@ module _ (p : Point) (stated : AreStated p) where
   operands_fit [] (a ∷ arguments) count fit modes read tested = absurd (cc)
   operands_fit (parameter ∷ parameters) [] count fit modes read tested = absurd (cc)
   operands_fit (parameter ∷ parameters) (a ∷ arguments) count fit modes read tested =
-      let fits = both_so (argument_fits p.names parameter a) (arguments_fit p.names parameters arguments) fit in
-      let right = both_so (not (is_mode_parameter parameter) || is_mode a) (modes_fit parameters arguments) modes in
+      let fits = and_parts (argument_fits p.names parameter a) (arguments_fit p.names parameters arguments) fit in
+      let right = and_parts (not (is_mode_parameter parameter) || is_mode a) (modes_fit parameters arguments) modes in
       let reads = both_read p.regions (argument_expressions a) (flat_map argument_expressions arguments) read in
       let later : length arguments ≡ length parameters = cc in
       (argument_is parameter a fits.0 right.0 reads.0 tested.0, operands_fit parameters arguments later fits.1 right.1 reads.1 tested.1)

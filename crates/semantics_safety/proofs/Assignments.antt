@@ -4,6 +4,7 @@ use Rattle.std.specs.Prelude.{◌==◌}
 use Rattle.std.specs.List.{list_any}
 use Rattle.std.specs.Option.{is_some, option_map}
 use Rattle.std.specs.Str.{bytes_eq}
+use Rattle.std.proofs.lemmas.Bool.{and_parts, or_parts, not-false}
 use Rattle.std.proofs.lemmas.Bool.Decides.{Decides-eqb}
 use Rattle.std.proofs.lemmas.Slice.Eq.{bytes_eq-Decides}
 use Rattle.base.specs.Bytes.{Identifier, ByName, lookup}
@@ -14,24 +15,26 @@ use Rattle.syntax.specs.Tree.{ResultType, Expr, Argument, Call, RightSide, FromE
 use Rattle.jni.specs.Access.{Access}
 use Rattle.jni.specs.JniFunction.{JniFunction, GetBuffer, prototype}
 use Rattle.jni.specs.Prototype.{ResultKind, NewLocal, NewGlobal, NewWeak, GivesFlag, GivesInt, GivesField, GivesMethod, GivesNothing, GivesBuffer}
-use Rattle.type_rules.specs.ExprTypes.{ExprType, Word, Jint, Flag, Ref, Global, Weak, Buffer, type_in, type_of, is_buffer_for, is_ref, is_field, is_method, is_null, name_type}
+use Rattle.type_rules.specs.ExprTypes.{ExprType, Word, Jint, Flag, Ref, Global, Weak, Buffer, type_in, type_of, is_buffer_for, is_ref, is_null, name_type}
 use Rattle.type_rules.specs.ExprTypes as ty
 use Rattle.type_rules.specs.TypeRules as rules
 use Rattle.type_rules.specs.TypeRules.{result_fits, call_fits, value_sets}
 use Rattle.type_rules.specs.TypeGroups.{IsNumberType}
+use Rattle.type_rules.proofs.TypeTests.{jint_is, flag_is, ref_is, field_is, method_is, word_is, null_is, first_passed}
 use Rattle.region_rules.specs.RegionRules.{HeldBuffer, ArrayInUse, WrongLevel, is_reference_now, is_level, is_held, is_array_in_use, Obeys}
 use Rattle.region_rules.specs.RegionStates.{VariableState, BufferState, Free, Untested, Usable, ReferenceAt, BufferIn, RegionState, state_of, held_by, held_buffers, function_called, get_of, Release, release_of, deleted_name, pops, frame_count_after, made_free, killed, killed_from, with_changed, with_some_changed, after_release, after_pop, after_call, buffer_from, set_to, FunctionCall}
 use Rattle.semantics.specs.Task.{Assigned, set_task}
 use Rattle.semantics_safety.specs.Points.{Point, AreOnce}
 use Rattle.semantics_safety.specs.Wanted.{Holds, IsUnused, MaySet, AssignsNull, AssignsResult, RunsPlain, revived, at}
-use Rattle.semantics_safety.proofs.ArgumentFits.{first_read, is_a_jint, is_a_flag, is_a_ref, buffer_for}
-use Rattle.semantics_safety.proofs.CallFits.{not_so, neither, both_so, second_fails, unbroken, none_holds, statement_reads}
+use Rattle.semantics_safety.proofs.ArgumentFits.{first_read, buffer_for}
+use Rattle.semantics_safety.proofs.CallFits.{second_fails, unbroken, none_holds, statement_reads}
 use Rattle.semantics_safety.proofs.ExpressionFits.{MayRead}
-use Rattle.semantics_safety.proofs.PlainStatements.{null_is, scalar_runs}
-use Rattle.semantics_safety.proofs.Declarations.{called_taken, first_so, is_a_word}
-use Rattle.semantics_safety.proofs.KnownPoints.{IsKnown, Kin, HasState, known_more, each_found, from_map, held_of, holds_of}
+use Rattle.semantics_safety.proofs.PlainStatements.{scalar_runs}
+use Rattle.semantics_safety.proofs.Declarations.{called_taken}
+use Rattle.semantics_safety.proofs.KnownPoints.{IsKnown, Kin, HasState, known_more, each_found, held_of, holds_of}
 use Rattle.semantics_safety.proofs.StatementCalls.{IsCalled, call_there, known_called, call_runs}
 use Rattle.semantics_safety.proofs.PathsGive.{Gives, covers_front, known_one}
+use Rattle.semantics_safety.proofs.PointLaws.{mapped_some}
 
 -- ---- one variable's state changes
 
@@ -199,7 +202,7 @@ held_before p call y access a h =
     let q = at p (after_call p.regions call) in
     let held = held_of q y access a h in
     let m = call_mild p.regions call y in
-    let old = from_map m.change (state_of p.regions y) (BufferIn held.0) (sym m.is ∙ held.1) in
+    let old = mapped_some m.change (state_of p.regions y) (BufferIn held.0) (sym m.is ∙ held.1) in
     by_case held.0 held.2 old.0 old.1 (buffer_before old.0 held.0 (subst (Milder old.0) old.2 (m.mild old.0)))
   where
     by_case : (b : BufferState) → held_by b ≡ Some (access, a) → (u : VariableState) → state_of p.regions y ≡ Some u → (u ≡ BufferIn b) ⊎ (b ≡ Free) → Holds p y access a
@@ -207,7 +210,7 @@ held_before p call y access a h =
     by_case b is u e (inr free) = absurd (let none : None ≡ Some (access, a) = sym (ap held_by free) ∙ is in cc)
 
 level_rule : (n : ℕ) (o : Option VariableState) (l : ℕ) (a : Bool) → o ≡ Some (ReferenceAt l a) → (is_reference_now o && not (is_level n o)) ≡ false → l ≡ n
-level_rule n o l a e h = (Decides-eqb l n).0 (not_so (l == n) (ap (λ (o : Option VariableState). is_reference_now o && not (is_level n o)) (sym e) ∙ h))
+level_rule n o l a e h = (Decides-eqb l n).0 (not-false (l == n) (ap (λ (o : Option VariableState). is_reference_now o && not (is_level n o)) (sym e) ∙ h))
 
 module _ (p : Point) (taken : List Identifier) (known : IsKnown p taken) (line : ℕ) (x : Identifier) (r : RightSide) (obeys : Obeys p.regions (tree.Assign line x r)) where
   abbrev s : Stmt
@@ -218,9 +221,9 @@ module _ (p : Point) (taken : List Identifier) (known : IsKnown p taken) (line :
 
   unused : IsUnused q x
   unused y access h =
-      let one = neither _ (some_passes (λ get. not (some_passes (λ x. is_reference_now (state_of p.regions x)) get.1)) (get_of (function_called s))) (unbroken p.regions s ArrayInUse obeys) in
-      let two = neither _ (pops (function_called s) && list_any (λ held. is_level p.regions.frames (state_of p.regions held.1)) (held_buffers p.regions)) one.0 in
-      let none : is_array_in_use p.regions x ≡ false = (neither (is_array_in_use p.regions x) (some_passes (is_array_in_use p.regions) (deleted_name (function_called s))) two.0).0 in
+      let one = or_parts _ (some_passes (λ get. not (some_passes (λ x. is_reference_now (state_of p.regions x)) get.1)) (get_of (function_called s))) (unbroken p.regions s ArrayInUse obeys) in
+      let two = or_parts _ (pops (function_called s) && list_any (λ held. is_level p.regions.frames (state_of p.regions held.1)) (held_buffers p.regions)) one.0 in
+      let none : is_array_in_use p.regions x ≡ false = (or_parts (is_array_in_use p.regions x) (some_passes (is_array_in_use p.regions) (deleted_name (function_called s))) two.0).0 in
       none_holds p (λ held. bytes_eq held.1 x) none y access x (held_before p (function_called s) y access x h) ((bytes_eq-Decides x x).1 refl)
 
   -- a reference that is assigned may be set after the call
@@ -265,14 +268,6 @@ is_a_global o h = absurd (cc)
 is_a_weak : (o : Option ExprType) → result_fits o NewWeak ≡ true → o ≡ Some Weak
 is_a_weak (Some Weak) h = refl
 is_a_weak o h = absurd (cc)
-
-is_a_field : (o : Option ExprType) → is_field o ≡ true → o ≡ Some ty.FieldId
-is_a_field (Some ty.FieldId) h = refl
-is_a_field o h = absurd (cc)
-
-is_a_method : (o : Option ExprType) → is_method o ≡ true → o ≡ Some ty.MethodId
-is_a_method (Some ty.MethodId) h = refl
-is_a_method o h = absurd (cc)
 
 is_a_get : (f : JniFunction) (access : Access) → (prototype f).result ≡ GivesBuffer access → f ≡ GetBuffer access
 is_a_get (GetBuffer own) access h = let same : own ≡ access = cc in ap (λ (a : Access). GetBuffer a) same
@@ -328,14 +323,14 @@ module _ (p : Point) (taken : List Identifier) (returns : ResultType) (known : I
         (state, for_it, subst (λ (r : RegionState). k (at later r)) (changed_same later.regions x (set_to (FromCall c)) (λ old. BufferIn (buffer_from get)) (BufferIn Free) after_known.once state refl) now)
 
     assigned : (o : Option ExprType) → type_in p.names x ≡ o → (result : ResultKind) → (prototype call.function).result ≡ result → result_fits o result ≡ true → AssignsResult later o x result get k
-    assigned o e GivesInt is fit = subst (λ (o : Option ExprType). AssignsResult later o x GivesInt get k) (sym (is_a_jint o fit)) (stateless_same later taken after_known x (set_to (FromCall c)) k Jint (e ∙ is_a_jint o fit) (λ h. h) now)
-    assigned o e GivesFlag is fit = subst (λ (o : Option ExprType). AssignsResult later o x GivesFlag get k) (sym (is_a_flag o fit)) (stateless_same later taken after_known x (set_to (FromCall c)) k Flag (e ∙ is_a_flag o fit) (λ h. h) now)
-    assigned o e GivesField is fit = subst (λ (o : Option ExprType). AssignsResult later o x GivesField get k) (sym (is_a_field o fit)) (stateless_same later taken after_known x (set_to (FromCall c)) k ty.FieldId (e ∙ is_a_field o fit) (λ h. h) now)
-    assigned o e GivesMethod is fit = subst (λ (o : Option ExprType). AssignsResult later o x GivesMethod get k) (sym (is_a_method o fit)) (stateless_same later taken after_known x (set_to (FromCall c)) k ty.MethodId (e ∙ is_a_method o fit) (λ h. h) now)
+    assigned o e GivesInt is fit = subst (λ (o : Option ExprType). AssignsResult later o x GivesInt get k) (sym (jint_is o fit)) (stateless_same later taken after_known x (set_to (FromCall c)) k Jint (e ∙ jint_is o fit) (λ h. h) now)
+    assigned o e GivesFlag is fit = subst (λ (o : Option ExprType). AssignsResult later o x GivesFlag get k) (sym (flag_is o fit)) (stateless_same later taken after_known x (set_to (FromCall c)) k Flag (e ∙ flag_is o fit) (λ h. h) now)
+    assigned o e GivesField is fit = subst (λ (o : Option ExprType). AssignsResult later o x GivesField get k) (sym (field_is o fit)) (stateless_same later taken after_known x (set_to (FromCall c)) k ty.FieldId (e ∙ field_is o fit) (λ h. h) now)
+    assigned o e GivesMethod is fit = subst (λ (o : Option ExprType). AssignsResult later o x GivesMethod get k) (sym (method_is o fit)) (stateless_same later taken after_known x (set_to (FromCall c)) k ty.MethodId (e ∙ method_is o fit) (λ h. h) now)
     assigned o e NewGlobal is fit = subst (λ (o : Option ExprType). AssignsResult later o x NewGlobal get k) (sym (is_a_global o fit)) (stateless_same later taken after_known x (set_to (FromCall c)) k Global (e ∙ is_a_global o fit) (λ h. h) now)
     assigned o e NewWeak is fit = subst (λ (o : Option ExprType). AssignsResult later o x NewWeak get k) (sym (is_a_weak o fit)) (stateless_same later taken after_known x (set_to (FromCall c)) k Weak (e ∙ is_a_weak o fit) (λ h. h) now)
     assigned o e NewLocal is fit =
-        let ref = is_a_ref o fit in
+        let ref = ref_is o fit in
         subst (λ (o : Option ExprType). AssignsResult later o x NewLocal get k) (sym ref) (may_set p taken known line x (FromCall c) obeys (e ∙ ref), reference_set later taken after_known x (FromCall c) k (e ∙ ref) now)
     assigned o e (GivesBuffer access) is fit =
         let of = buffer_for access o fit in
@@ -347,7 +342,7 @@ assign_call line x c p taken returns path k known kept (obeys, is) h =
     let s = tree.Assign line x (FromCall c) in
     let call = call_there p taken returns s c known kept obeys refl refl in
     let result = (prototype call.function).result in
-    let both = both_so (not (rules.is_push call.function)) (result_fits (type_in p.names x) result) (ap (call_fits (type_in p.names x)) (sym call.is_named) ∙ kept.fits) in
+    let both = and_parts (not (rules.is_push call.function)) (result_fits (type_in p.names x) result) (ap (call_fits (type_in p.names x)) (sym call.is_named) ∙ kept.fits) in
     let after = end p taken returns known line x c obeys call k in
     let now = h after.regions is (known_more after taken (taken ++ []) (covers_front taken []) (end_known p taken returns known line x c obeys call k)) in
     call_runs p s line (Assigned x) c k call both.0 (assigned p taken returns known line x c obeys call k now (type_in p.names x) refl result refl both.1)
@@ -371,11 +366,11 @@ module _ (p : Point) (taken : List Identifier) (known : IsKnown p taken) (line :
   null o at' is runs = subst (λ (e : Expr). RunsPlain (set_task line (Assigned x) x e) k p) (sym (null_is e is)) (subst (λ (o : Option ExprType). AssignsNull p o x k) (sym at') runs)
 
   valued : (o : Option ExprType) → type_in p.names x ≡ o → value_sets p.names o e ≡ true → (is_ref o && is_some (name_type p.names e)) ≡ false → RunsPlain (set_task line (Assigned x) x e) k p
-  valued (Some Word) at' fit uncopied = number Word tt (λ h. h) at' (is_a_word (type_of p.names e) fit)
-  valued (Some Jint) at' fit uncopied = number Jint tt (λ h. h) at' (is_a_jint (type_of p.names e) fit)
-  valued (Some Flag) at' fit uncopied = number Flag tt (λ h. h) at' (is_a_flag (type_of p.names e) fit)
+  valued (Some Word) at' fit uncopied = number Word tt (λ h. h) at' (word_is (type_of p.names e) fit)
+  valued (Some Jint) at' fit uncopied = number Jint tt (λ h. h) at' (jint_is (type_of p.names e) fit)
+  valued (Some Flag) at' fit uncopied = number Flag tt (λ h. h) at' (flag_is (type_of p.names e) fit)
   valued (Some Ref) at' fit uncopied =
-      null (Some Ref) at' (first_so (is_null e) (is_some (name_type p.names e)) fit uncopied)
+      null (Some Ref) at' (first_passed (is_null e) (is_some (name_type p.names e)) fit uncopied)
       (may_set p taken known line x (FromExpr e) obeys at', reference_set p taken known x (FromExpr e) k at' now)
   valued (Some Global) at' fit uncopied = null (Some Global) at' fit (stateless_same p taken known x (set_to (FromExpr e)) k Global at' (λ h. h) now)
   valued (Some Weak) at' fit uncopied = null (Some Weak) at' fit (stateless_same p taken known x (set_to (FromExpr e)) k Weak at' (λ h. h) now)

@@ -1,10 +1,11 @@
 -- A call that keeps the rules of types and regions fits at its point.
 use Rattle.std.proofs.Common.{◌≡◌, ℕ, suc, ◌<◌, arith, inl, inr, Bool, true, false, not, ◌&&◌, ◌||◌, List, [], ◌∷◌, ◌++◌, map, length, nat_le, Option, Some, None, refl, sym, ap, ◌∙◌, subst, if◌then◌else◌}
-use Rattle.std.specs.Prelude.{flat_map, filter_map, zip, ◌==◌}
+use Rattle.std.specs.Prelude.{flat_map, filter_map, zip}
 use Rattle.std.specs.List.{list_any, cons_option}
 use Rattle.std.specs.Option.{option_and_then, option_to_list}
 use Rattle.std.specs.Str.{bytes_eq}
-use Rattle.std.proofs.lemmas.Bool.Decides.{Decides-eqb, nat_tests}
+use Rattle.std.proofs.lemmas.Bool.{and_parts, or_parts, both_ways, not-false, or_right, false_from_ne_true, eq-eqb}
+use Rattle.std.proofs.lemmas.Bool.Decides.{nat_tests}
 use Rattle.std.proofs.lemmas.List.{length-map}
 use Rattle.std.proofs.lemmas.Slice.Eq.{bytes_eq-Decides}
 use Rattle.base.specs.Bytes.{Identifier, ByName, lookup}
@@ -17,25 +18,19 @@ use Rattle.jni.specs.JniFunction.{JniFunction, GetBuffer, ReleaseBuffer, DeleteL
 use Rattle.jni.specs.Prototype.{ParameterKind, IntNumber, Passed, BufferVariable, Mode, owner, release_mode}
 use Rattle.type_rules.specs.ExprTypes.{arguments_fit}
 use Rattle.type_rules.specs.TypeRules.{modes_fit}
+use Rattle.type_rules.proofs.TypeTests.{same_types}
+use Rattle.type_rules.proofs.CallParameters.{parameters_count, modes_of_all}
 use Rattle.region_rules.specs.RegionRules.{RegionRule, CallWhileCritical, UntestedBuffer, WrongBuffer, PopLastFrame, DeadReference, ArrayInUse, is_put_jint, is_critical_call, is_dead, is_reference_now, is_untested, is_free, is_mismatched, is_array_in_use, is_level, breaks_region_rule, Obeys}
 use Rattle.region_rules.specs.RegionStates.{VariableState, BufferState, Untested, Usable, ReferenceAt, BufferIn, RegionState, state_of, buffer_of, held_by, held_buffers, FunctionCall, function_called, argument_name, get_of, has_commit, Release, release_of, deleted_name, pops, after_call}
 use Rattle.region_rules.proofs.KeptRules.{kept}
 use Rattle.semantics.specs.Task.{Operand, operand}
 use Rattle.semantics_safety.specs.Points.{Point, IsLive, IsUsable, NameFits, OperandsFit}
 use Rattle.semantics_safety.specs.Wanted.{Holds, CallKeeps, MeetsViews, CallFits, operand_argument, call_seen}
-use Rattle.semantics_safety.proofs.ArgumentFits.{MayReadAll, both_read, element_same, BufferTested, BuffersTested, operands_fit}
-use Rattle.semantics_safety.proofs.ExpressionFits.{AreStated}
-use Rattle.semantics_safety.proofs.Parameters.{counted, modes_of_all, none_among, own_parameters}
+use Rattle.semantics_safety.proofs.ArgumentFits.{MayReadAll, both_read, BufferTested, BuffersTested, operands_fit}
+use Rattle.semantics_safety.proofs.ExpressionFits.{AreStated, none_of_both}
+use Rattle.semantics_safety.proofs.Parameters.{none_among, own_parameters}
 
 -- ---- tests, turned round
-
-pub neither : (a b : Bool) → (a || b) ≡ false → (a ≡ false) × (b ≡ false)
-neither true b h = absurd (cc)
-neither false b h = (refl, h)
-
-pub both_so : (a b : Bool) → (a && b) ≡ true → (a ≡ true) × (b ≡ true)
-both_so true b h = (refl, h)
-both_so false b h = absurd (cc)
 
 pub second_fails : (a b : Bool) → (a && b) ≡ false → a ≡ true → b ≡ false
 second_fails true b h e = h
@@ -45,31 +40,8 @@ first_fails : (a b : Bool) → (a && b) ≡ false → b ≡ true → a ≡ false
 first_fails true b h e = sym e ∙ h
 first_fails false b h e = refl
 
-pub not_so : (b : Bool) → not b ≡ false → b ≡ true
-not_so true h = refl
-not_so false h = absurd (cc)
-
-is_false : (b : Bool) → (b ≡ true → ⊥) → b ≡ false
-is_false true h = absurd (h refl)
-is_false false h = refl
-
-apart : (b : Bool) → b ≡ true → b ≡ false → ⊥
-apart true h g = cc
-apart false h g = cc
-
-second_or : (a b : Bool) → b ≡ true → (a || b) ≡ true
-second_or true b h = refl
-second_or false b h = h
-
-pub some_any : (p : Identifier → Bool) (xs ys : List Identifier) → list_any p (xs ++ ys) ≡ false → (list_any p xs ≡ false) × (list_any p ys ≡ false)
-some_any p [] ys h = (refl, h)
-some_any p (x ∷ xs) ys h =
-    let both = neither (p x) (list_any p (xs ++ ys)) h in
-    let later = some_any p xs ys both.1 in
-    (ap (λ (b : Bool). b || list_any p xs) both.0 ∙ later.0, later.1)
-
 access_same : (a b : Access) → same_access a b ≡ true → b ≡ a
-access_same (ElementsCopy t) (ElementsCopy u) h = ap (λ (v : ElementType). ElementsCopy v) (element_same t u h)
+access_same (ElementsCopy t) (ElementsCopy u) h = ap (λ (v : ElementType). ElementsCopy v) (same_types t u h)
 access_same ArrayView ArrayView h = refl
 access_same CharsCopy CharsCopy h = refl
 access_same CharsView CharsView h = refl
@@ -79,28 +51,28 @@ access_same a b h = absurd (cc)
 
 -- a rule that isn't broken
 pub unbroken : (regions : RegionState) (s : Stmt) (rule : RegionRule) → Obeys regions s → breaks_region_rule rule regions s ≡ false
-unbroken regions s rule obeys = is_false (breaks_region_rule rule regions s) (kept regions s rule obeys)
+unbroken regions s rule obeys = false_from_ne_true (breaks_region_rule rule regions s) (kept regions s rule obeys)
 
 pub statement_reads : (regions : RegionState) (s : Stmt) → Obeys regions s → MayReadAll regions (own_expressions s)
 statement_reads regions s obeys =
     let written = option_to_list (written_name s) in
     let names = flat_map names_in (own_expressions s) in
     let addresses = addresses_in (own_call s) in
-    let dead = some_any (λ x. is_dead (state_of regions x)) (written ++ names) addresses (unbroken regions s DeadReference obeys) in
-    let wrong = neither (list_any (λ x. is_free (state_of regions x)) (used_names s)) _ (unbroken regions s WrongBuffer obeys) in
-    let free = some_any (λ x. is_free (state_of regions x)) (written ++ names) addresses wrong.0 in
-    let bare = neither (list_any (λ x. is_untested (state_of regions x)) (flat_map elements_in (own_expressions s) ++ written)) _ (unbroken regions s UntestedBuffer obeys) in
+    let dead = none_of_both (λ x. is_dead (state_of regions x)) (written ++ names) addresses (unbroken regions s DeadReference obeys) in
+    let wrong = or_parts (list_any (λ x. is_free (state_of regions x)) (used_names s)) _ (unbroken regions s WrongBuffer obeys) in
+    let free = none_of_both (λ x. is_free (state_of regions x)) (written ++ names) addresses wrong.0 in
+    let bare = or_parts (list_any (λ x. is_untested (state_of regions x)) (flat_map elements_in (own_expressions s) ++ written)) _ (unbroken regions s UntestedBuffer obeys) in
     record {
-      alive = (some_any (λ x. is_dead (state_of regions x)) written names dead.0).1;
-      unfree = (some_any (λ x. is_free (state_of regions x)) written names free.0).1;
-      tested = (some_any (λ x. is_untested (state_of regions x)) (flat_map elements_in (own_expressions s)) written bare.0).0;
+      alive = (none_of_both (λ x. is_dead (state_of regions x)) written names dead.0).1;
+      unfree = (none_of_both (λ x. is_free (state_of regions x)) written names free.0).1;
+      tested = (none_of_both (λ x. is_untested (state_of regions x)) (flat_map elements_in (own_expressions s)) written bare.0).0;
     }
 
 -- ---- held buffers
 
 later_any : (q : Access × Identifier → Bool) (o : Option (Access × Identifier)) (rest : List (Access × Identifier)) → list_any q rest ≡ true → list_any q (cons_option o rest) ≡ true
 later_any q None rest h = h
-later_any q (Some e) rest h = second_or (q e) (list_any q rest) h
+later_any q (Some e) rest h = or_right (q e) (list_any q rest) h
 
 first_any : (q : Access × Identifier → Bool) (e : Access × Identifier) (rest : List (Access × Identifier)) → q e ≡ true → list_any q (e ∷ rest) ≡ true
 first_any q e rest h = ap (λ (b : Bool). b || list_any q rest) h
@@ -129,7 +101,7 @@ holds_any p q x access a (inr h) e = held_any q x (Usable access a) (access, a) 
 
 -- where none of the held buffers passes, none that is held does
 pub none_holds : (p : Point) (q : Access × Identifier → Bool) → list_any q (held_buffers p.regions) ≡ false → (x : Identifier) (access : Access) (a : Identifier) → Holds p x access a → q (access, a) ≡ true → ⊥
-none_holds p q none x access a h e = apart (list_any q (held_buffers p.regions)) (holds_any p q x access a h e) none
+none_holds p q none x access a h e = both_ways (list_any q (held_buffers p.regions)) none (holds_any p q x access a h e)
 
 -- ---- arguments, as the rules see them
 
@@ -150,7 +122,7 @@ seen_same [] [] count none = refl
 seen_same [] (a ∷ arguments) count none = absurd (cc)
 seen_same (parameter ∷ parameters) [] count none = absurd (cc)
 seen_same (parameter ∷ parameters) (a ∷ arguments) count none =
-    let both = neither (is_number parameter) (list_any is_number parameters) none in
+    let both = or_parts (is_number parameter) (list_any is_number parameters) none in
     let later : length arguments ≡ length parameters = cc in
     ap (λ (b : Argument). b ∷ map operand_argument (map operand (zip parameters arguments))) (seen_one parameter a both.0) ∙ ap (λ (l : List Argument). a ∷ l) (seen_same parameters arguments later both.1)
 
@@ -215,44 +187,44 @@ module _ (p : Point) (s : Stmt) (obeys : Obeys p.regions s) (f : JniFunction) (a
       let rule = unbroken p.regions s CallWhileCritical obeys in
       let any = holds_any p (λ held. is_critical held.0) x access a h critical in
       let both = second_fails (list_any (λ held. is_critical held.0) (held_buffers p.regions)) (is_put_jint s || some_passes (λ call. not (is_critical_call call.0)) (function_called s)) rule any in
-      let call = (neither (is_put_jint s) (some_passes (λ call. not (is_critical_call call.0)) (function_called s)) both).1 in
-      not_so (is_critical_call f) (ap (some_passes (λ (c : FunctionCall). not (is_critical_call c.0))) (sym called) ∙ call)
+      let call = (or_parts (is_put_jint s) (some_passes (λ call. not (is_critical_call call.0)) (function_called s)) both).1 in
+      not-false (is_critical_call f) (ap (some_passes (λ (c : FunctionCall). not (is_critical_call c.0))) (sym called) ∙ call)
 
   -- ---- a Get
 
   -- no Get is of another than a local reference
   get_rule : some_passes (λ get. not (some_passes (λ x. is_reference_now (state_of p.regions x)) get.1)) (get_of (Some (f, arguments))) ≡ false
   get_rule =
-      let rule = neither _ (some_passes (λ get. not (some_passes (λ x. is_reference_now (state_of p.regions x)) get.1)) (get_of (function_called s))) (unbroken p.regions s ArrayInUse obeys) in
+      let rule = or_parts _ (some_passes (λ get. not (some_passes (λ x. is_reference_now (state_of p.regions x)) get.1)) (get_of (function_called s))) (unbroken p.regions s ArrayInUse obeys) in
       ap (λ (c : Option FunctionCall). some_passes (λ get. not (some_passes (λ x. is_reference_now (state_of p.regions x)) get.1)) (get_of c)) (sym called) ∙ rule.1
 
   -- ---- a release
 
   tested_rule : some_passes (λ release. some_passes (λ x. is_untested (state_of p.regions x)) release.buffer) (release_of (Some (f, arguments))) ≡ false
   tested_rule =
-      let rule = neither _ (some_passes (λ release. some_passes (λ x. is_untested (state_of p.regions x)) release.buffer) (release_of (function_called s))) (unbroken p.regions s UntestedBuffer obeys) in
+      let rule = or_parts _ (some_passes (λ release. some_passes (λ x. is_untested (state_of p.regions x)) release.buffer) (release_of (function_called s))) (unbroken p.regions s UntestedBuffer obeys) in
       ap (λ (c : Option FunctionCall). some_passes (λ release. some_passes (λ x. is_untested (state_of p.regions x)) release.buffer) (release_of c)) (sym called) ∙ rule.1
 
   release_rule : some_passes (λ release. (release.commits && is_critical release.access) || some_passes (λ x. is_mismatched release (state_of p.regions x)) release.buffer) (release_of (Some (f, arguments))) ≡ false
   release_rule =
-      let rule = neither _ (some_passes (λ release. (release.commits && is_critical release.access) || some_passes (λ x. is_mismatched release (state_of p.regions x)) release.buffer) (release_of (function_called s))) (unbroken p.regions s WrongBuffer obeys) in
+      let rule = or_parts _ (some_passes (λ release. (release.commits && is_critical release.access) || some_passes (λ x. is_mismatched release (state_of p.regions x)) release.buffer) (release_of (function_called s))) (unbroken p.regions s WrongBuffer obeys) in
       ap (λ (c : Option FunctionCall). some_passes (λ release. (release.commits && is_critical release.access) || some_passes (λ x. is_mismatched release (state_of p.regions x)) release.buffer) (release_of c)) (sym called) ∙ rule.1
 
   -- ---- a deleted reference
 
   deleted_rule : some_passes (is_array_in_use p.regions) (deleted_name (Some (f, arguments))) ≡ false
   deleted_rule =
-      let one = neither _ (some_passes (λ get. not (some_passes (λ x. is_reference_now (state_of p.regions x)) get.1)) (get_of (function_called s))) (unbroken p.regions s ArrayInUse obeys) in
-      let two = neither _ (pops (function_called s) && list_any (λ held. is_level p.regions.frames (state_of p.regions held.1)) (held_buffers p.regions)) one.0 in
-      let three = neither (some_passes (is_array_in_use p.regions) (assigned_name s)) (some_passes (is_array_in_use p.regions) (deleted_name (function_called s))) two.0 in
+      let one = or_parts _ (some_passes (λ get. not (some_passes (λ x. is_reference_now (state_of p.regions x)) get.1)) (get_of (function_called s))) (unbroken p.regions s ArrayInUse obeys) in
+      let two = or_parts _ (pops (function_called s) && list_any (λ held. is_level p.regions.frames (state_of p.regions held.1)) (held_buffers p.regions)) one.0 in
+      let three = or_parts (some_passes (is_array_in_use p.regions) (assigned_name s)) (some_passes (is_array_in_use p.regions) (deleted_name (function_called s))) two.0 in
       ap (λ (c : Option FunctionCall). some_passes (is_array_in_use p.regions) (deleted_name c)) (sym called) ∙ three.1
 
   -- ---- a frame that ends
 
   popped_rule : (pops (Some (f, arguments)) && list_any (λ held. is_level p.regions.frames (state_of p.regions held.1)) (held_buffers p.regions)) ≡ false
   popped_rule =
-      let one = neither _ (some_passes (λ get. not (some_passes (λ x. is_reference_now (state_of p.regions x)) get.1)) (get_of (function_called s))) (unbroken p.regions s ArrayInUse obeys) in
-      let two = neither _ (pops (function_called s) && list_any (λ held. is_level p.regions.frames (state_of p.regions held.1)) (held_buffers p.regions)) one.0 in
+      let one = or_parts _ (some_passes (λ get. not (some_passes (λ x. is_reference_now (state_of p.regions x)) get.1)) (get_of (function_called s))) (unbroken p.regions s ArrayInUse obeys) in
+      let two = or_parts _ (pops (function_called s) && list_any (λ held. is_level p.regions.frames (state_of p.regions held.1)) (held_buffers p.regions)) one.0 in
       ap (λ (c : Option FunctionCall). pops c && list_any (λ held. is_level p.regions.frames (state_of p.regions held.1)) (held_buffers p.regions)) (sym called) ∙ two.1
 
   last_rule : (pops (Some (f, arguments)) && nat_le p.regions.frames 1) ≡ false
@@ -264,9 +236,6 @@ live_now : (o : Option VariableState) → is_reference_now o ≡ true → is_dea
 live_now (Some (ReferenceAt level true)) h alive = (level, refl)
 live_now (Some (ReferenceAt level false)) h alive = absurd (cc)
 live_now o h alive = absurd (cc)
-
-level_same : (n : ℕ) → (n == n) ≡ true
-level_same n = (Decides-eqb n n).1 refl
 
 above_one : (n : ℕ) → nat_le n 1 ≡ false → 1 < n
 above_one n h = grind (arith, nat_tests, h)
@@ -280,10 +249,10 @@ module _ (p : Point) where
       → some_passes (λ get. not (some_passes (λ x. is_reference_now (state_of p.regions x)) get.1)) (get_of (Some (GetBuffer access, arguments))) ≡ false → CallKeeps p (GetBuffer access) arguments
   get_keeps access [] read rule = absurd (cc)
   get_keeps access (a ∷ rest) read rule =
-      let found = some_name (λ x. is_reference_now (state_of p.regions x)) a (not_so (some_passes (λ x. is_reference_now (state_of p.regions x)) (argument_name a)) rule) in
+      let found = some_name (λ x. is_reference_now (state_of p.regions x)) a (not-false (some_passes (λ x. is_reference_now (state_of p.regions x)) (argument_name a)) rule) in
       let parts = both_read p.regions (argument_expressions a) (flat_map argument_expressions rest) read in
       let own : MayReadAll p.regions (Variable found.0 ∷ []) = subst (λ (b : Argument). MayReadAll p.regions (argument_expressions b)) found.1 parts.0 in
-      let alive = (neither (is_dead (state_of p.regions found.0)) false own.alive).0 in
+      let alive = (or_parts (is_dead (state_of p.regions found.0)) false own.alive).0 in
       subst (λ (b : Argument). CallKeeps p (GetBuffer access) (b ∷ rest)) (sym found.1) (live_now (state_of p.regions found.0) found.2 alive)
 
   release_keeps : (access : Access) (o b : Argument) (modes : List Argument) → NameFits (IsUsable p) b
@@ -291,9 +260,9 @@ module _ (p : Point) where
       → CallKeeps p (ReleaseBuffer access) (o ∷ b ∷ modes)
   release_keeps access o (Value (Variable x)) modes (own, a, at) rule =
       let release : Release = record { access = access; object = argument_name o; buffer = Some x; commits = has_commit modes } in
-      let both = neither (has_commit modes && is_critical access) (is_mismatched release (state_of p.regions x)) rule in
+      let both = or_parts (has_commit modes && is_critical access) (is_mismatched release (state_of p.regions x)) rule in
       let matched : is_mismatched release (Some (BufferIn (Usable own a))) ≡ false = subst (λ (v : Option VariableState). is_mismatched release v ≡ false) at both.1 in
-      let right = both_so (same_access access own) (some_passes (bytes_eq a) (argument_name o)) (not_so (same_access access own && some_passes (bytes_eq a) (argument_name o)) matched) in
+      let right = and_parts (same_access access own) (some_passes (bytes_eq a) (argument_name o)) (not-false (same_access access own && some_passes (bytes_eq a) (argument_name o)) matched) in
       let same = access_same access own right.0 in
       let found = some_name (bytes_eq a) o right.1 in
       let array : a ≡ found.0 = (bytes_eq-Decides a found.0).0 found.2 in
@@ -309,7 +278,7 @@ module _ (p : Point) where
   pop_keeps : (arguments : List Argument) → (true && list_any (λ held. is_level p.regions.frames (state_of p.regions held.1)) (held_buffers p.regions)) ≡ false → (true && nat_le p.regions.frames 1) ≡ false → CallKeeps p PopLocalFrame arguments
   pop_keeps arguments level last = (
     above_one p.regions.frames last,
-    λ x a access live held at. none_holds p (λ held. is_level p.regions.frames (state_of p.regions held.1)) level x access a held (ap (is_level p.regions.frames) at ∙ level_same p.regions.frames),
+    λ x a access live held at. none_holds p (λ held. is_level p.regions.frames (state_of p.regions held.1)) level x access a held (ap (is_level p.regions.frames) at ∙ eq-eqb p.regions.frames p.regions.frames refl),
   )
 
   -- by its function
@@ -355,7 +324,7 @@ module _ (p : Point) (stated : AreStated p) where
   none_tested [] arguments h = tt
   none_tested (parameter ∷ parameters) [] h = tt
   none_tested (parameter ∷ parameters) (a ∷ arguments) h =
-      let both = neither (is_buffer parameter) (list_any is_buffer parameters) h in
+      let both = or_parts (is_buffer parameter) (list_any is_buffer parameters) h in
       (none_tested_at p parameter a both.0, none_tested parameters arguments both.1)
 
   owner_tested : (access : Access) (o : Argument) → BufferTested p (owner access) o
@@ -386,7 +355,7 @@ module _ (p : Point) (stated : AreStated p) where
 
   module _ (s : Stmt) (obeys : Obeys p.regions s) (f : JniFunction) (arguments : List Argument) (called : function_called s ≡ Some (f, arguments)) (own : own_expressions s ≡ flat_map argument_expressions arguments) (takes : takes_count f (length arguments) ≡ true) (fit : arguments_fit p.names (parameters_for f (length arguments)) arguments ≡ true) (modes : modes_fit (prototype f).parameters arguments ≡ true) where
     count : length arguments ≡ length (parameters_for f (length arguments))
-    count = counted f (length arguments) takes
+    count = parameters_count f (length arguments) takes
 
     arguments_read : MayReadAll p.regions (flat_map argument_expressions arguments)
     arguments_read = subst (MayReadAll p.regions) own (statement_reads p.regions s obeys)

@@ -1,6 +1,7 @@
 -- Declarations run from what is known before them.
-use Rattle.std.proofs.Common.{◌≡◌, ℕ, inr, Bool, true, false, not, ◌||◌, List, [], ◌∷◌, ◌++◌, Option, Some, refl, sym, ap, ◌∙◌, subst}
+use Rattle.std.proofs.Common.{◌≡◌, ℕ, inr, Bool, true, false, not, List, [], ◌∷◌, ◌++◌, Option, Some, refl, sym, ap, ◌∙◌, subst}
 use Rattle.std.specs.Option.{is_some}
+use Rattle.std.proofs.lemmas.Bool.{and_parts}
 use Rattle.base.specs.Bytes.{Identifier}
 use Rattle.base.specs.Element.{ElementType, JChar}
 use Rattle.syntax.specs.Tree as tree
@@ -8,50 +9,43 @@ use Rattle.syntax.specs.Tree.{VariableType, UInt32, JIntVariable, JSize, JBoolea
 use Rattle.jni.specs.Access.{Access}
 use Rattle.jni.specs.JniFunction.{JniFunction, GetBuffer, prototype}
 use Rattle.jni.specs.Prototype.{ResultKind, NewLocal, NewGlobal, NewWeak, GivesFlag, GivesInt, GivesField, GivesMethod, GivesBuffer}
-use Rattle.type_rules.specs.ExprTypes.{ExprType, Word, Jint, Flag, Ref, Buffer, type_of, is_word, is_null, name_type}
+use Rattle.type_rules.specs.ExprTypes.{Word, Jint, Flag, Ref, Buffer, type_of, is_null, name_type}
 use Rattle.type_rules.specs.ExprTypes as ty
 use Rattle.type_rules.specs.TypeRules as rules
 use Rattle.type_rules.specs.TypeRules.{has_name, variable_type, result_fits, call_fits}
+use Rattle.type_rules.proofs.TypeTests.{jint_is, flag_is, word_is, null_is, first_passed}
 use Rattle.region_rules.specs.RegionStates.{Free, BufferIn, ReferenceAt, held_by, get_of, buffer_from, function_called, after_call, with_new, with_set, FunctionCall}
 use Rattle.semantics.specs.Task.{Declared, ScalarKind, ReferenceKind, FieldKind, MethodKind, BufferKind, set_task, kind_of}
 use Rattle.semantics_safety.specs.Points.{Point}
 use Rattle.semantics_safety.specs.Wanted.{CallKeeps, DeclaresResult, RunsPlain, at}
-use Rattle.semantics_safety.proofs.ArgumentFits.{first_read, is_a_jint, is_a_flag, buffer_for}
-use Rattle.semantics_safety.proofs.CallFits.{both_so, statement_reads}
+use Rattle.semantics_safety.proofs.ArgumentFits.{first_read, buffer_for}
+use Rattle.semantics_safety.proofs.CallFits.{statement_reads}
 use Rattle.semantics_safety.proofs.KnownPoints.{IsKnown, is_new, known_named, known_new}
-use Rattle.semantics_safety.proofs.PlainStatements.{null_is, scalar_runs}
+use Rattle.semantics_safety.proofs.PlainStatements.{scalar_runs}
 use Rattle.semantics_safety.proofs.StatementCalls.{call_there, known_called, call_runs}
 use Rattle.semantics_safety.proofs.PathsGive.{Gives}
-
-pub is_a_word : (o : Option ExprType) → is_word o ≡ true → o ≡ Some Word
-is_a_word (Some Word) h = refl
-is_a_word o h = absurd (cc)
-
-pub first_so : (a b : Bool) → (a || b) ≡ true → b ≡ false → a ≡ true
-first_so true b h e = refl
-first_so false b h e = absurd (let c : true ≡ false = sym h ∙ e in cc)
 
 -- ---- values
 
 pub declare_value : (line : ℕ) (t : VariableType) (x : Identifier) (e : Expr) → Gives (tree.Declare line t x (FromExpr e))
 declare_value line UInt32 x e p taken returns path k known kept (obeys, is) h =
     let read = (first_read p.regions e [] (statement_reads p.regions (tree.Declare line UInt32 x (FromExpr e)) obeys)).0 in
-    scalar_runs p taken line (Declared ScalarKind x) x e Word k known tt (is_a_word (type_of p.names e) kept.fits) read (inr (is_new p taken x known kept.new, h p.regions is (known_named p taken known x kept.new Word tt)))
+    scalar_runs p taken line (Declared ScalarKind x) x e Word k known tt (word_is (type_of p.names e) kept.fits) read (inr (is_new p taken x known kept.new, h p.regions is (known_named p taken known x kept.new Word tt)))
 declare_value line JIntVariable x e p taken returns path k known kept (obeys, is) h =
     let read = (first_read p.regions e [] (statement_reads p.regions (tree.Declare line JIntVariable x (FromExpr e)) obeys)).0 in
-    scalar_runs p taken line (Declared ScalarKind x) x e Jint k known tt (is_a_jint (type_of p.names e) kept.fits) read (inr (is_new p taken x known kept.new, h p.regions is (known_named p taken known x kept.new Jint tt)))
+    scalar_runs p taken line (Declared ScalarKind x) x e Jint k known tt (jint_is (type_of p.names e) kept.fits) read (inr (is_new p taken x known kept.new, h p.regions is (known_named p taken known x kept.new Jint tt)))
 declare_value line JSize x e p taken returns path k known kept (obeys, is) h =
     let read = (first_read p.regions e [] (statement_reads p.regions (tree.Declare line JSize x (FromExpr e)) obeys)).0 in
-    scalar_runs p taken line (Declared ScalarKind x) x e Jint k known tt (is_a_jint (type_of p.names e) kept.fits) read (inr (is_new p taken x known kept.new, h p.regions is (known_named p taken known x kept.new Jint tt)))
+    scalar_runs p taken line (Declared ScalarKind x) x e Jint k known tt (jint_is (type_of p.names e) kept.fits) read (inr (is_new p taken x known kept.new, h p.regions is (known_named p taken known x kept.new Jint tt)))
 declare_value line JBoolean x e p taken returns path k known kept (obeys, is) h =
     let read = (first_read p.regions e [] (statement_reads p.regions (tree.Declare line JBoolean x (FromExpr e)) obeys)).0 in
-    scalar_runs p taken line (Declared ScalarKind x) x e Flag k known tt (is_a_flag (type_of p.names e) kept.fits) read (inr (is_new p taken x known kept.new, h p.regions is (known_named p taken known x kept.new Flag tt)))
+    scalar_runs p taken line (Declared ScalarKind x) x e Flag k known tt (flag_is (type_of p.names e) kept.fits) read (inr (is_new p taken x known kept.new, h p.regions is (known_named p taken known x kept.new Flag tt)))
 declare_value line JFieldId x e p taken returns path k known kept (obeys, is) h =
     subst (λ (e : Expr). RunsPlain (set_task line (Declared FieldKind x) x e) k p) (sym (null_is e kept.fits)) (is_new p taken x known kept.new, h p.regions is (known_named p taken known x kept.new ty.FieldId tt))
 declare_value line JMethodId x e p taken returns path k known kept (obeys, is) h =
     subst (λ (e : Expr). RunsPlain (set_task line (Declared MethodKind x) x e) k p) (sym (null_is e kept.fits)) (is_new p taken x known kept.new, h p.regions is (known_named p taken known x kept.new ty.MethodId tt))
 declare_value line (ReferenceVariable r) x e p taken returns path k known kept (obeys, is) h =
-    subst (λ (e : Expr). RunsPlain (set_task line (Declared ReferenceKind x) x e) k p) (sym (null_is e (first_so (is_null e) (is_some (name_type p.names e)) kept.fits kept.uncopied)))
+    subst (λ (e : Expr). RunsPlain (set_task line (Declared ReferenceKind x) x e) k p) (sym (null_is e (first_passed (is_null e) (is_some (name_type p.names e)) kept.fits kept.uncopied)))
     (is_new p taken x known kept.new, h (with_new p.regions x (ReferenceAt p.regions.frames true)) is (known_new p taken known x kept.new Ref (ReferenceAt p.regions.frames true) tt))
 
 nothing_held : (access : Access) (a : Identifier) → held_by Free ≡ Some (access, a) → ⊥
@@ -141,7 +135,7 @@ declare_word line x c p taken returns path k known kept (obeys, is) h =
     let s = tree.Declare line UInt32 x (FromCall c) in
     let call = call_there p taken returns s c known kept obeys refl refl in
     let result = (prototype call.function).result in
-    let both = both_so (not (rules.is_push call.function)) (result_fits (Some (variable_type UInt32)) result) (ap (call_fits (Some (variable_type UInt32))) (sym call.is_named) ∙ kept.fits) in
+    let both = and_parts (not (rules.is_push call.function)) (result_fits (Some (variable_type UInt32)) result) (ap (call_fits (Some (variable_type UInt32))) (sym call.is_named) ∙ kept.fits) in
     let q = at p (after_call p.regions (function_called s)) in
     call_runs p s line (Declared (kind_of UInt32) x) c k call both.0 (declared_result q taken (known_called p taken s known obeys) x kept.new k line c UInt32 result (get_of (function_called s)) both.1 (h q.regions is))
 
@@ -150,7 +144,7 @@ declare_jint line x c p taken returns path k known kept (obeys, is) h =
     let s = tree.Declare line JIntVariable x (FromCall c) in
     let call = call_there p taken returns s c known kept obeys refl refl in
     let result = (prototype call.function).result in
-    let both = both_so (not (rules.is_push call.function)) (result_fits (Some (variable_type JIntVariable)) result) (ap (call_fits (Some (variable_type JIntVariable))) (sym call.is_named) ∙ kept.fits) in
+    let both = and_parts (not (rules.is_push call.function)) (result_fits (Some (variable_type JIntVariable)) result) (ap (call_fits (Some (variable_type JIntVariable))) (sym call.is_named) ∙ kept.fits) in
     let q = at p (after_call p.regions (function_called s)) in
     call_runs p s line (Declared (kind_of JIntVariable) x) c k call both.0 (declared_result q taken (known_called p taken s known obeys) x kept.new k line c JIntVariable result (get_of (function_called s)) both.1 (h q.regions is))
 
@@ -159,7 +153,7 @@ declare_size line x c p taken returns path k known kept (obeys, is) h =
     let s = tree.Declare line JSize x (FromCall c) in
     let call = call_there p taken returns s c known kept obeys refl refl in
     let result = (prototype call.function).result in
-    let both = both_so (not (rules.is_push call.function)) (result_fits (Some (variable_type JSize)) result) (ap (call_fits (Some (variable_type JSize))) (sym call.is_named) ∙ kept.fits) in
+    let both = and_parts (not (rules.is_push call.function)) (result_fits (Some (variable_type JSize)) result) (ap (call_fits (Some (variable_type JSize))) (sym call.is_named) ∙ kept.fits) in
     let q = at p (after_call p.regions (function_called s)) in
     call_runs p s line (Declared (kind_of JSize) x) c k call both.0 (declared_result q taken (known_called p taken s known obeys) x kept.new k line c JSize result (get_of (function_called s)) both.1 (h q.regions is))
 
@@ -168,7 +162,7 @@ declare_flag line x c p taken returns path k known kept (obeys, is) h =
     let s = tree.Declare line JBoolean x (FromCall c) in
     let call = call_there p taken returns s c known kept obeys refl refl in
     let result = (prototype call.function).result in
-    let both = both_so (not (rules.is_push call.function)) (result_fits (Some (variable_type JBoolean)) result) (ap (call_fits (Some (variable_type JBoolean))) (sym call.is_named) ∙ kept.fits) in
+    let both = and_parts (not (rules.is_push call.function)) (result_fits (Some (variable_type JBoolean)) result) (ap (call_fits (Some (variable_type JBoolean))) (sym call.is_named) ∙ kept.fits) in
     let q = at p (after_call p.regions (function_called s)) in
     call_runs p s line (Declared (kind_of JBoolean) x) c k call both.0 (declared_result q taken (known_called p taken s known obeys) x kept.new k line c JBoolean result (get_of (function_called s)) both.1 (h q.regions is))
 
@@ -177,7 +171,7 @@ declare_field line x c p taken returns path k known kept (obeys, is) h =
     let s = tree.Declare line JFieldId x (FromCall c) in
     let call = call_there p taken returns s c known kept obeys refl refl in
     let result = (prototype call.function).result in
-    let both = both_so (not (rules.is_push call.function)) (result_fits (Some (variable_type JFieldId)) result) (ap (call_fits (Some (variable_type JFieldId))) (sym call.is_named) ∙ kept.fits) in
+    let both = and_parts (not (rules.is_push call.function)) (result_fits (Some (variable_type JFieldId)) result) (ap (call_fits (Some (variable_type JFieldId))) (sym call.is_named) ∙ kept.fits) in
     let q = at p (after_call p.regions (function_called s)) in
     call_runs p s line (Declared (kind_of JFieldId) x) c k call both.0 (declared_result q taken (known_called p taken s known obeys) x kept.new k line c JFieldId result (get_of (function_called s)) both.1 (h q.regions is))
 
@@ -186,7 +180,7 @@ declare_method line x c p taken returns path k known kept (obeys, is) h =
     let s = tree.Declare line JMethodId x (FromCall c) in
     let call = call_there p taken returns s c known kept obeys refl refl in
     let result = (prototype call.function).result in
-    let both = both_so (not (rules.is_push call.function)) (result_fits (Some (variable_type JMethodId)) result) (ap (call_fits (Some (variable_type JMethodId))) (sym call.is_named) ∙ kept.fits) in
+    let both = and_parts (not (rules.is_push call.function)) (result_fits (Some (variable_type JMethodId)) result) (ap (call_fits (Some (variable_type JMethodId))) (sym call.is_named) ∙ kept.fits) in
     let q = at p (after_call p.regions (function_called s)) in
     call_runs p s line (Declared (kind_of JMethodId) x) c k call both.0 (declared_result q taken (known_called p taken s known obeys) x kept.new k line c JMethodId result (get_of (function_called s)) both.1 (h q.regions is))
 
@@ -195,7 +189,7 @@ declare_reference r line x c p taken returns path k known kept (obeys, is) h =
     let s = tree.Declare line (ReferenceVariable r) x (FromCall c) in
     let call = call_there p taken returns s c known kept obeys refl refl in
     let result = (prototype call.function).result in
-    let both = both_so (not (rules.is_push call.function)) (result_fits (Some Ref) result) (ap (call_fits (Some Ref)) (sym call.is_named) ∙ kept.fits) in
+    let both = and_parts (not (rules.is_push call.function)) (result_fits (Some Ref) result) (ap (call_fits (Some Ref)) (sym call.is_named) ∙ kept.fits) in
     let q = at p (after_call p.regions (function_called s)) in
     call_runs p s line (Declared ReferenceKind x) c k call both.0 (declared_result q taken (known_called p taken s known obeys) x kept.new k line c (ReferenceVariable r) result (get_of (function_called s)) both.1 (h (with_set q.regions s) is))
 
@@ -213,7 +207,7 @@ buffer_call line t x c p taken returns path k known kept (obeys, is) h =
     let s = tree.DeclareBuffer line t x (FromCall c) in
     let call = call_there p taken returns s c known kept obeys refl refl in
     let result = (prototype call.function).result in
-    let both = both_so (not (rules.is_push call.function)) (result_fits (Some (Buffer t true)) result) (ap (call_fits (Some (Buffer t true))) (sym call.is_named) ∙ kept.fits) in
+    let both = and_parts (not (rules.is_push call.function)) (result_fits (Some (Buffer t true)) result) (ap (call_fits (Some (Buffer t true))) (sym call.is_named) ∙ kept.fits) in
     let q = at p (after_call p.regions (function_called s)) in
     call_runs p s line (Declared (BufferKind t) x) c k call both.0
     (buffer_result q taken (known_called p taken s known obeys) x kept.new k t true result (get_of (function_called s)) both.1 (called_taken p taken known call.function c.arguments call.keeps (function_called s) call.called) (h (with_set q.regions s) is))
@@ -223,7 +217,7 @@ chars_call line x c p taken returns path k known kept (obeys, is) h =
     let s = tree.DeclareChars line x (FromCall c) in
     let call = call_there p taken returns s c known kept obeys refl refl in
     let result = (prototype call.function).result in
-    let both = both_so (not (rules.is_push call.function)) (result_fits (Some (Buffer JChar false)) result) (ap (call_fits (Some (Buffer JChar false))) (sym call.is_named) ∙ kept.fits) in
+    let both = and_parts (not (rules.is_push call.function)) (result_fits (Some (Buffer JChar false)) result) (ap (call_fits (Some (Buffer JChar false))) (sym call.is_named) ∙ kept.fits) in
     let q = at p (after_call p.regions (function_called s)) in
     call_runs p s line (Declared (BufferKind JChar) x) c k call both.0
     (buffer_result q taken (known_called p taken s known obeys) x kept.new k JChar false result (get_of (function_called s)) both.1 (called_taken p taken known call.function c.arguments call.keeps (function_called s) call.called) (h (with_set q.regions s) is))

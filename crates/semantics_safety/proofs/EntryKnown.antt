@@ -2,13 +2,14 @@
 use Rattle.std.proofs.Common.{◌≡◌, arith, ◌||◌, Bool, true, false, List, [], ◌∷◌, ◌++◌, map, Option, Some, None, refl, sym, ap, ◌∙◌, subst, if◌then◌else◌}
 use Rattle.std.specs.List.{cons_option}
 use Rattle.std.specs.Str.{bytes_eq}
+use Rattle.std.proofs.lemmas.Bool.{or_parts}
 use Rattle.base.specs.Bytes.{Identifier, ByName, lookup}
 use Rattle.syntax.specs.Tree.{ParameterType, IntParameter, ReferenceParameter, Parameter, Function, JClass}
 use Rattle.type_rules.specs.ExprTypes.{ExprType, Jint, Ref, Global, Weak, Truth, Buffer, Scope, type_in}
 use Rattle.type_rules.specs.TypeRules.{parameter_type, has_name, has_repeated}
 use Rattle.region_rules.specs.RegionStates.{VariableState, BufferState, ReferenceAt, BufferIn}
 use Rattle.semantics_safety.proofs.Accepted.{AreStatics}
-use Rattle.semantics_safety.proofs.EntryPoints.{known, known_at, known_is, once_known, absent_known, or_false, entry_scope, entry_point, IsStaticType, HasNamesOnce}
+use Rattle.semantics_safety.proofs.EntryPoints.{known, known_at, known_is, once_known, absent_known, entry_scope, entry_point, IsStaticType, HasNamesOnce}
 use Rattle.semantics_safety.proofs.KnownPoints.{IsKnown, held_of}
 use Rattle.semantics_safety.specs.Points.{Point}
 use Rattle.syntax.specs.Parts.{parameter_names}
@@ -59,7 +60,7 @@ one_state (ReferenceParameter r) x y v inner states none e later = by_test (byte
 pub state_named : (ps : List Parameter) (scope : Scope) (x : Identifier) (v : VariableState) → has_repeated (map (λ p. p.name) ps ++ map (λ s. s.0) scope) ≡ false → lookup x (known ps) ≡ Some v → (v ≡ ReferenceAt 1 true) × (type_in (scope_of ps scope) x ≡ Some Ref)
 state_named [] scope x v h e = absurd (cc)
 state_named (p ∷ ps) scope x v h e =
-    let both = or_false (has_name (map (λ p. p.name) ps ++ map (λ s. s.0) scope) p.name) (has_repeated (map (λ p. p.name) ps ++ map (λ s. s.0) scope)) h in
+    let both = or_parts (has_name (map (λ p. p.name) ps ++ map (λ s. s.0) scope) p.name) (has_repeated (map (λ p. p.name) ps ++ map (λ s. s.0) scope)) h in
     one_state p.type x p.name v (scope_of ps scope) (known ps) (absent_known p.name ps (map (λ s. s.0) scope) both.0) e (state_named ps scope x v both.1)
 
 -- the types at an entry

@@ -1,9 +1,10 @@
 -- A thread is at the point before the first statement of a function.
-use Rattle.std.proofs.Common.{◌≡◌, ◌≢◌, ℕ, ◌≤◌, arith, Bool, true, false, ◌&&◌, ◌||◌, List, [], ◌∷◌, ◌++◌, map, filter, length, Option, Some, None, refl, sym, ap, ◌∙◌, subst, if◌then◌else◌}
+use Rattle.std.proofs.Common.{◌≡◌, ◌≢◌, ℕ, ◌≤◌, arith, Bool, true, false, ◌&&◌, List, [], ◌∷◌, ◌++◌, map, filter, length, Option, Some, None, refl, sym, ap, ◌∙◌, subst, if◌then◌else◌}
 use Rattle.std.specs.Prelude.{filter_map, zip, ◌==◌}
 use Rattle.std.specs.List.{cons_option}
 use Rattle.std.specs.Str.{bytes_eq}
-use Rattle.std.proofs.lemmas.Bool.Decides.{Decides-eqb, nat_tests}
+use Rattle.std.proofs.lemmas.Bool.{and_parts, or_parts}
+use Rattle.std.proofs.lemmas.Bool.Decides.{Decides-eqb}
 use Rattle.std.proofs.lemmas.Slice.Eq.{bytes_eq-Decides}
 use Rattle.base.specs.Bytes.{Identifier, ByName, lookup}
 use Rattle.base.specs.Element.{ElementType}
@@ -23,9 +24,9 @@ use Rattle.semantics_safety.specs.Points.{Point, AreOnce, is_copy, owns}
 use Rattle.semantics_safety.specs.Stands.{VariableFits, Shows, copies, Stands}
 use Rattle.semantics_safety.specs.StepSafe.{references_at}
 use Rattle.semantics_safety.specs.WeakNames.{WeakNames, AreOfKind, HoldWeakly, IsOfKind}
-use Rattle.semantics_safety.proofs.FrameLaws.{both_true}
 use Rattle.semantics_safety.proofs.NameLaws.{front_same, front_other}
 use Rattle.semantics_safety.proofs.SetLaws.{none_some, kinds_named}
+use Rattle.semantics_safety.proofs.FrameLaws.{turned}
 
 -- ---- the point
 
@@ -96,10 +97,6 @@ known_is (p ∷ ps) =
 
 -- ---- names once
 
-pub or_false : (a b : Bool) → (a || b) ≡ false → (a ≡ false) × (b ≡ false)
-or_false true b h = absurd (cc)
-or_false false b h = (refl, h)
-
 absent_first : {A : Type 0} (x y : Identifier) (v : A) (vs : ByName A) → bytes_eq x y ≡ false → lookup x vs ≡ None → lookup x ((y, v) ∷ vs) ≡ None
 absent_first x y v vs e h = ap (λ (b : Bool). if b then Some v else lookup x vs) e ∙ h
 
@@ -107,12 +104,12 @@ absent_listed : (x : Identifier) (ps : List Parameter) (vs : List ObjectValue) (
 absent_listed x [] vs more h = refl
 absent_listed x (p ∷ ps) [] more h = refl
 absent_listed x (p ∷ ps) (v ∷ vs) more h =
-    let both = or_false (bytes_eq x p.name) (has_name (map (λ p. p.name) ps ++ more) x) h in
+    let both = or_parts (bytes_eq x p.name) (has_name (map (λ p. p.name) ps ++ more) x) h in
     absent_first x p.name (argument_variable v) (listed ps vs) both.0 (absent_listed x ps vs more both.1)
 
 pub absent_known : (x : Identifier) (ps : List Parameter) (more : List Identifier) → has_name (map (λ p. p.name) ps ++ more) x ≡ false → lookup x (known ps) ≡ None
 absent_known x [] more h = refl
-absent_known x (p ∷ ps) more h = let both = or_false (bytes_eq x p.name) (has_name (map (λ p. p.name) ps ++ more) x) h in by_type p.type both.0 (absent_known x ps more both.1)
+absent_known x (p ∷ ps) more h = let both = or_parts (bytes_eq x p.name) (has_name (map (λ p. p.name) ps ++ more) x) h in by_type p.type both.0 (absent_known x ps more both.1)
   where
     by_type : (type : ParameterType) → bytes_eq x p.name ≡ false → lookup x (known ps) ≡ None → lookup x (cons_option (known_at p.name type) (known ps)) ≡ None
     by_type IntParameter e later = later
@@ -122,13 +119,13 @@ once_listed : (ps : List Parameter) (vs : List ObjectValue) (more : List Identif
 once_listed [] vs more h = tt
 once_listed (p ∷ ps) [] more h = tt
 once_listed (p ∷ ps) (v ∷ vs) more h =
-    let both = or_false (has_name (map (λ p. p.name) ps ++ more) p.name) (has_repeated (map (λ p. p.name) ps ++ more)) h in
+    let both = or_parts (has_name (map (λ p. p.name) ps ++ more) p.name) (has_repeated (map (λ p. p.name) ps ++ more)) h in
     (absent_listed p.name ps vs more both.0, once_listed ps vs more both.1)
 
 pub once_known : (ps : List Parameter) (more : List Identifier) → has_repeated (map (λ p. p.name) ps ++ more) ≡ false → AreOnce (known ps)
 once_known [] more h = tt
 once_known (p ∷ ps) more h =
-    let both = or_false (has_name (map (λ p. p.name) ps ++ more) p.name) (has_repeated (map (λ p. p.name) ps ++ more)) h in
+    let both = or_parts (has_name (map (λ p. p.name) ps ++ more) p.name) (has_repeated (map (λ p. p.name) ps ++ more)) h in
     by_type p.type (absent_known p.name ps more both.0) (once_known ps more both.1)
   where
     by_type : (type : ParameterType) → lookup p.name (known ps) ≡ None → AreOnce (known ps) → AreOnce (cons_option (known_at p.name type) (known ps))
@@ -187,7 +184,7 @@ module _ (ss : Statics) (scope : Scope) (sees : SeesStatics scope ss) where
   parameters_fit [] (v ∷ vs) h x s e = absurd (cc)
   parameters_fit (p ∷ ps) [] h x s e = absurd (cc)
   parameters_fit (p ∷ ps) (v ∷ vs) h x s e =
-      let both = both_true (fits_parameter p.type v) (fit_parameters ps vs) h in
+      let both = and_parts (fits_parameter p.type v) (fit_parameters ps vs) h in
       first_fits (bytes_eq x p.name) s (parameter_type p.type) (argument_variable v) (type_in (map {B = Identifier × ExprType} (λ p. (p.name, parameter_type p.type)) ps ++ scope) x) (lookup x (listed ps vs)) (lookup x ss) e
       (one_fits p.type v (lookup x ss) both.0) (parameters_fit ps vs both.1 x s)
 
@@ -212,7 +209,7 @@ parameters_shown : (ps : List Parameter) (vs : List ObjectValue) → fit_paramet
 parameters_shown [] vs h once x v e = absurd (cc)
 parameters_shown (p ∷ ps) [] h once x v e = absurd (cc)
 parameters_shown (p ∷ ps) (w ∷ vs) h once x v e =
-    let both = both_true (fits_parameter p.type w) (fit_parameters ps vs) h in
+    let both = and_parts (fits_parameter p.type w) (fit_parameters ps vs) h in
     one_shown p.type w p.name (known ps) (listed ps vs) both.0 once.0 x v e (parameters_shown ps vs both.1 once.1 x v)
 
 shown : (vs : Variables) (v : VariableState) (o : Option Variable) → IsReference v o → Shows vs v o
@@ -240,9 +237,6 @@ entry_listed (p ∷ ps) (v ∷ vs) x w e = first_entry (bytes_eq x p.name) (argu
 
 -- ---- copies
 
-turned : (m n : ℕ) → (m == n) ≡ (n == m)
-turned m n = grind (arith, nat_tests)
-
 count_more : {A B : Type 0} (b c : Bool) (e : A) (l : List A) (g : B) (m : List B) → b ≡ c → length l ≤ length m → length (if b then e ∷ l else l) ≤ length (if c then g ∷ m else m)
 count_more true true e l g m h le = omega (arith, le)
 count_more false false e l g m h le = le
@@ -267,7 +261,7 @@ known_backed : (vs : Variables) (n : ℕ) (ps : List Parameter) (arguments : Lis
 known_backed vs n [] arguments h each = omega arith
 known_backed vs n (p ∷ ps) [] h each = absurd (cc)
 known_backed vs n (p ∷ ps) (v ∷ arguments) h each =
-    let both = both_true (fits_parameter p.type v) (fit_parameters ps arguments) h in
+    let both = and_parts (fits_parameter p.type v) (fit_parameters ps arguments) h in
     one_backed vs n p.type v p.name (known ps) arguments both.0 each.0 (known_backed vs n ps arguments both.1 each.1)
 
 -- no reference is of another level
@@ -312,7 +306,7 @@ module _ (weak : WeakNames) (ss : Statics) (scope : Scope) (f : Function) (class
   entry_frames = entry_frame (class ∷ filter_map named_object arguments) ∷ []
 
   names_apart : (has_name (map (λ p. p.name) f.parameters ++ map (λ s. s.0) scope) f.class_name ≡ false) × (has_repeated (map (λ p. p.name) f.parameters ++ map (λ s. s.0) scope) ≡ false)
-  names_apart = or_false (has_name (map (λ p. p.name) f.parameters ++ map (λ s. s.0) scope) f.class_name) (has_repeated (map (λ p. p.name) f.parameters ++ map (λ s. s.0) scope)) once
+  names_apart = or_parts (has_name (map (λ p. p.name) f.parameters ++ map (λ s. s.0) scope) f.class_name) (has_repeated (map (λ p. p.name) f.parameters ++ map (λ s. s.0) scope)) once
 
   variables_once : AreOnce entry_variables
   variables_once = (absent_listed f.class_name f.parameters arguments (map (λ s. s.0) scope) names_apart.0, once_listed f.parameters arguments (map (λ s. s.0) scope) names_apart.1)

@@ -1,7 +1,8 @@
 -- An expression that has a type, and whose names are neither dead, free nor untested, is a term with that type.
-use Rattle.std.proofs.Common.{◌≡◌, ℕ, ◌⊎◌, inl, inr, Bool, true, false, ◌&&◌, ◌||◌, List, ◌++◌, Option, Some, None, refl, sym, ap, ◌∙◌, subst, if◌then◌else◌}
+use Rattle.std.proofs.Common.{◌≡◌, ℕ, ◌⊎◌, inl, inr, Bool, true, false, ◌&&◌, List, ◌++◌, Option, Some, None, refl, sym, ap, ◌∙◌, subst, if◌then◌else◌}
 use Rattle.std.specs.List.{list_any}
 use Rattle.std.specs.Option.{option_or}
+use Rattle.std.proofs.lemmas.Bool.{and_parts, or_parts}
 use Rattle.std.proofs.lemmas.List.Folds.{list_any-append}
 use Rattle.base.specs.Bytes.{Identifier}
 use Rattle.base.specs.Element.{ElementType}
@@ -10,7 +11,7 @@ use Rattle.syntax.specs.Tree.{Constant, True, False, Null, PrefixOp, LogicalNot,
 use Rattle.type_rules.specs.ExprTypes.{ExprType, Word, Jint, Flag, Truth, Ref, Global, Buffer, Array, OperatorGroup, Logic, Equality, Order, OnWords, group, binary_type, prefix_type, is_castable, is_index, has_elements, is_nullable, constant_type, null_test_type, type_in, type_of}
 use Rattle.type_rules.specs.ExprTypes as ty
 use Rattle.type_rules.specs.TypeGroups.{IsNumberType, OperatorFits}
-use Rattle.type_rules.proofs.TypeCases.{IsValueType, given, and_true, castable, indexed, operands, number_is_value, index_is_value, null_cases, none_right, or_none}
+use Rattle.type_rules.proofs.TypeCases.{IsValueType, given, castable, indexed, operands, number_is_value, index_is_value, null_cases, none_right, or_none}
 use Rattle.region_rules.specs.RegionRules.{is_dead, is_untested, is_free}
 use Rattle.region_rules.specs.RegionStates.{RegionState, BufferState, Free, Untested, Usable, ReferenceAt, BufferIn, state_of}
 use Rattle.semantics.specs.Term as term
@@ -33,12 +34,8 @@ pub record MayRead (regions : RegionState) (e : Expr) : Type 0 where
 
 -- ---- names by their states
 
-neither : (a b : Bool) → (a || b) ≡ false → (a ≡ false) × (b ≡ false)
-neither true b h = absurd (cc)
-neither false b h = (refl, h)
-
-none_of_both : (p : Identifier → Bool) (xs ys : List Identifier) → list_any p (xs ++ ys) ≡ false → (list_any p xs ≡ false) × (list_any p ys ≡ false)
-none_of_both p xs ys h = neither (list_any p xs) (list_any p ys) (sym (list_any-append p xs ys) ∙ h)
+pub none_of_both : (p : Identifier → Bool) (xs ys : List Identifier) → list_any p (xs ++ ys) ≡ false → (list_any p xs ≡ false) × (list_any p ys ≡ false)
+none_of_both p xs ys h = or_parts (list_any p xs) (list_any p ys) (sym (list_any-append p xs ys) ∙ h)
 
 -- both operands may be read
 pub operands_read : (regions : RegionState) (op : BinaryOp) (a b : Expr) → MayRead regions (Binary op a b) → MayRead regions a × MayRead regions b
@@ -50,9 +47,9 @@ operands_read regions op a b h =
 
 index_read : (regions : RegionState) (x : Identifier) (i : Expr) → MayRead regions (Element x i) → MayRead regions i
 index_read regions x i h = record {
-  alive = (neither (is_dead (state_of regions x)) (list_any (λ y. is_dead (state_of regions y)) (names_in i)) h.alive).1;
-  unfree = (neither (is_free (state_of regions x)) (list_any (λ y. is_free (state_of regions y)) (names_in i)) h.unfree).1;
-  tested = (neither (is_untested (state_of regions x)) (list_any (λ y. is_untested (state_of regions y)) (elements_in i)) h.tested).1;
+  alive = (or_parts (is_dead (state_of regions x)) (list_any (λ y. is_dead (state_of regions y)) (names_in i)) h.alive).1;
+  unfree = (or_parts (is_free (state_of regions x)) (list_any (λ y. is_free (state_of regions y)) (names_in i)) h.unfree).1;
+  tested = (or_parts (is_untested (state_of regions x)) (list_any (λ y. is_untested (state_of regions y)) (elements_in i)) h.tested).1;
 }
 
 -- a reference that isn't dead is live
@@ -127,7 +124,7 @@ module _ (p : Point) (stated : AreStated p) where
       → HasType p (term.Element x t) s
   element_fits x o s t h free untested types =
       let passed = given (has_elements (type_in p.names x) && is_index o) Jint s h in
-      let both = and_true (has_elements (type_in p.names x)) (is_index o) passed.0 in
+      let both = and_parts (has_elements (type_in p.names x)) (is_index o) passed.0 in
       let r = indexed o both.1 in
       (elements_fit x (type_in p.names x) refl both.0 free untested, (r.0, r.2, types r.0 r.1 (index_is_value r.0 r.2)), passed.1)
 
@@ -154,7 +151,7 @@ module _ (p : Point) (stated : AreStated p) where
             subst (λ (n : Option Identifier). HasType p (binary_term op n (term_of a) (term_of b)) s) (sym none) (binary_fits op (type_of scope a) (type_of scope b) s (term_of a) (term_of b) plain types types')
         | inr test ↦
             let there : MayRead p.regions (Variable test.0) = subst (MayRead p.regions) test.1 read in
-            let alive = (neither (is_dead (state_of p.regions test.0)) false there.alive).0 in
+            let alive = (or_parts (is_dead (state_of p.regions test.0)) false there.alive).0 in
             subst (λ (c : Expr). type_of scope (Binary op c b) ≡ Some s → HasType p (term_of (Binary op c b)) s) (sym test.1)
             (subst (λ (d : Expr). type_of scope (Binary op (Variable test.0) d) ≡ Some s → HasType p (term_of (Binary op (Variable test.0) d)) s) (sym test.2) (null_test_fits test.0 op s test.3 alive)) h
       ]
@@ -172,8 +169,8 @@ module _ (p : Point) (stated : AreStated p) where
   expression_fits (Named c) s read h v = constant_fits c s h
   expression_fits (Variable x) s read h v = (h, variable_fits x s h v)
   expression_fits (Element x i) s read h v =
-      element_fits x (type_of p.names i) s (term_of i) h (neither (is_free (state_of p.regions x)) (list_any (λ y. is_free (state_of p.regions y)) (names_in i)) read.unfree).0
-      (neither (is_untested (state_of p.regions x)) (list_any (λ y. is_untested (state_of p.regions y)) (elements_in i)) read.tested).0
+      element_fits x (type_of p.names i) s (term_of i) h (or_parts (is_free (state_of p.regions x)) (list_any (λ y. is_free (state_of p.regions y)) (names_in i)) read.unfree).0
+      (or_parts (is_untested (state_of p.regions x)) (list_any (λ y. is_untested (state_of p.regions y)) (elements_in i)) read.tested).0
       (λ r e w. expression_fits i r (index_read p.regions x i read) e w)
   expression_fits (Prefix op a) s read h v =
       prefix_fits op (type_of p.names a) s (term_of a) h (λ r e w. expression_fits a r (record { alive = read.alive; unfree = read.unfree; tested = read.tested }) e w)

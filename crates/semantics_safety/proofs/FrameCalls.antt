@@ -1,7 +1,7 @@
 -- The steps of the calls that end a reference, or begin or end a frame.
 use Rattle.std.proofs.Common.{◌≡◌, ℕ, ◌+◌, ◌≤◌, arith, Bool, true, false, ◌&&◌, inl, inr, List, [], ◌∷◌, length, Option, Some, None, refl, sym, ap, ◌∙◌, subst, if◌then◌else◌, ◌++◌}
 use Rattle.std.specs.Prelude.{ℤ, pos, negsuc, nat_le, drop, ◌==◌}
-use Rattle.std.proofs.lemmas.Bool.{cond_both}
+use Rattle.std.proofs.lemmas.Bool.{cond_both, eq-eqb}
 use Rattle.base.specs.Bytes.{Identifier, lookup}
 use Rattle.syntax.specs.Tree as tree
 use Rattle.syntax.specs.Tree.{Block, SourceUnit}
@@ -37,7 +37,7 @@ use Rattle.semantics_safety.specs.StepSafe.{references_at}
 use Rattle.semantics_safety.specs.Stands.{copies, Goes, Stands}
 use Rattle.semantics_safety.specs.Wanted.{Outside, Runs, RunsBlock, ResultGoes, GoesOn, IsTrueNow, IsFalseNow, call_seen, at}
 use Rattle.semantics_safety.specs.WeakNames.{WeakNames}
-use Rattle.semantics_safety.proofs.FrameLaws.{HasFrame, one_if, same_number, level_there, no_references, copies_deleted, deleted_length}
+use Rattle.semantics_safety.proofs.FrameLaws.{HasFrame, one_if, level_there, no_references, copies_deleted, deleted_length}
 use Rattle.semantics_safety.proofs.KilledLaws.{fewer, killed_owners, stands_killed, killed_owned}
 use Rattle.semantics_safety.proofs.PoppedLaws.{stands_popped, stands_pushed, popped_owned}
 use Rattle.semantics_safety.proofs.QuietLaws.{Gives, Plainly, ALocal, IsNoTest, told, given_lands}
@@ -53,7 +53,7 @@ module _ (unit : SourceUnit) (classes : Classes) (in_use : BuffersInUse) (k : �
     | inl there ↦ there
     | inr past ↦
         let owned = killed_owners t.variables x level n level n p.regions.variables e h in
-        let one : one_if (level == level && n == n) ≡ 1 = ap (λ (b : Bool). one_if (b && n == n)) (same_number level) ∙ ap one_if (same_number n) in
+        let one : one_if (level == level && n == n) ≡ 1 = ap (λ (b : Bool). one_if (b && n == n)) (eq-eqb level level refl) ∙ ap one_if (eq-eqb n n refl) in
         let enough = stands.backed level n in
         let none : copies (references_at level t.frames) n ≡ 0 = ap (λ (l : List ℕ). copies l n) (no_references level t.frames past) in
         absurd (omega (arith, owned, one, enough, none))

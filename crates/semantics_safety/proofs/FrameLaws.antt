@@ -1,6 +1,7 @@
 -- One reference more in the current frame.
 use Rattle.std.proofs.Common.{◌≡◌, ◌≢◌, ◌⊎◌, inl, inr, ℕ, zero, suc, ◌+◌, ◌-◌, ◌<◌, ◌≤◌, arith, Bool, true, false, ◌&&◌, List, [], ◌∷◌, map, filter, length, Option, Some, None, refl, sym, ap, ◌∙◌, subst, if◌then◌else◌}
 use Rattle.std.specs.Prelude.{◌==◌, nat_le, slice_get, slice_set}
+use Rattle.std.proofs.lemmas.Bool.{and_parts, lt-leb, le-leb, leb-true, leb-false, eq-eqb}
 use Rattle.std.proofs.lemmas.Bool.Decides.{Decides-eqb, nat_tests}
 use Rattle.semantics.specs.CallEffects.{with_local, without_one, deleted_in, without_local}
 use Rattle.semantics.specs.Thread.{Frame}
@@ -17,19 +18,11 @@ pub counted_here : {A : Type 0} (b : Bool) (e : A) (l : List A) → length (if b
 counted_here true e l = omega arith
 counted_here false e l = omega arith
 
-pub both_true : (a b : Bool) → (a && b) ≡ true → (a ≡ true) × (b ≡ true)
-both_true true true h = (refl, refl)
-both_true true false h = absurd (cc)
-both_true false b h = absurd (cc)
-
 pub pair_same : (a b c d : ℕ) → (a == b && c == d) ≡ true → (a ≡ b) × (c ≡ d)
-pair_same a b c d h = let both = both_true (a == b) (c == d) h in ((Decides-eqb a b).0 both.0, (Decides-eqb c d).0 both.1)
+pair_same a b c d h = let both = and_parts (a == b) (c == d) h in ((Decides-eqb a b).0 both.0, (Decides-eqb c d).0 both.1)
 
-turned : (m n : ℕ) → (m == n) ≡ (n == m)
+pub turned : (m n : ℕ) → (m == n) ≡ (n == m)
 turned m n = grind (arith, nat_tests)
-
-pub same_number : (n : ℕ) → (n == n) ≡ true
-same_number n = (Decides-eqb n n).1 refl
 
 -- ---- a frame more or less
 
@@ -60,12 +53,9 @@ top_at true zero frame below e f = refl
 top_at true (suc i) frame below e f = absurd (omega (arith, f))
 top_at false i frame below e f = absurd (cc)
 
-is_within : (a b : ℕ) → a ≤ b → nat_le a b ≡ true
-is_within a b h = grind (arith, nat_tests, h)
-
 -- the current frame is the one of the highest level
 pub top_references : (top : ℕ) (frame : Frame) (below : List Frame) → top ≡ suc (length below) → references_at top (frame ∷ below) ≡ frame.references
-top_references top frame below e = top_at (nat_le top (suc (length below))) (suc (length below) - top) frame below (is_within top (suc (length below)) (omega (arith, e))) (omega (arith, e))
+top_references top frame below e = top_at (nat_le top (suc (length below))) (suc (length below) - top) frame below (le-leb top (suc (length below)) (omega (arith, e))) (omega (arith, e))
 
 -- the current one has one more
 pub copies_grow : (top n level m : ℕ) (frame : Frame) (below : List Frame) → top ≡ suc (length below)
@@ -73,7 +63,7 @@ pub copies_grow : (top n level m : ℕ) (frame : Frame) (below : List Frame) →
 copies_grow top n level m frame below e = by_test (top == level && n == m) refl
   where
     first_counted : copies (n ∷ frame.references) n ≡ suc (copies frame.references n)
-    first_counted = ap (λ (b : Bool). length (if b then n ∷ filter (λ j. n == j) frame.references else filter (λ j. n == j) frame.references)) (same_number n)
+    first_counted = ap (λ (b : Bool). length (if b then n ∷ filter (λ j. n == j) frame.references else filter (λ j. n == j) frame.references)) (eq-eqb n n refl)
 
     at_top : copies (references_at top (frame ∷ below)) n + 1 ≤ copies (references_at top (with_local n (frame ∷ below))) n
     at_top =
@@ -137,28 +127,19 @@ frame_again (frame' ∷ below') (frame ∷ below) e h = tt
 
 -- ---- levels
 
-is_most : (a b : ℕ) → nat_le a b ≡ true → a ≤ b
-is_most a b h = grind (arith, nat_tests, h)
-
-is_more : (a b : ℕ) → nat_le a b ≡ false → b < a
-is_more a b h = grind (arith, nat_tests, h)
-
-is_past : (a b : ℕ) → b < a → nat_le a b ≡ false
-is_past a b h = grind (arith, nat_tests, h)
-
 -- a level that has a frame, or has none
 pub level_there : (level : ℕ) (frames : List Frame) → (level ≤ length frames) ⊎ (length frames < level)
 level_there level frames = by_test (nat_le level (length frames)) refl
   where
     by_test : (b : Bool) → nat_le level (length frames) ≡ b → (level ≤ length frames) ⊎ (length frames < level)
-    by_test true e = inl (is_most level (length frames) e)
-    by_test false e = inr (is_more level (length frames) e)
+    by_test true e = inl (leb-true level (length frames) e)
+    by_test false e = inr (leb-false level (length frames) e)
 
 pub references_there : (level : ℕ) (frames : List Frame) → level ≤ length frames → references_at level frames ≡ references_in (slice_get frames (length frames - level))
-references_there level frames h = ap (λ (b : Bool). if b then references_in (slice_get frames (length frames - level)) else []) (is_within level (length frames) h)
+references_there level frames h = ap (λ (b : Bool). if b then references_in (slice_get frames (length frames - level)) else []) (le-leb level (length frames) h)
 
 pub no_references : (level : ℕ) (frames : List Frame) → length frames < level → references_at level frames ≡ []
-no_references level frames h = ap (λ (b : Bool). if b then references_in (slice_get frames (length frames - level)) else []) (is_past level (length frames) h)
+no_references level frames h = ap (λ (b : Bool). if b then references_in (slice_get frames (length frames - level)) else []) (lt-leb level (length frames) h)
 
 -- ---- a frame more
 

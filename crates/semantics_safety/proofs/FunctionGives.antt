@@ -1,13 +1,14 @@
 -- An accepted function's tasks break no rule from its entry on.
-use Rattle.std.proofs.Common.{◌≡◌, ℕ, List, Some, [], ◌∷◌, ◌++◌, map, refl, ap, subst}
+use Rattle.std.proofs.Common.{◌≡◌, ℕ, List, Some, [], ◌++◌, map, subst}
+use Rattle.std.proofs.lemmas.List.{append-nil}
 use Rattle.syntax.specs.Parts.{parameter_names}
 use Rattle.syntax.specs.Tree as tree
 use Rattle.syntax.specs.Tree.{FromExpr, FromCall, Stmt, Function}
 use Rattle.syntax.specs.Tree.{SourceUnit}
 use Rattle.type_rules.specs.ExprTypes.{Scope}
 use Rattle.type_rules.specs.TypeRules.{IsWellTyped}
-use Rattle.region_rules.specs.Regions.{HasRegions, On, Returned}
-use Rattle.region_rules.specs.RegionStates.{RegionState}
+use Rattle.region_rules.specs.Regions.{HasRegions, Returned}
+use Rattle.region_rules.proofs.Returns.{returns_not}
 use Rattle.semantics.specs.Journal.{Journal}
 use Rattle.semantics.specs.Load.{Loads}
 use Rattle.semantics.specs.Run.{replay}
@@ -30,13 +31,6 @@ use Rattle.semantics_safety.proofs.KnownPoints.{IsKnown}
 use Rattle.semantics_safety.proofs.PlainStatements.{return_gives, value_gives, print_gives, element_gives, array_gives, perform_gives}
 use Rattle.semantics_safety.proofs.StatementCalls.{push_gives}
 use Rattle.semantics_safety.proofs.PathsGive.{Gives, IsPlain, block_gives}
-
-nil_after : (l : List Task) → l ++ [] ≡ l
-nil_after [] = refl
-nil_after (task ∷ l) = ap (λ (m : List Task). task ∷ m) (nil_after l)
-
-goes_nowhere : (after : RegionState) → Returned ≡ On after → ⊥
-goes_nowhere after e = cc
 
 plain_gives : (s : Stmt) → IsPlain s → Gives s
 plain_gives (tree.Declare line t x (FromExpr e)) h = declare_value line t x e
@@ -62,9 +56,9 @@ function_gives f scope globals once well_typed accepted =
     let p = entry_point f scope in
     let taken = parameter_names f ++ map (λ s. s.0) scope in
     let known : IsKnown p taken = entry_known f scope globals once in
-    subst (λ (l : List Task). GoesOn l p) (nil_after (tasks_of f.body))
+    subst (λ (l : List Task). GoesOn l p) (append-nil (tasks_of f.body))
     (block_goes f.body (Outside (λ q. ⊥)) [] (λ q o. o.2) p
-    (block_gives plain_gives push_gives f.body p p taken taken f.result Returned (λ q. ⊥) known known (λ x s e. e) well_typed accepted (λ after e now. goes_nowhere after e)))
+    (block_gives plain_gives push_gives f.body p p taken taken f.result Returned (λ q. ⊥) known known (λ x s e. e) well_typed accepted (λ after e now. returns_not after e)))
 
 -- after each journal of an accepted unit, each thread is at a point, or before an entry
 pub unit_is_sound : IsInverse → (unit : SourceUnit) (w : World) → IsWellTyped unit → HasRegions unit → Loads unit w → HasCalls w → (journal : Journal) (s : State) (k : ℕ) (t : Thread) → replay unit w journal ≡ Some s → thread_at s k ≡ Some t

@@ -10,6 +10,7 @@ use Rattle.base.specs.Element.{ElementType}
 use Rattle.jni.specs.Access.{Access}
 use Rattle.type_rules.specs.ExprTypes.{ExprType, Ref, Truth, Buffer, type_in}
 use Rattle.type_rules.specs.TypeRules.{has_name}
+use Rattle.type_rules.proofs.NameLists.{has_last}
 use Rattle.region_rules.specs.RegionRules.{is_held}
 use Rattle.region_rules.specs.RegionStates.{VariableState, BufferState, Free, Untested, Usable, ReferenceAt, BufferIn, RegionState, state_of, held_by, with_new}
 use Rattle.region_rules.specs.Regions.{has_variable, left, holds_own}
@@ -18,6 +19,7 @@ use Rattle.semantics_safety.specs.Wanted.{Holds, Closes, IsNew, at, named}
 use Rattle.semantics_safety.proofs.ExpressionFits.{AreStated}
 use Rattle.semantics_safety.proofs.NameLaws.{one_or_other, front_same, front_other}
 use Rattle.semantics_safety.proofs.SetLaws.{once_changed}
+use Rattle.semantics_safety.proofs.PointLaws.{mapped_some}
 
 -- the types with a state
 abbrev pub HasState : ExprType → Type 0
@@ -94,10 +96,6 @@ each_found change x ((y, v) ∷ vs) = by_test (bytes_eq x y) refl (each_found ch
     by_test true e later = ap (λ (z : Identifier). Some (change z v)) (sym ((bytes_eq-Decides x y).0 e))
     by_test false e later = later
 
-pub from_map : (change : VariableState → VariableState) (o : Option VariableState) (v : VariableState) → option_map change o ≡ Some v → (u : VariableState) × (o ≡ Some u) × (change u ≡ v)
-from_map change None v e = absurd (cc)
-from_map change (Some u) v e = (u, refl, cc)
-
 module _ (p : Point) (taken : List Identifier) (k : IsKnown p taken) (change : Identifier → VariableState → VariableState) (frames : ℕ) (some : 1 ≤ frames) (kin : (x : Identifier) (u : VariableState) → state_of p.regions x ≡ Some u → Kin taken u (change x u)) where
   abbrev pub changed_state : RegionState
   changed_state = record { variables = map (λ (v : Identifier × VariableState). (v.0, change v.0 v.1)) p.regions.variables; frames = frames }
@@ -106,7 +104,7 @@ module _ (p : Point) (taken : List Identifier) (k : IsKnown p taken) (change : I
   changed_at x u e = each_found change x p.regions.variables ∙ ap (option_map (change x)) e
 
   changed_from : (x : Identifier) (v : VariableState) → state_of changed_state x ≡ Some v → (u : VariableState) × (state_of p.regions x ≡ Some u) × (change x u ≡ v)
-  changed_from x v e = from_map (change x) (state_of p.regions x) v (sym (each_found change x p.regions.variables) ∙ e)
+  changed_from x v e = mapped_some (change x) (state_of p.regions x) v (sym (each_found change x p.regions.variables) ∙ e)
 
   -- what is known where each state has changed
   pub known_changed : IsKnown (at p changed_state) taken
@@ -140,14 +138,6 @@ apart_names taken x y h g e = let there : has_name taken x ≡ true = subst (λ 
 
 in_front : (taken more : List Identifier) (x : Identifier) → has_name taken x ≡ true → has_name (taken ++ more) x ≡ true
 in_front taken more x h = list_any-append (bytes_eq x) taken more ∙ ap (λ (b : Bool). b || has_name more x) h
-
-last_there : (taken : List Identifier) (x : Identifier) → has_name (taken ++ x ∷ []) x ≡ true
-last_there taken x = list_any-append (bytes_eq x) taken (x ∷ []) ∙ or_true (has_name taken x) (bytes_eq x x) ((bytes_eq-Decides x x).1 refl)
-  where
-    or_true : (a b : Bool) → b ≡ true → (a || (b || false)) ≡ true
-    or_true true b h = refl
-    or_true false true h = refl
-    or_true false false h = absurd (cc)
 
 none_at : {A : Type 0} (taken : List Identifier) (x : Identifier) (o : Option A) → ((v : A) → o ≡ Some v → has_name taken x ≡ true) → has_name taken x ≡ false → o ≡ None
 none_at taken x None h new = refl
@@ -183,7 +173,7 @@ module _ (p : Point) (taken : List Identifier) (k : IsKnown p taken) (x : Identi
 
   named_now : (s r : ExprType) (y : Identifier) → type_in ((x, s) ∷ p.names) y ≡ Some r → has_name (taken ++ x ∷ []) y ≡ true
   named_now s r y e = elim (found_old s r y e) [
-    | inl here ↦ subst (λ (z : Identifier). has_name (taken ++ x ∷ []) z ≡ true) (sym here.0) (last_there taken x)
+    | inl here ↦ subst (λ (z : Identifier). has_name (taken ++ x ∷ []) z ≡ true) (sym here.0) (has_last taken x)
     | inr old ↦ in_front taken (x ∷ []) y (k.named_taken y r old.1)
   ]
 
@@ -268,7 +258,7 @@ module _ (p : Point) (taken : List Identifier) (k : IsKnown p taken) (x : Identi
       };
       named_taken = λ y r e. named_now s r y e;
       known_taken = λ y u e. elim (state_old u y e) [
-        | inl here ↦ subst (λ (z : Identifier). has_name (taken ++ x ∷ []) z ≡ true) (sym here.0) (last_there taken x)
+        | inl here ↦ subst (λ (z : Identifier). has_name (taken ++ x ∷ []) z ≡ true) (sym here.0) (has_last taken x)
         | inr old ↦ in_front taken (x ∷ []) y (k.known_taken y u old.1)
       ];
       arrays_taken = λ y access a h.

@@ -21,7 +21,7 @@ use Rattle.semantics_safety.specs.WeakNames.{WeakNames}
 use Rattle.semantics_safety.proofs.PoppedLaws.{stands_popped}
 use Rattle.semantics_safety.proofs.QuietLaws.{IsFree, free_call}
 
-frames_stay : (f : JniFunction) (frames : List Frame) → IsFree f → frames_after f frames ≡ frames
+pub frames_stay : (f : JniFunction) (frames : List Frame) → IsFree f → frames_after f frames ≡ frames
 frames_stay (ReleaseBuffer access) frames h = absurd h
 frames_stay DeleteLocalRef frames h = absurd h
 frames_stay PopLocalFrame frames h = absurd h

@@ -1,37 +1,23 @@
 -- A method that GetStaticMethodID finds in a unit of which no two functions have one name can be called.
 use Rattle.std.proofs.Common.{◌≡◌, ℕ, zero, suc, ◌+◌, Bool, true, false, ◌&&◌, List, [], ◌∷◌, ◌++◌, filter, flat_map, Option, Some, None, refl, sym, ap, ◌∙◌, subst, if◌then◌else◌}
 use Rattle.std.specs.Prelude.{slice_get}
-use Rattle.std.specs.List.{AllByRecursion, position_from}
+use Rattle.std.specs.List.{AllByRecursion}
 use Rattle.std.specs.Option.{option_map, option_map_or, option_and_then}
 use Rattle.std.specs.Str.{bytes_eq}
+use Rattle.std.proofs.lemmas.Bool.{and_parts}
 use Rattle.std.proofs.lemmas.Iterator.Adapters.{position_from-zero}
 use Rattle.std.proofs.lemmas.Slice.Eq.{bytes_eq-Decides}
 use Rattle.base.specs.Bytes.{Identifier}
 use Rattle.class_rules.specs.Class.{Class, Classes, class_name, class_named, ancestry}
 use Rattle.class_rules.specs.Mangling.{is_class_name, is_simple_name, is_unmangled, mangle, unmangle, IsInverse}
+use Rattle.class_rules.proofs.FoundClasses.{found_from}
 use Rattle.syntax.specs.Parts.{functions_of}
 use Rattle.syntax.specs.Tree.{Function, SourceUnit}
 use Rattle.semantics.specs.Activation.{class_of_function, function_at}
 use Rattle.semantics.specs.Method.{MethodId, find_method, is_method_of, method_signature, methods_named}
 use Rattle.semantics_safety.specs.StepSafe.{IsCallable}
 
-both_hold : (a b : Bool) → (a && b) ≡ true → (a ≡ true) × (b ≡ true)
-both_hold true b h = (refl, h)
-both_hold false b h = absurd (cc)
-
 -- ---- a class of a name
-
--- a class that is there has the name
-found_from : (test : Class → Bool) (n : ℕ) (cs : Classes) (i : ℕ) (c : Class) → slice_get cs i ≡ Some c → test c ≡ true → (j : ℕ) × (position_from test n cs ≡ Some j)
-found_from test n [] i c there passes = absurd (cc)
-found_from test n (d ∷ cs) zero c there passes =
-    let same : d ≡ c = cc in
-    (n, ap (λ (b : Bool). if b then Some n else position_from test (n + 1) cs) (ap test same ∙ passes))
-found_from test n (d ∷ cs) (suc i) c there passes = by_test (test d) (found_from test (n + 1) cs i c there passes)
-  where
-    by_test : (b : Bool) → (j : ℕ) × (position_from test (n + 1) cs ≡ Some j) → (j : ℕ) × ((if b then Some n else position_from test (n + 1) cs) ≡ Some j)
-    by_test true later = (n, refl)
-    by_test false later = later
 
 class_found : (cs : Classes) (name : Identifier) (i : ℕ) (c : Class) → slice_get cs i ≡ Some c → bytes_eq c.name name ≡ true → (j : ℕ) × (class_named cs name ≡ Some j)
 class_found cs name i c there same =
@@ -56,8 +42,8 @@ module _ (inverse : IsInverse) (classes : Classes) where
   -- the native method of a class has that class
   class_of_method : (f : Function) (d : ℕ) (name : Identifier) → is_unmangled f.name (class_name classes d, name) ≡ true → (c : ℕ) × (class_of_function classes f ≡ Some c)
   class_of_method f d name h =
-      let one = both_hold (is_class_name (class_name classes d) && is_simple_name name) (bytes_eq (mangle (class_name classes d) name) f.name) h in
-      let two = both_hold (is_class_name (class_name classes d)) (is_simple_name name) one.0 in
+      let one = and_parts (is_class_name (class_name classes d) && is_simple_name name) (bytes_eq (mangle (class_name classes d) name) f.name) h in
+      let two = and_parts (is_class_name (class_name classes d)) (is_simple_name name) one.0 in
       let spelled : f.name ≡ mangle (class_name classes d) name = sym ((bytes_eq-Decides (mangle (class_name classes d) name) f.name).0 one.1) in
       let is : unmangle f.name ≡ Some (class_name classes d, name) = (inverse f.name (class_name classes d) name).1 (two.0, two.1, spelled) in
       let of_class : class_of_function classes f ≡ class_named classes (class_name classes d) =
@@ -78,7 +64,7 @@ module _ (inverse : IsInverse) (classes : Classes) where
     filtered_found d name text [] named = tt
     filtered_found d name text (f ∷ fs) named =
         one_found f (filter (is_method_of classes d name text) fs) (is_method_of classes d name text f)
-        (λ is. (named.0, class_of_method f d name (both_hold (is_unmangled f.name (class_name classes d, name)) (bytes_eq (method_signature f) text) is).0))
+        (λ is. (named.0, class_of_method f d name (and_parts (is_unmangled f.name (class_name classes d, name)) (bytes_eq (method_signature f) text) is).0))
         (filtered_found d name text fs named.1)
 
     both_found : (fs gs : List Function) → AllByRecursion IsFound fs → AllByRecursion IsFound gs → AllByRecursion IsFound (fs ++ gs)

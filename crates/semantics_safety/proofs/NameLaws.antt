@@ -6,6 +6,7 @@ use Rattle.std.proofs.lemmas.Slice.Eq.{bytes_eq-Decides}
 use Rattle.base.specs.Bytes.{Identifier, ByName, lookup}
 use Rattle.region_rules.specs.RegionStates.{VariableState, RegionState, state_of, with_changed}
 use Rattle.semantics.specs.Variable.{assign}
+use Rattle.type_rules.proofs.NameLists.{other_name}
 
 -- two names are one or not
 pub one_or_other : (x y : Identifier) → (x ≡ y) ⊎ (x ≢ y)
@@ -18,23 +19,13 @@ one_or_other x y = by_test (bytes_eq x y) refl
 pub is_same : (x : Identifier) → bytes_eq x x ≡ true
 is_same x = (bytes_eq-Decides x x).1 refl
 
-pub is_other : (x y : Identifier) → x ≢ y → bytes_eq x y ≡ false
-is_other x y h = by_test (bytes_eq x y) refl
-  where
-    by_test : (b : Bool) → bytes_eq x y ≡ b → bytes_eq x y ≡ false
-    by_test true e = absurd (h ((bytes_eq-Decides x y).0 e))
-    by_test false e = e
-
-flip : {A : Type 0} {x y : A} → x ≢ y → y ≢ x
-flip h e = h (sym e)
-
 -- ---- one more at the front
 
 pub front_same : {A : Type 0} (x : Identifier) (v : A) (vs : ByName A) → lookup x ((x, v) ∷ vs) ≡ Some v
 front_same x v vs = ap (λ (b : Bool). if b then Some v else lookup x vs) (is_same x)
 
 pub front_other : {A : Type 0} (x y : Identifier) (v : A) (vs : ByName A) → y ≢ x → lookup y ((x, v) ∷ vs) ≡ lookup y vs
-front_other x y v vs h = ap (λ (b : Bool). if b then Some v else lookup y vs) (is_other y x h)
+front_other x y v vs h = ap (λ (b : Bool). if b then Some v else lookup y vs) (other_name y x h)
 
 -- ---- one set
 
@@ -51,7 +42,7 @@ lookup_other x y v [] h = front_other x y v [] h
 lookup_other {A = A} x y v ((z, w) ∷ rest) h = by_test (bytes_eq x z) refl (lookup_other x y v rest h)
   where
     not_first : bytes_eq x z ≡ true → bytes_eq y z ≡ false
-    not_first e = subst (λ (n : Identifier). bytes_eq y n ≡ false) ((bytes_eq-Decides x z).0 e) (is_other y x h)
+    not_first e = subst (λ (n : Identifier). bytes_eq y n ≡ false) ((bytes_eq-Decides x z).0 e) (other_name y x h)
 
     by_test : (b : Bool) → bytes_eq x z ≡ b → lookup y (assign x v rest) ≡ lookup y rest → lookup y (if b then (x, v) ∷ rest else (z, w) ∷ assign x v rest) ≡ lookup y ((z, w) ∷ rest)
     by_test true e later = front_other x y v rest h ∙ sym (ap (λ (b : Bool). if b then Some w else lookup y rest) (not_first e))
@@ -78,7 +69,7 @@ changed_other x y f ((z, v) ∷ vs) h = by_test (bytes_eq y z) refl (changed_oth
     by_test : (b : Bool) → bytes_eq y z ≡ b → lookup y (map (λ (v : Identifier × VariableState). (v.0, if bytes_eq x v.0 then f v.1 else v.1)) vs) ≡ lookup y vs
         → (if b then Some (if bytes_eq x z then f v else v) else lookup y (map (λ (v : Identifier × VariableState). (v.0, if bytes_eq x v.0 then f v.1 else v.1)) vs)) ≡ (if b then Some v else lookup y vs)
     by_test true e later =
-        let other : bytes_eq x z ≡ false = is_other x z (λ same. h ((bytes_eq-Decides y z).0 e ∙ sym same)) in
+        let other : bytes_eq x z ≡ false = other_name x z (λ same. h ((bytes_eq-Decides y z).0 e ∙ sym same)) in
         ap (λ (b : Bool). Some (if b then f v else v)) other
     by_test false e later = later
 

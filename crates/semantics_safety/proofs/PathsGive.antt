@@ -1,6 +1,7 @@
 -- From what is known at a point, a statement and a block that keep the rules break none as they run.
-use Rattle.std.proofs.Common.{◌≡◌, ℕ, ◌+◌, ◌≤◌, arith, ◌⊎◌, inl, inr, Bool, true, false, not, ◌||◌, List, [], ◌∷◌, ◌++◌, Option, Some, refl, sym, ap, ◌∙◌, subst, if◌then◌else◌}
+use Rattle.std.proofs.Common.{◌≡◌, ℕ, ◌+◌, ◌≤◌, arith, ◌⊎◌, inl, inr, Bool, true, false, ◌||◌, List, [], ◌∷◌, ◌++◌, Some, refl, sym, ap, ◌∙◌, subst, if◌then◌else◌}
 use Rattle.std.specs.Str.{bytes_eq}
+use Rattle.std.proofs.lemmas.Bool.{not-true}
 use Rattle.std.proofs.lemmas.List.Elements.{filter_map-append}
 use Rattle.std.proofs.lemmas.List.Folds.{list_any-append}
 use Rattle.base.specs.Bytes.{Identifier}
@@ -8,11 +9,12 @@ use Rattle.base.specs.Options.{some_passes}
 use Rattle.syntax.specs.Parts.{statements_of, statements_within, declared_name, names_declared}
 use Rattle.syntax.specs.Tree as tree
 use Rattle.syntax.specs.Tree.{ResultType, Expr, Test, TestExpr, TestCall, Stmt, If, IfElse, While, Block, End, Next}
-use Rattle.type_rules.specs.ExprTypes.{ExprType, Truth, type_in, type_of, is_truth}
+use Rattle.type_rules.specs.ExprTypes.{ExprType, Truth, type_in, type_of}
 use Rattle.type_rules.specs.TypeRules.{has_name, with_declared, places_within, places_of}
 use Rattle.region_rules.specs.RegionRules.{Obeys}
 use Rattle.region_rules.specs.RegionStates.{VariableState, Free, Untested, Usable, ReferenceAt, BufferIn, RegionState, state_of, made_free, with_changed}
 use Rattle.region_rules.specs.Regions.{made_usable, where_true, where_false, left, holds_own, Path, On, Returned, Join, ComesBack, Keeps, KeepsBlock}
+use Rattle.region_rules.proofs.Returns.{returns_not}
 use Rattle.semantics.specs.Task.{task_of}
 use Rattle.semantics.specs.Term.{term_of}
 use Rattle.semantics_safety.specs.Points.{Point}
@@ -25,6 +27,7 @@ use Rattle.type_rules.proofs.KeptPlaces.{IsKept, own_kept, inside_kept}
 use Rattle.semantics_safety.proofs.KnownPoints.{IsKnown, Covers, known_more, Kin, kin_same, known_changed, IsWithin, end_point, known_end, closes_end}
 use Rattle.semantics_safety.proofs.NameLaws.{front_other}
 use Rattle.type_rules.proofs.PlaceLists.{AreUnbroken, front_unbroken, back_unbroken}
+use Rattle.type_rules.proofs.TypeTests.{truth_is}
 
 -- ---- taken names
 
@@ -106,31 +109,24 @@ module _ (p : Point) (taken : List Identifier) (k : IsKnown p taken) where
   known_false (TestExpr e) = k
   known_false (TestCall c) = k
 
-not_true : (b : Bool) → not b ≡ true → b ≡ false
-not_true true h = absurd (cc)
-not_true false h = refl
-
 -- ---- paths
 
 on_same : (a b : RegionState) → On a ≡ On b → a ≡ b
 on_same a b e = cc
 
-not_on : (a : RegionState) → Returned ≡ On a → ⊥
-not_on a e = cc
-
 -- where one path of an if goes on, the whole goes on as it does
 first_on : (one other path : Path) (after : RegionState) → Join one other path → one ≡ On after → path ≡ On after
-first_on Returned other path after j e = absurd (not_on after e)
+first_on Returned other path after j e = absurd (returns_not after e)
 first_on (On a) Returned path after j e = j ∙ e
 first_on (On a) (On b) path after j e = j.1 ∙ e
 
 second_on : (one other path : Path) (after : RegionState) → Join one other path → other ≡ On after → path ≡ On after
 second_on Returned other path after j e = j ∙ e
-second_on (On a) Returned path after j e = absurd (not_on after e)
+second_on (On a) Returned path after j e = absurd (returns_not after e)
 second_on (On a) (On b) path after j e = j.1 ∙ ap (λ (s : RegionState). On s) j.0 ∙ e
 
 comes_back : (before : RegionState) (turn : Path) (after : RegionState) → ComesBack before turn → turn ≡ On after → after ≡ before
-comes_back before Returned after c e = absurd (not_on after e)
+comes_back before Returned after c e = absurd (returns_not after e)
 comes_back before (On a) after c e = sym (on_same a after e) ∙ c
 
 -- a point closes to itself
@@ -154,10 +150,6 @@ declared_within outer p taken s within k new after x r e = by_form s new
     by_form (tree.DeclareChars line y right) h = front y _ h
     by_form (tree.DeclareArray line t y size) h = front y _ h
     by_form s h = there
-
-is_a_truth : (o : Option ExprType) → is_truth o ≡ true → o ≡ Some Truth
-is_a_truth (Some Truth) h = refl
-is_a_truth o h = absurd (cc)
 
 -- a statement without a block
 abbrev pub IsPlain : Stmt → Type 0
@@ -196,7 +188,7 @@ module _ (plain : (s : Stmt) → IsPlain s → Gives s) (pushes : Pushes) where
         let b = at p (where_false p.regions (TestExpr e)) in
         let on_a : IsKnown a taken = known_true p taken known (TestExpr e) in
         let on_b : IsKnown b taken = known_false p taken known (TestExpr e) in (
-          expression_fits p known.stated e Truth reads.0 (is_a_truth (type_of p.names e) kept.fits) tt,
+          expression_fits p known.stated e Truth reads.0 (truth_is (type_of p.names e) kept.fits) tt,
           (
             a,
             b,
@@ -225,7 +217,7 @@ module _ (plain : (s : Stmt) → IsPlain s → Gives s) (pushes : Pushes) where
         let all = taken ++ names_declared (statements_of then' ++ statements_of else') in
         let on_a : IsKnown a taken = known_true p taken known (TestExpr e) in
         let on_b : IsKnown b middle = known_more b taken middle (covers_front taken (names_declared (statements_of then'))) (known_false p taken known (TestExpr e)) in (
-          expression_fits p known.stated e Truth reads.0 (is_a_truth (type_of p.names e) kept.fits) tt,
+          expression_fits p known.stated e Truth reads.0 (truth_is (type_of p.names e) kept.fits) tt,
           (
             a,
             b,
@@ -251,7 +243,7 @@ module _ (plain : (s : Stmt) → IsPlain s → Gives s) (pushes : Pushes) where
         let s = While line e body in
         let kept = own_kept returns p.names taken s well_typed in
         let reads = first_read p.regions e [] (statement_reads p.regions s obeys) in (
-          expression_fits p known.stated e Truth reads.0 (is_a_truth (type_of p.names e) kept.fits) tt,
+          expression_fits p known.stated e Truth reads.0 (truth_is (type_of p.names e) kept.fits) tt,
           block_more body (Outside (λ r. r ≡ p)) (λ q. Closes q p) (λ q o. subst (Closes q) o.2 o.1) p
               (block_gives body p p taken taken returns turn (λ r. r ≡ p) known known (λ x r at. at) (inside_kept returns p.names taken s well_typed) keeps (λ after on now. ap (λ (r : RegionState). at p r) (comes_back p.regions turn after back on))),
           h p.regions is (known_more p taken (taken ++ names_declared (statements_of body)) (covers_front taken (names_declared (statements_of body))) known),
@@ -262,7 +254,7 @@ module _ (plain : (s : Stmt) → IsPlain s → Gives s) (pushes : Pushes) where
         → KeepsBlock outer.regions p.regions b path → ((after : RegionState) → path ≡ On after → IsKnown (at outer after) (taken ++ names_declared (statements_of b)) → k (at outer after)) → RunsBlock b (Outside k) p
     block_gives (End line) outer p before taken returns path k around known within well_typed (none, is) h = (
       end_point outer p,
-      closes_end outer p before taken around known within (not_true (holds_own outer.regions p.regions) none),
+      closes_end outer p before taken around known within (not-true (holds_own outer.regions p.regions) none),
       h (left outer.regions p.regions) is (known_more (end_point outer p) taken (taken ++ []) (covers_front taken []) (known_end outer p before taken around known within)),
     )
     block_gives (Next s rest) outer p before taken returns path k around known within well_typed (inl (middle, keeps, further)) h =
@@ -278,4 +270,4 @@ module _ (plain : (s : Stmt) → IsPlain s → Gives s) (pushes : Pushes) where
     block_gives (Next s rest) outer p before taken returns path k around known within well_typed (inr (keeps, over, is)) h =
         let later = taken ++ names_declared (statements_within s) in
         let first = front_unbroken (places_within returns p.names taken s) (places_of returns (with_declared p.names s) later rest) well_typed in
-        stmt_gives s p taken returns Returned (RunsBlock rest (Outside k)) known first keeps (λ after on now. absurd (not_on after on))
+        stmt_gives s p taken returns Returned (RunsBlock rest (Outside k)) known first keeps (λ after on now. absurd (returns_not after on))

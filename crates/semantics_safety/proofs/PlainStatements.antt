@@ -3,6 +3,7 @@ use Rattle.std.proofs.Common.{◌≡◌, ℕ, ◌≤◌, arith, Bool, true, fals
 use Rattle.std.specs.Prelude.{flat_map, nat_lt}
 use Rattle.std.specs.List.{list_any}
 use Rattle.std.specs.Str.{bytes_eq}
+use Rattle.std.proofs.lemmas.Bool.{and_parts, or_parts}
 use Rattle.std.proofs.lemmas.Bool.Decides.{nat_tests}
 use Rattle.base.specs.Bytes.{Identifier, ByName, lookup}
 use Rattle.base.specs.Element.{ElementType}
@@ -18,6 +19,7 @@ use Rattle.type_rules.specs.TypeRules as rules
 use Rattle.type_rules.specs.TypeRules.{may_be_dropped, is_droppable, return_fits}
 use Rattle.type_rules.specs.TypeGroups.{IsNumberType}
 use Rattle.type_rules.proofs.TypeCases.{indexed, index_is_value, number_is_value}
+use Rattle.type_rules.proofs.TypeTests.{jint_is, ref_is}
 use Rattle.region_rules.specs.RegionRules.{CallWhileCritical, ReturnWithBuffer, ReturnInFrame, UntestedBuffer, WrongBuffer, is_return, is_put_jint, is_critical_call, is_dead, is_held, is_free, is_untested, holds_buffer, Obeys}
 use Rattle.region_rules.specs.RegionStates.{VariableState, BufferState, Free, Untested, Usable, BufferIn, state_of, held_by, held_buffers, function_called, after_call}
 use Rattle.semantics.specs.Task.{Target, Dropped, set_task}
@@ -25,9 +27,9 @@ use Rattle.semantics.specs.Term as term
 use Rattle.semantics.specs.Term.{Term, Read, term_of}
 use Rattle.semantics_safety.specs.Points.{Point, HasType}
 use Rattle.semantics_safety.specs.Wanted.{HasNoView, MayReturnFrom, ReturnedFits, ReturnFits, SetsNumber, MayDrop, RunsPlain, at}
-use Rattle.semantics_safety.proofs.ArgumentFits.{first_read, is_a_jint, is_a_ref}
-use Rattle.semantics_safety.proofs.CallFits.{neither, both_so, second_fails, some_any, unbroken, statement_reads, holds_any}
-use Rattle.semantics_safety.proofs.ExpressionFits.{MayRead, is_live, elements_fit, expression_fits}
+use Rattle.semantics_safety.proofs.ArgumentFits.{first_read}
+use Rattle.semantics_safety.proofs.CallFits.{second_fails, unbroken, statement_reads, holds_any}
+use Rattle.semantics_safety.proofs.ExpressionFits.{MayRead, is_live, elements_fit, expression_fits, none_of_both}
 use Rattle.semantics_safety.proofs.KnownPoints.{IsKnown, known_more, held_of, is_new, known_named}
 use Rattle.semantics_safety.proofs.StatementCalls.{call_there, known_called, call_runs}
 use Rattle.semantics_safety.proofs.PathsGive.{Gives, covers_front}
@@ -75,13 +77,13 @@ jint_returns p t h = h
 reference_returns : (p : Point) (taken : List Identifier) (e : Expr) → IsKnown p taken → (is_null e || is_ref (name_type p.names e)) ≡ true → MayRead p.regions e → ReturnFits p (term_of e)
 reference_returns p taken (tree.Named Null) known h read = tt
 reference_returns p taken (tree.Variable x) known h read =
-    let is = is_a_ref (type_in p.names x) h in
-    subst (ReturnedFits p x) (sym is) (is_live p known.stated x is (neither (is_dead (state_of p.regions x)) false read.alive).0)
+    let is = ref_is (type_in p.names x) h in
+    subst (ReturnedFits p x) (sym is) (is_live p known.stated x is (or_parts (is_dead (state_of p.regions x)) false read.alive).0)
 reference_returns p taken e known h read = absurd (cc)
 
 value_returns : (p : Point) (taken : List Identifier) (returns : ResultType) (e : Expr) → IsKnown p taken → return_fits p.names returns e ≡ true → MayRead p.regions e → ReturnFits p (term_of e)
 value_returns p taken Void e known h read = absurd (cc)
-value_returns p taken IntResult e known h read = jint_returns p (term_of e) (expression_fits p known.stated e Jint read (is_a_jint (type_of p.names e) h) tt)
+value_returns p taken IntResult e known h read = jint_returns p (term_of e) (expression_fits p known.stated e Jint read (jint_is (type_of p.names e) h) tt)
 value_returns p taken (ReferenceResult r) e known h read = reference_returns p taken e known h read
 
 pub return_gives : (line : ℕ) → Gives (tree.Return line)
@@ -98,13 +100,13 @@ no_view : (p : Point) (s : Stmt) → Obeys p.regions s → is_put_jint s ≡ tru
 no_view p s obeys prints x a access h critical =
     let any = holds_any p (λ held. is_critical held.0) x access a h critical in
     let both = second_fails (list_any (λ held. is_critical held.0) (held_buffers p.regions)) (is_put_jint s || some_passes (λ call. not (is_critical_call call.0)) (function_called s)) (unbroken p.regions s CallWhileCritical obeys) any in
-    let none = (neither (is_put_jint s) (some_passes (λ call. not (is_critical_call call.0)) (function_called s)) both).0 in
+    let none = (or_parts (is_put_jint s) (some_passes (λ call. not (is_critical_call call.0)) (function_called s)) both).0 in
     let c : true ≡ false = sym prints ∙ none in cc
 
 pub print_gives : (line : ℕ) (e : Expr) → Gives (tree.PutJint line e)
 print_gives line e p taken returns path k known kept (obeys, is) h =
     let s = tree.PutJint line e in (
-      expression_fits p known.stated e Jint (first_read p.regions e [] (statement_reads p.regions s obeys)).0 (is_a_jint (type_of p.names e) kept.fits) tt,
+      expression_fits p known.stated e Jint (first_read p.regions e [] (statement_reads p.regions s obeys)).0 (jint_is (type_of p.names e) kept.fits) tt,
       no_view p s obeys refl,
       h p.regions is (known_more p taken (taken ++ []) (covers_front taken []) known),
     )
@@ -112,17 +114,17 @@ print_gives line e p taken returns path k known kept (obeys, is) h =
 pub element_gives : (line : ℕ) (x : Identifier) (i e : Expr) → Gives (tree.AssignElement line x i e)
 element_gives line x i e p taken returns path k known kept (obeys, is) h =
     let s = tree.AssignElement line x i e in
-    let all = both_so (has_elements (type_in p.names x) && is_index (type_of p.names i)) (is_jint (type_of p.names e)) kept.fits in
-    let front = both_so (has_elements (type_in p.names x)) (is_index (type_of p.names i)) all.0 in
+    let all = and_parts (has_elements (type_in p.names x) && is_index (type_of p.names i)) (is_jint (type_of p.names e)) kept.fits in
+    let front = and_parts (has_elements (type_in p.names x)) (is_index (type_of p.names i)) all.0 in
     let reads = first_read p.regions i (e ∷ []) (statement_reads p.regions s obeys) in
     let index = indexed (type_of p.names i) front.1 in
-    let wrong = neither (list_any (λ y. is_free (state_of p.regions y)) (used_names s)) _ (unbroken p.regions s WrongBuffer obeys) in
-    let free = neither (is_free (state_of p.regions x)) (list_any (λ y. is_free (state_of p.regions y)) (flat_map names_in (i ∷ e ∷ []) ++ [])) wrong.0 in
-    let bare = neither (list_any (λ y. is_untested (state_of p.regions y)) (flat_map elements_in (i ∷ e ∷ []) ++ x ∷ [])) _ (unbroken p.regions s UntestedBuffer obeys) in
-    let untested = neither (is_untested (state_of p.regions x)) false (some_any (λ y. is_untested (state_of p.regions y)) (flat_map elements_in (i ∷ e ∷ [])) (x ∷ []) bare.0).1 in (
+    let wrong = or_parts (list_any (λ y. is_free (state_of p.regions y)) (used_names s)) _ (unbroken p.regions s WrongBuffer obeys) in
+    let free = or_parts (is_free (state_of p.regions x)) (list_any (λ y. is_free (state_of p.regions y)) (flat_map names_in (i ∷ e ∷ []) ++ [])) wrong.0 in
+    let bare = or_parts (list_any (λ y. is_untested (state_of p.regions y)) (flat_map elements_in (i ∷ e ∷ []) ++ x ∷ [])) _ (unbroken p.regions s UntestedBuffer obeys) in
+    let untested = or_parts (is_untested (state_of p.regions x)) false (none_of_both (λ y. is_untested (state_of p.regions y)) (flat_map elements_in (i ∷ e ∷ [])) (x ∷ []) bare.0).1 in (
       elements_fit p known.stated x (type_in p.names x) refl front.0 free.0 untested.0,
       (index.0, index.2, expression_fits p known.stated i index.0 reads.0 index.1 (index_is_value index.0 index.2)),
-      expression_fits p known.stated e Jint (first_read p.regions e [] reads.1).0 (is_a_jint (type_of p.names e) all.1) tt,
+      expression_fits p known.stated e Jint (first_read p.regions e [] reads.1).0 (jint_is (type_of p.names e) all.1) tt,
       h p.regions is (known_more p taken (taken ++ []) (covers_front taken []) known),
     )
 
@@ -141,16 +143,12 @@ pub perform_gives : (line : ℕ) (c : Call) → Gives (tree.Perform line c)
 perform_gives line c p taken returns path k known kept (obeys, is) h =
     let s = tree.Perform line c in
     let call = call_there p taken returns s c known kept obeys refl refl in
-    let both = both_so (not (rules.is_push call.function)) (is_droppable (prototype call.function).result) (ap may_be_dropped (sym call.is_named) ∙ kept.fits) in
+    let both = and_parts (not (rules.is_push call.function)) (is_droppable (prototype call.function).result) (ap may_be_dropped (sym call.is_named) ∙ kept.fits) in
     let q = at p (after_call p.regions (function_called s)) in
     call_runs p s line Dropped c k call both.0
     (may_drop (prototype call.function).result both.1, h q.regions is (known_more q taken (taken ++ []) (covers_front taken []) (known_called p taken s known obeys)))
 
 -- ---- declarations
-
-pub null_is : (e : Expr) → is_null e ≡ true → e ≡ tree.Named Null
-null_is (tree.Named Null) h = refl
-null_is e h = absurd (cc)
 
 -- a number is worked out for a variable
 pub scalar_runs : (p : Point) (taken : List Identifier) (line : ℕ) (target : Target) (x : Identifier) (e : Expr) (s : ExprType) (k : Point → Type 0) → IsKnown p taken → IsNumberType s → type_of p.names e ≡ Some s → MayRead p.regions e → SetsNumber x s k p → RunsPlain (set_task line target x e) k p

@@ -3,6 +3,8 @@ use Rattle.std.proofs.Common.{◌≡◌, ℕ, ◌+◌, ◌-◌, ◌≤◌, arith
 use Rattle.std.specs.Prelude.{◌==◌, nat_lt, drop}
 use Rattle.std.specs.Option.{option_map}
 use Rattle.std.specs.Str.{bytes_eq}
+use Rattle.std.proofs.Math.Bool.{and-false}
+use Rattle.std.proofs.lemmas.Bool.{and_parts, le-ltb}
 use Rattle.std.proofs.lemmas.Bool.Decides.{Decides-eqb, nat_tests}
 use Rattle.base.specs.Bytes.{Identifier, ByName, lookup}
 use Rattle.jni.specs.Access.{Access}
@@ -16,7 +18,7 @@ use Rattle.semantics_safety.specs.StepSafe.{references_at}
 use Rattle.semantics_safety.specs.Stands.{IsOwned, Shows, copies, Stands}
 use Rattle.semantics_safety.specs.Wanted.{Holds, at}
 use Rattle.semantics_safety.specs.WeakNames.{WeakNames}
-use Rattle.semantics_safety.proofs.FrameLaws.{one_if, counted_here, level_there, pushed_references, copies_pushed, both_true}
+use Rattle.semantics_safety.proofs.FrameLaws.{one_if, counted_here, level_there, pushed_references, copies_pushed}
 use Rattle.semantics_safety.proofs.NameLaws.{front_same, front_other}
 use Rattle.semantics_safety.proofs.PointLaws.{mapped_some}
 use Rattle.semantics_safety.proofs.SetLaws.{none_some, once_changed}
@@ -41,17 +43,10 @@ popped_shows vs top (BufferIn b) o h = h
 
 -- ---- owners
 
-and_none : (b : Bool) → (b && false) ≡ false
-and_none true = refl
-and_none false = refl
-
 fewer_and : (a b c : Bool) → one_if ((a && b) && c) ≤ one_if (a && c)
 fewer_and true true c = omega arith
 fewer_and true false c = omega arith
 fewer_and false b c = omega arith
-
-not_below : (a b : ℕ) → b ≤ a → nat_lt a b ≡ false
-not_below a b h = grind (arith, nat_tests, h)
 
 module _ (vs : Variables) (top level m : ℕ) where
   popped_one : (y : Identifier) (v : VariableState) → one_if (owns vs level m (y, killed_from top v)) ≤ one_if (owns vs level m (y, v))
@@ -69,15 +64,15 @@ module _ (vs : Variables) (top level m : ℕ) where
 
   -- a reference of an ended level owns nothing
   none_here : top ≤ level → (l : ℕ) (live : Bool) (r : Reference) → ((live && nat_lt l top) && is_copy level m (Some (LocalRef l r))) ≡ false
-  none_here past l live None = and_none (live && nat_lt l top)
+  none_here past l live None = and-false (live && nat_lt l top)
   none_here past l live (Some n) = by_test (l == level) refl
     where
       by_test : (b : Bool) → (l == level) ≡ b → ((live && nat_lt l top) && (b && n == m)) ≡ false
       by_test true e =
           let same : l ≡ level = (Decides-eqb l level).0 e in
-          let over : nat_lt l top ≡ false = not_below l top (omega (arith, same, past)) in
-          ap (λ (b : Bool). (live && b) && (n == m)) over ∙ ap (λ (b : Bool). b && (n == m)) (and_none live)
-      by_test false e = and_none (live && nat_lt l top)
+          let over : nat_lt l top ≡ false = le-ltb l top (omega (arith, same, past)) in
+          ap (λ (b : Bool). (live && b) && (n == m)) over ∙ ap (λ (b : Bool). b && (n == m)) (and-false live)
+      by_test false e = and-false (live && nat_lt l top)
 
   popped_none : top ≤ level → (y : Identifier) (v : VariableState) → Shows vs v (lookup y vs) → one_if (owns vs level m (y, killed_from top v)) ≡ 0
   popped_none past y (ReferenceAt l live) (r, e) =
@@ -126,7 +121,7 @@ module _ (ss : Statics) (vs : Variables) (frames : List Frame) (p : Point) {weak
   live_value (ReferenceAt l live) level e =
       let same : l ≡ level = cc in
       let both : (live && nat_lt l p.regions.frames) ≡ true = cc in
-      let each = both_true live (nat_lt l p.regions.frames) both in
+      let each = and_parts live (nat_lt l p.regions.frames) both in
       (ap (λ (b : Bool). ReferenceAt l b) each.0 ∙ ap (λ (m : ℕ). ReferenceAt m true) same, sym (ap (λ (m : ℕ). nat_lt m p.regions.frames) same) ∙ each.1)
   live_value (BufferIn b) level e = absurd (cc)
 

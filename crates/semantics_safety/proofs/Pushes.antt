@@ -42,9 +42,9 @@ use Rattle.semantics_safety.specs.StepSafe.{IsCallable, IsMethodResult}
 use Rattle.semantics_safety.specs.Wanted.{CallFits, GoesOn, HasNoView, MeetsViews, ResultGoes, Runs, at, call_seen}
 use Rattle.semantics_safety.specs.WeakNames.{WeakNames}
 use Rattle.semantics_safety.proofs.KeptMethods.{held_callable}
-use Rattle.semantics_safety.proofs.Parameters.{count_is_few}
 use Rattle.semantics_safety.proofs.QuietSteps.{has_room}
 use Rattle.semantics_safety.proofs.RefusedLaws.{checked_none, method_made}
+use Rattle.type_rules.proofs.CallParameters.{count_is_few}
 
 -- ---- the arguments
 

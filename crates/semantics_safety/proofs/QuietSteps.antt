@@ -30,7 +30,8 @@ use Rattle.semantics_safety.specs.Wanted.{Runs, ResultGoes, GoesOn, call_seen, o
 use Rattle.semantics_safety.specs.WeakNames.{WeakNames}
 use Rattle.semantics_safety.proofs.QuietCalls.{effect_quiet, fails_simply}
 use Rattle.semantics_safety.proofs.FrameLaws.{HasFrame}
-use Rattle.semantics_safety.proofs.QuietLaws.{IsFree, IsNoTest, IsPlain, free_call, plain_free, quiet_lands, refused_lands, free_owners}
+use Rattle.semantics_safety.proofs.QuietLaws.{IsNoTest, IsPlain, free_call, plain_free, quiet_lands, refused_lands, free_owners}
+use Rattle.semantics_safety.proofs.LevelLaws.{frames_stay}
 
 plain_no_push : (f : JniFunction) → IsPlain (call_kind f) → f ≡ PushLocalFrame → ⊥
 plain_no_push f h e = subst (λ (g : JniFunction). IsPlain (call_kind g)) e h
@@ -44,12 +45,6 @@ fifth_fails false false true d e u v w x y further h = absurd (cc)
 fifth_fails false false false true e u v w x y further h = absurd (cc)
 fifth_fails false false false false true u v w x y further h = absurd (cc)
 fifth_fails false false false false false u v w x y further h = refl
-
-frames_stay : (f : JniFunction) (frames : List Frame) → IsFree f → frames_after f frames ≡ frames
-frames_stay (jni.ReleaseBuffer access) frames h = absurd h
-frames_stay jni.DeleteLocalRef frames h = absurd h
-frames_stay jni.PopLocalFrame frames h = absurd h
-frames_stay f frames h = refl
 
 pub has_frame : (frames : List Frame) → is_full (slice_get frames 0) ≡ false → HasFrame frames
 has_frame [] h = absurd (cc)

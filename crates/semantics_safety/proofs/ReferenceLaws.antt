@@ -21,7 +21,7 @@ use Rattle.semantics_safety.specs.Stands.{Shows, Stands}
 use Rattle.semantics_safety.specs.Wanted.{Holds, IsNew, MaySet, revived, DeclaresResult, AssignsResult, ResultGoes, GoesOn, at, named}
 use Rattle.semantics_safety.specs.WeakNames.{WeakNames}
 use Rattle.semantics_safety.proofs.FrameLaws.{one_if, counted_here, more_copies, copies_grow}
-use Rattle.semantics_safety.proofs.NameLaws.{lookup_same, lookup_other, front_same, front_other, known_same, known_other}
+use Rattle.semantics_safety.proofs.NameLaws.{lookup_same, lookup_other, front_same, front_other, known_same, known_other, is_same}
 use Rattle.semantics_safety.proofs.SetLaws.{once_changed, stands_at, owners_elsewhere, types_named, types_kept, kinds_named, not_first, one_owns}
 use Rattle.semantics_safety.proofs.OwnerLaws.{stands_with}
 use Rattle.semantics_safety.proofs.StepLaws.{Lands, same_statics}
@@ -163,10 +163,6 @@ module _ (ss : Statics) (vs : Variables) (frame : Frame) (below : List Frame) (p
 abbrev pub with_target : Target → ℕ → Owners → Owners
 with_target target level own y = if is_target target y then Some level else own y
 
--- a name is itself, and no other
-name_same : (x : Identifier) → bytes_eq x x ≡ true
-name_same x = (bytes_eq-Decides x x).1 refl
-
 name_other : (x y : Identifier) → y ≢ x → bytes_eq y x ≡ false
 name_other x y other = by_test (bytes_eq y x) refl
   where
@@ -181,7 +177,7 @@ module _ (s : Shared) (t : Thread) (rest : List Task) (frame : Frame) (below : L
 
   declared : (kind : VariableKind) (x : Identifier) (get : Option (Access × Option Identifier)) → DeclaresResult p kind x NewLocal get (GoesOn rest) → Lands weak (with_target (Declared kind x) p.regions.frames own) s.statics (put (Declared kind x) (ReferenceResult (Some n)) s with_it)
   declared ReferenceKind x get (new, g) =
-      ((at (named p x ty.Ref) (with_new p.regions x (ReferenceAt p.regions.frames true)), stands_declared s.statics t.variables frame below p stands n x (λ y other. ap (λ (b : Bool). if b then Some p.regions.frames else own y) (name_other x y other)) (ap (λ (b : Bool). if b then Some p.regions.frames else own x) (name_same x)) new, g), same_statics s.statics)
+      ((at (named p x ty.Ref) (with_new p.regions x (ReferenceAt p.regions.frames true)), stands_declared s.statics t.variables frame below p stands n x (λ y other. ap (λ (b : Bool). if b then Some p.regions.frames else own y) (name_other x y other)) (ap (λ (b : Bool). if b then Some p.regions.frames else own x) (is_same x)) new, g), same_statics s.statics)
   declared ScalarKind x get h = absurd h
   declared FieldKind x get h = absurd h
   declared MethodKind x get h = absurd h
@@ -191,7 +187,7 @@ module _ (s : Shared) (t : Thread) (rest : List Task) (frame : Frame) (below : L
   assigned x (Some ty.Ref) get e (may, g) =
       let shown = stands.shows x _ may.known in
       subst (λ (v : Option Variable). Lands weak (with_target (Assigned x) p.regions.frames own) s.statics (put_assigned x (ReferenceResult (Some n)) s with_it v)) (sym shown.1)
-      ((at p (with_changed p.regions x revived), stands_assigned s.statics t.variables frame below p stands n x (λ y other. ap (λ (b : Bool). if b then Some p.regions.frames else own y) (name_other x y other)) (ap (λ (b : Bool). if b then Some p.regions.frames else own x) (name_same x)) may e, g), same_statics s.statics)
+      ((at p (with_changed p.regions x revived), stands_assigned s.statics t.variables frame below p stands n x (λ y other. ap (λ (b : Bool). if b then Some p.regions.frames else own y) (name_other x y other)) (ap (λ (b : Bool). if b then Some p.regions.frames else own x) (is_same x)) may e, g), same_statics s.statics)
   assigned x o get e h = absurd h
 
   -- the reference goes where it may

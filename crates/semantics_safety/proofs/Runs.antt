@@ -5,6 +5,7 @@ use Rattle.std.specs.Prelude.{IsTrue, find, is_none, not, is_some, slice_get, sl
 use Rattle.std.specs.List.{list_all, AllByRecursion, AllZip}
 use Rattle.std.specs.Option.{option_map, option_and_then}
 use Rattle.std.specs.Str.{bytes_eq}
+use Rattle.std.proofs.lemmas.Bool.{and_parts}
 use Rattle.base.specs.Bytes.{Identifier, lookup}
 use Rattle.base.specs.Options.{some_passes}
 use Rattle.class_rules.specs.Class.{Classes}
@@ -46,7 +47,6 @@ use Rattle.semantics_safety.proofs.EffectLaws.{effect_follows}
 use Rattle.semantics_safety.specs.WeakNames.{WeakNames, AreOfKind, HoldWeakly, weak_names}
 use Rattle.semantics_safety.proofs.CallLaws.{IsWithin, Path, Returning, Calling, Within, each_step_lands, path_of}
 use Rattle.semantics_safety.proofs.EntryPoints.{entry_point, SeesStatics, HasNamesOnce, stands_at_entry}
-use Rattle.semantics_safety.proofs.FrameLaws.{both_true}
 use Rattle.semantics_safety.proofs.KeptCalls.{Held, held, KeepsCalls, calls_kept, put_keeps, received_calls}
 use Rattle.semantics_safety.proofs.CallersKept.{LeavesCallers, callers_left}
 use Rattle.semantics_safety.proofs.KeptMethods.{LeavesCallable, methods_kept}
@@ -362,13 +362,13 @@ module _ (unit : SourceUnit) (classes : Classes) (first : Statics) (enters : All
     enters_function : (o : Option Function) → function_at unit call.function ≡ o → some_passes (is_callable classes call.arguments) o ≡ true → PlacedOn false (after_tasks s t None own) s.statics (entry_advance s (entered_function classes t call calls o))
     enters_function None e h = absurd (cc)
     enters_function (Some f) e h =
-        let both = both_true (is_some (class_of_function classes f)) (fit_parameters f.parameters call.arguments) h in
+        let both = and_parts (is_some (class_of_function classes f)) (fit_parameters f.parameters call.arguments) h in
         enters_class f (class_of_function classes f) (found_enters (functions_of unit) call.function f enters e) both.0 both.1
 
   entry_steps : (s : Shared) (t : Thread) (own : ThreadOwners) → NamesStay first s.statics → HoldWeakly weak s.statics → AllZip (CallerStands weak s.statics) own.callers t.callers → (calls : List Invocation) → IsTrue (has_calls calls) → IsTrue (list_all (call_loads unit classes) calls) → PlacedOn false (after_tasks s t None own) s.statics (entry_advance s (enter unit classes t calls))
   entry_steps s t own stay only callers [] has loads = absurd (cc)
   entry_steps s t own stay only callers (call ∷ calls) has loads =
-      let both = both_true (call_loads unit classes call) (list_all (call_loads unit classes) calls) loads in
+      let both = and_parts (call_loads unit classes call) (list_all (call_loads unit classes) calls) loads in
       enters_function s t own stay only call calls both.1 callers (function_at unit call.function) refl both.0
 
   -- ---- a thread's step
@@ -444,8 +444,8 @@ module _ (unit : SourceUnit) (classes : Classes) (first : Statics) (enters : All
 
   live_thread : (s : State) (k : ℕ) → can_step classes s k ≡ true → is_live (thread_at s k) ≡ true
   live_thread s k can =
-      let all = both_true (is_none s.stop && is_live (thread_at s k)) (not (is_waiting classes k s.shared (thread_at s k))) can in
-      (both_true (is_none s.stop) (is_live (thread_at s k)) all.0).1
+      let all = and_parts (is_none s.stop && is_live (thread_at s k)) (not (is_waiting classes k s.shared (thread_at s k))) can in
+      (and_parts (is_none s.stop) (is_live (thread_at s k)) all.0).1
 
   module _ (owners : AllOwners) (s : State) (h : AreRunning owners s) (k : ℕ) (refused : Bool) (next : State) where
     thread_running : (o : Option Thread) → thread_at s k ≡ o → is_live o ≡ true → step_of unit classes s k refused o ≡ Some next → AreRunning (after_turn unit classes s owners k refused o) next
@@ -521,8 +521,8 @@ module _ (unit : SourceUnit) (w : World) (enters : AllByRecursion (Enters (weak_
   all_waiting : (k : ℕ) (threads : List (List Invocation)) → list_all (list_all (call_loads unit w.classes)) threads ≡ true → list_all has_calls threads ≡ true → AllSound unit w.classes (λ j. no_owners) (null_statics unit) k (map waiting_thread threads)
   all_waiting k [] loads has = tt
   all_waiting k (calls ∷ threads) loads has =
-      let l = both_true (list_all (call_loads unit w.classes) calls) (list_all (list_all (call_loads unit w.classes)) threads) loads in
-      let c = both_true (has_calls calls) (list_all has_calls threads) has in
+      let l = and_parts (list_all (call_loads unit w.classes) calls) (list_all (list_all (call_loads unit w.classes)) threads) loads in
+      let c = and_parts (has_calls calls) (list_all has_calls threads) has in
       (record { goes = (refl, λ e. c.0, null_held (weak_names unit) (statics_of unit)); callers = tt; loads = l.0; methods = tt; below = tt }, all_waiting (k + 1) threads l.1 c.1)
 
   start_running : Loads unit w → HasCalls w → Running (λ k. no_owners) (start unit w)

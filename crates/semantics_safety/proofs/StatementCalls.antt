@@ -2,6 +2,7 @@
 use Rattle.std.proofs.Common.{◌≡◌, ℕ, ◌+◌, ◌-◌, ◌<◌, ◌≤◌, arith, inl, inr, Bool, true, false, not, ◌&&◌, List, length, Option, Some, None, refl, sym, ap, ◌∙◌, subst, nat_le, if◌then◌else◌}
 use Rattle.std.specs.Prelude.{flat_map}
 use Rattle.std.specs.Option.{is_none, option_and_then, option_map}
+use Rattle.std.proofs.lemmas.Bool.{not-false}
 use Rattle.std.proofs.lemmas.Bool.Decides.{nat_tests}
 use Rattle.base.specs.Bytes.{Identifier}
 use Rattle.base.specs.Options.{some_passes}
@@ -16,9 +17,9 @@ use Rattle.region_rules.specs.RegionStates.{VariableState, ReferenceAt, BufferIn
 use Rattle.semantics.specs.Task.{Target, Tested, invocation, task_of}
 use Rattle.semantics_safety.specs.Points.{Point}
 use Rattle.semantics_safety.specs.Wanted.{CallFits, CallKeeps, ResultGoes, RunsPlain, RunsPush, call_seen, is_push, at}
-use Rattle.semantics_safety.proofs.CallFits.{not_so, operands_of, after_same, get_same, call_rules, call_fits, unbroken}
+use Rattle.semantics_safety.proofs.CallFits.{operands_of, after_same, get_same, call_rules, call_fits, unbroken}
 use Rattle.type_rules.proofs.KeptPlaces.{IsKept}
-use Rattle.semantics_safety.proofs.Parameters.{counted}
+use Rattle.type_rules.proofs.CallParameters.{parameters_count}
 use Rattle.semantics_safety.proofs.KnownPoints.{IsKnown, Kin, kin_same, known_changed}
 use Rattle.semantics_safety.proofs.PathsGive.{Pushes, free_kin, known_one}
 
@@ -42,17 +43,17 @@ call_there p taken returns s c known kept obeys own expressions =
     let called : function_called s ≡ Some (f, c.arguments) =
     ap (option_and_then (λ (c : Call). option_map (λ (f : JniFunction). (f, c.arguments)) (function_named c.function))) own ∙ ap (option_map (λ (f : JniFunction). (f, c.arguments))) found.1 in
     let right : has_wrong_count c (Some f) ≡ false = ap (has_wrong_count c) (sym found.1) ∙ ap (some_passes (λ (c : Call). has_wrong_count c (function_named c.function))) (sym own) ∙ kept.count in
-    let takes = not_so (takes_count f (length c.arguments)) right in
+    let takes = not-false (takes_count f (length c.arguments)) right in
     let fitted : not (call_arguments_fit p.names c (Some f)) ≡ false =
     ap (λ (o : Option JniFunction). not (call_arguments_fit p.names c o)) (sym found.1) ∙ ap (some_passes (λ (c : Call). not (call_arguments_fit p.names c (function_named c.function)))) (sym own) ∙ kept.arguments in
-    let fit = not_so (arguments_fit p.names (parameters_for f (length c.arguments)) c.arguments) fitted in
+    let fit = not-false (arguments_fit p.names (parameters_for f (length c.arguments)) c.arguments) fitted in
     let moded : has_wrong_mode c (Some f) ≡ false = ap (has_wrong_mode c) (sym found.1) ∙ ap (some_passes (λ (c : Call). has_wrong_mode c (function_named c.function))) (sym own) ∙ kept.modes in
-    let modes = not_so (modes_fit (prototype f).parameters c.arguments) moded in
+    let modes = not-false (modes_fit (prototype f).parameters c.arguments) moded in
     record {
       function = f;
       is_named = found.1;
       called = called;
-      count = counted f (length c.arguments) takes;
+      count = parameters_count f (length c.arguments) takes;
       fits = call_fits p known.stated s obeys f c.arguments called expressions takes fit modes;
       keeps = call_rules p known.stated s obeys f c.arguments called expressions takes fit modes;
     }

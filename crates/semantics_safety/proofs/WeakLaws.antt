@@ -1,6 +1,7 @@
 -- At its point a thread names a weak reference in a call of the functions alone that take one.
 use Rattle.std.proofs.Common.{◌≡◌, ◌≢◌, inl, inr, ℕ, Bool, true, false, List, [], ◌∷◌, length, Option, Some, None, refl, sym, ◌∙◌}
 use Rattle.std.specs.List.{list_any, AllByRecursion}
+use Rattle.std.proofs.lemmas.Bool.{or_parts}
 use Rattle.base.specs.Bytes.{Identifier, lookup}
 use Rattle.jni.specs.Access.{ElementsCopy, ArrayView, CharsCopy, CharsView}
 use Rattle.jni.specs.JniFunction.{JniFunction, GetBuffer, ReleaseBuffer, prototype, parameters_for}
@@ -18,7 +19,6 @@ use Rattle.semantics_safety.specs.Points.{Point, IsLive, IsUsable, ReferenceFits
 use Rattle.semantics_safety.specs.Stands.{Stands}
 use Rattle.semantics_safety.specs.Wanted.{CallFits, Runs}
 use Rattle.semantics_safety.specs.WeakNames.{WeakNames}
-use Rattle.semantics_safety.proofs.EntryPoints.{or_false}
 use Rattle.semantics_safety.proofs.Parameters.{none_among}
 use Rattle.semantics_safety.proofs.SetLaws.{none_some}
 
@@ -151,7 +151,7 @@ module _ (ss : Statics) (vs : Variables) (frames : List Frame) (p : Point) {weak
   operands_strong [] (o ∷ operands) strong h = absurd h
   operands_strong (parameter ∷ parameters) [] strong h = absurd h
   operands_strong (parameter ∷ parameters) (o ∷ operands) strong h =
-      let both = or_false (may_be_weak parameter) (list_any may_be_weak parameters) strong in
+      let both = or_parts (may_be_weak parameter) (list_any may_be_weak parameters) strong in
       (operand_strong parameter o both.0 h.0, operands_strong parameters operands both.1 h.1)
 
   -- ---- a task

@@ -1,7 +1,6 @@
 -- A variable that a step sets as a whole is no buffer that holds something.
 use Rattle.std.proofs.Common.{◌≡◌, inl, inr, ℕ, true, false, List, [], ◌∷◌, map, length, Option, Some, None, refl, sym, ◌∙◌, subst}
 use Rattle.std.specs.Prelude.{drop}
-use Rattle.std.specs.Str.{bytes_eq}
 use Rattle.std.proofs.lemmas.Slice.Eq.{bytes_eq-Decides}
 use Rattle.base.specs.Bytes.{Identifier, lookup}
 use Rattle.syntax.specs.Tree as tree
@@ -28,9 +27,6 @@ use Rattle.semantics_safety.specs.WeakNames.{WeakNames}
 use Rattle.semantics_safety.proofs.PoppedLaws.{stands_popped}
 use Rattle.semantics_safety.proofs.QuietLaws.{free_call}
 use Rattle.semantics_safety.proofs.SetLaws.{none_some}
-
-same_name : (x y : Identifier) → bytes_eq x y ≡ true → x ≡ y
-same_name x y e = (bytes_eq-Decides x y).0 e
 
 scalar_holds : (o : Option Variable) (v : Value) → o ≡ Some (Scalar v) → HoldsNoBuffer o
 scalar_holds o v e u b h = absurd (let c : Some (Scalar v) ≡ Some (Elements u b) = sym e ∙ h in cc)
@@ -107,8 +103,8 @@ module _ (ss : Statics) (vs : Variables) (frames : List Frame) (p : Point) {weak
   null_assigned o x k e h = absurd h
 
   null_holds : (target : Target) (k : Point → Type 0) (x : Identifier) → is_target target x ≡ true → SetsNullThere p target k → Nothing x
-  null_holds (Declared kind y) k x is h = subst Nothing (sym (same_name x y is)) (null_declared kind y k h)
-  null_holds (Assigned y) k x is h = subst Nothing (sym (same_name x y is)) (null_assigned (type_in p.names y) y k refl h)
+  null_holds (Declared kind y) k x is h = subst Nothing (sym ((bytes_eq-Decides x y).0 is)) (null_declared kind y k h)
+  null_holds (Assigned y) k x is h = subst Nothing (sym ((bytes_eq-Decides x y).0 is)) (null_assigned (type_in p.names y) y k refl h)
   null_holds (Tested a b) k x is h = absurd h
   null_holds Dropped k x is h = absurd h
 
@@ -135,8 +131,8 @@ module _ (ss : Statics) (vs : Variables) (frames : List Frame) (p : Point) {weak
   result_assigned o x result get k e h = absurd h
 
   pub result_holds : (target : Target) (result : ResultKind) (get : _) (k : Point → Type 0) (x : Identifier) → is_target target x ≡ true → ResultGoes target result get k p → Nothing x
-  result_holds (Declared kind y) result get k x is h = subst Nothing (sym (same_name x y is)) (result_declared kind y result get k h)
-  result_holds (Assigned y) result get k x is h = subst Nothing (sym (same_name x y is)) (result_assigned (type_in p.names y) y result get k refl h)
+  result_holds (Declared kind y) result get k x is h = subst Nothing (sym ((bytes_eq-Decides x y).0 is)) (result_declared kind y result get k h)
+  result_holds (Assigned y) result get k x is h = subst Nothing (sym ((bytes_eq-Decides x y).0 is)) (result_assigned (type_in p.names y) y result get k refl h)
   result_holds (Tested a b) result get k x is h = absurd h
   result_holds Dropped result get k x is h = absurd (let no : false ≡ true = is in cc)
 

@@ -3,6 +3,7 @@ use Rattle.std.proofs.Common.{◌≡◌, ℕ, Bool, true, false, not, ◌||◌, 
 use Rattle.std.specs.Prelude.{flat_map}
 use Rattle.std.specs.List.{list_any, list_all}
 use Rattle.std.specs.Option.{is_none}
+use Rattle.std.proofs.lemmas.Bool.{or_parts}
 use Rattle.base.specs.Bytes.{Identifier}
 use Rattle.base.specs.Options.{some_passes}
 use Rattle.syntax.specs.Parts.{statements_of, statements_within, line_of, declared_name, right_side, own_call, own_expressions, names_declared}
@@ -10,7 +11,7 @@ use Rattle.syntax.specs.Tree.{ResultType, Static, Test, Stmt, If, IfElse, While,
 use Rattle.jni.specs.JniFunction.{function_named}
 use Rattle.type_rules.specs.ExprTypes.{Scope, call_arguments_fit}
 use Rattle.type_rules.specs.TypeRules.{TypeRule, UnknownName, DeclaredTwice, TypeMisfit, UnknownFunction, ArgumentCount, ReferenceCopied, BadMode, ReadOnlyWrite, typing_rules, Place, StaticForm, StatementForm, has_name, is_formed, statement_fits, has_wrong_count, has_wrong_mode, copies_reference, set_type, breaks, broken_at, with_declared, places_within, places_of}
-use Rattle.type_rules.proofs.PlaceLists.{AreUnbroken, first_empty, second_empty, front_unbroken, back_unbroken, none_broken, first_false, second_false, not_twice}
+use Rattle.type_rules.proofs.PlaceLists.{AreUnbroken, first_empty, second_empty, front_unbroken, back_unbroken, none_broken, not_twice}
 
 -- what a statement that breaks no rule is known for
 pub record IsKept (known : Scope) (taken : List Identifier) (returns : ResultType) (s : Stmt) : Type 0 where
@@ -52,21 +53,21 @@ is_kept : (returns : ResultType) (known : Scope) (taken : List Identifier) (s : 
 is_kept returns known taken s none =
     let place = statement_place returns known taken s in
     let p : TypeRule → Bool = λ rule. breaks rule place place.form in
-    let names = second_false (p UnknownName) (list_any p after_names) (none_broken p (line_of s) typing_rules none) in
-    let twice = second_false (p DeclaredTwice) (list_any p after_twice) names in
-    let types = second_false (p TypeMisfit) (list_any p after_types) twice in
-    let functions = second_false (p UnknownFunction) (list_any p after_functions) types in
-    let counts = second_false (p ArgumentCount) (list_any p after_counts) functions in
-    let copies = second_false (p ReferenceCopied) (list_any p after_copies) counts in
-    let fit = fitting (list_all (is_formed known) (own_expressions s)) (statement_fits known returns s) (some_passes (λ c. not (call_arguments_fit known c (function_named c.function))) (own_call s)) (first_false (p TypeMisfit) (list_any p after_types) twice) in
+    let names = (or_parts (p UnknownName) (list_any p after_names) (none_broken p (line_of s) typing_rules none)).1 in
+    let twice = (or_parts (p DeclaredTwice) (list_any p after_twice) names).1 in
+    let types = (or_parts (p TypeMisfit) (list_any p after_types) twice).1 in
+    let functions = (or_parts (p UnknownFunction) (list_any p after_functions) types).1 in
+    let counts = (or_parts (p ArgumentCount) (list_any p after_counts) functions).1 in
+    let copies = (or_parts (p ReferenceCopied) (list_any p after_copies) counts).1 in
+    let fit = fitting (list_all (is_formed known) (own_expressions s)) (statement_fits known returns s) (some_passes (λ c. not (call_arguments_fit known c (function_named c.function))) (own_call s)) ((or_parts (p TypeMisfit) (list_any p after_types) twice).0) in
     record {
-      new = first_false (p DeclaredTwice) (list_any p after_twice) names;
+      new = (or_parts (p DeclaredTwice) (list_any p after_twice) names).0;
       fits = fit.0;
       arguments = fit.1;
-      there = first_false (p UnknownFunction) (list_any p after_functions) types;
-      count = first_false (p ArgumentCount) (list_any p after_counts) functions;
-      uncopied = first_false (p ReferenceCopied) (list_any p after_copies) counts;
-      modes = first_false (p BadMode) (list_any p (ReadOnlyWrite ∷ [])) copies;
+      there = (or_parts (p UnknownFunction) (list_any p after_functions) types).0;
+      count = (or_parts (p ArgumentCount) (list_any p after_counts) functions).0;
+      uncopied = (or_parts (p ReferenceCopied) (list_any p after_copies) counts).0;
+      modes = (or_parts (p BadMode) (list_any p (ReadOnlyWrite ∷ [])) copies).0;
     }
 
 -- ---- places inside

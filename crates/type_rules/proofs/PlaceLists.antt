@@ -2,6 +2,7 @@
 use Rattle.std.proofs.Common.{◌≡◌, ℕ, Bool, true, false, ◌||◌, List, [], ◌∷◌, ◌++◌, map, filter, refl, sym, ◌∙◌, if◌then◌else◌}
 use Rattle.std.specs.Prelude.{flat_map}
 use Rattle.std.specs.List.{list_any}
+use Rattle.std.proofs.lemmas.Bool.{or_parts}
 use Rattle.std.proofs.lemmas.Grind.{flat_map-append}
 use Rattle.type_rules.specs.TypeRules.{TypeRule, UnknownName, DeclaredTwice, TypeMisfit, UnknownFunction, ArgumentCount, ReferenceCopied, BadMode, ReadOnlyWrite, typing_rules, Place, breaks, broken_at}
 
@@ -53,4 +54,4 @@ after_twice = TypeMisfit ∷ UnknownFunction ∷ ArgumentCount ∷ ReferenceCopi
 pub not_twice : (place : Place) → broken_at place ≡ [] → breaks DeclaredTwice place place.form ≡ false
 not_twice place none =
     let p : TypeRule → Bool = λ rule. breaks rule place place.form in
-    first_false (p DeclaredTwice) (list_any p after_twice) (second_false (p UnknownName) (list_any p (DeclaredTwice ∷ after_twice)) (none_broken p place.line typing_rules none))
+    (or_parts (p DeclaredTwice) (list_any p after_twice) ((or_parts (p UnknownName) (list_any p (DeclaredTwice ∷ after_twice)) (none_broken p place.line typing_rules none)).1)).0

@@ -1,5 +1,5 @@
 -- Which types the parts of an expression that has a type can have.
-use Rattle.std.proofs.Common.{◌≡◌, ◌⊎◌, inl, inr, Bool, true, false, ◌&&◌, Option, Some, None, refl, if◌then◌else◌}
+use Rattle.std.proofs.Common.{◌≡◌, ◌⊎◌, inl, inr, Bool, true, false, Option, Some, None, refl, if◌then◌else◌}
 use Rattle.std.specs.Option.{option_or}
 use Rattle.base.specs.Bytes.{Identifier}
 use Rattle.syntax.specs.Parts.{null_tested}
@@ -20,10 +20,6 @@ IsValueType s = ⊥
 pub given : {A : Type 0} (b : Bool) (a s : A) → (if b then Some a else None) ≡ Some s → (b ≡ true) × (s ≡ a)
 given true a s h = (refl, cc)
 given false a s h = absurd (cc)
-
-pub and_true : (a b : Bool) → (a && b) ≡ true → (a ≡ true) × (b ≡ true)
-and_true true b h = (refl, h)
-and_true false b h = absurd (cc)
 
 pub castable : (o : Option ExprType) → is_castable o ≡ true → (r : ExprType) × (o ≡ Some r) × IsNumberType r
 castable (Some Word) h = (Word, refl, tt)

@@ -1,27 +1,17 @@
 -- What is asked of the names of a statement part by part is asked of all of them.
-use Rattle.std.proofs.Common.{◌≡◌, Bool, true, false, ◌||◌, List, [], ◌∷◌, ◌++◌, Some, refl, sym, ap, ◌∙◌, flat_map}
+use Rattle.std.proofs.Common.{◌≡◌, Bool, true, false, ◌||◌, List, [], ◌∷◌, ◌++◌, Some, refl, sym, ap, ◌∙◌, flat_map, append-nil}
 use Rattle.std.specs.List.{list_any}
+use Rattle.std.proofs.Math.Bool.{or_assoc}
 use Rattle.std.proofs.lemmas.List.Folds.{list_any-append}
 use Rattle.base.specs.Bytes.{Identifier}
 use Rattle.syntax.specs.Parts.{argument_expressions, call_expressions, names_in, addresses_in, used_names}
 use Rattle.syntax.specs.Tree.{Expr, Argument, Value, Text, AddressOf, Call, FromExpr, FromCall, TestExpr, TestCall, Stmt, Declare, DeclareBuffer, DeclareChars, DeclareArray, Assign, AssignElement, Perform, PutJint, If, IfElse, While, Return, ReturnValue}
 use Rattle.type_rules.specs.Uses.{expr_uses, argument_uses, call_uses, uses}
 
-or_false : (a : Bool) → (a || false) ≡ a
-or_false true = refl
-or_false false = refl
-
-or_assoc : (a b c : Bool) → ((a || b) || c) ≡ (a || (b || c))
-or_assoc true b c = refl
-or_assoc false b c = refl
-
 or_swap : (a b c : Bool) → (a || (b || c)) ≡ (b || (a || c))
 or_swap true true c = refl
 or_swap true false c = refl
 or_swap false b c = refl
-
-any_end : (p : Identifier → Bool) (xs : List Identifier) → list_any p (xs ++ []) ≡ list_any p xs
-any_end p xs = list_any-append p xs [] ∙ or_false (list_any p xs)
 
 -- ---- names
 
@@ -29,7 +19,7 @@ two : (p : Identifier → Bool) (xs ys zs : List Identifier) → list_any p ((xs
 two p xs ys zs = list_any-append p (xs ++ ys) zs ∙ ap (λ b. b || list_any p zs) (list_any-append p xs ys)
 
 one_uses : (p : Identifier → Bool) (e : Expr) → list_any p ((names_in e ++ []) ++ []) ≡ expr_uses p e
-one_uses p e = any_end p (names_in e ++ []) ∙ any_end p (names_in e)
+one_uses p e = ap (list_any p) (append-nil (names_in e ++ [])) ∙ ap (list_any p) (append-nil (names_in e))
 
 arguments_use : (p : Identifier → Bool) (f : Identifier) (arguments : List Argument)
     → (list_any p (flat_map names_in (flat_map argument_expressions arguments)) || list_any p (addresses_in (Some (record { function = f; arguments = arguments })))) ≡ list_any (argument_uses p) arguments
@@ -51,8 +41,8 @@ call_use p c = list_any-append p (flat_map names_in (call_expressions c)) (addre
 
 element_use : (p : Identifier → Bool) (x : Identifier) (i e : Expr) → list_any p (((x ∷ []) ++ (names_in i ++ (names_in e ++ []))) ++ []) ≡ ((p x || expr_uses p i) || expr_uses p e)
 element_use p x i e =
-    any_end p ((x ∷ []) ++ (names_in i ++ (names_in e ++ [])))
-    ∙ ap (λ b. p x || b) (list_any-append p (names_in i) (names_in e ++ []) ∙ ap (λ b. expr_uses p i || b) (any_end p (names_in e)))
+    ap (list_any p) (append-nil ((x ∷ []) ++ (names_in i ++ (names_in e ++ []))))
+    ∙ ap (λ b. p x || b) (list_any-append p (names_in i) (names_in e ++ []) ∙ ap (λ b. expr_uses p i || b) (ap (list_any p) (append-nil (names_in e))))
     ∙ sym (or_assoc (p x) (expr_uses p i) (expr_uses p e))
 
 pub uses_is : (p : Identifier → Bool) (s : Stmt) → list_any p (used_names s) ≡ uses p s
