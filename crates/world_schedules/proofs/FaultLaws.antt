@@ -2,7 +2,7 @@
 use Rattle.std.proofs.Common.{◌≡◌, ◌⊎◌, inl, inr, ℕ, suc, zero, ◌+◌, ◌<◌, ◌≤◌, Bool, true, false, cond, List, [], ◌∷◌, ◌++◌, length, map, Option, Some, None, Result, Ok, Err, refl, sym, ap, ◌∙◌, subst, append_assoc, append-nil, arith, sum_by}
 use Rattle.std.specs.Prelude.{◌↔◌, filter, flat_map, ◌==◌, ◌||◌, ◌&&◌, not, nat_le, IsOk}
 use Rattle.std.specs.List.{list_all, Contains}
-use Rattle.std.proofs.lemmas.Bool.{and_from}
+use Rattle.std.proofs.lemmas.Bool.{and_from, and_parts}
 use Rattle.std.proofs.lemmas.Bool.Decides.{nat_tests}
 use Rattle.std.proofs.lemmas.Grind.{flat_map-append}
 use Rattle.std.proofs.lemmas.List.{map-append, length-append}
@@ -21,7 +21,6 @@ use Rattle.world_schedules.specs.Rule.{rule_number}
 use Rattle.world_schedules.specs.Split.{parts_of}
 use Rattle.world_schedules.specs.Words.{words_of}
 use Rattle.world_schedules.proofs.PartLemmas.{slice_split-split_at}
-use Rattle.world_schedules.proofs.WordLaws.{both_true}
 
 -- ---- places of a list
 
@@ -70,7 +69,7 @@ same_parts : (line : List ℕ) → has_no_feed line ≡ true → split_at (λ c.
 unfolding has_no_feed
 same_parts [] h = refl
 same_parts (c ∷ rest) h =
-    let b = both_true (not (c == 10)) (has_no_feed rest) h in
+    let b = and_parts (not (c == 10)) (has_no_feed rest) h in
     let no : (c == 10) ≡ false = by_test (c == 10) b.0 in
     ap (λ t. cond t ([] ∷ split_at (λ c. c == 32 || c == 10) rest) (with_first c (split_at (λ c. c == 32 || c == 10) rest))) (or_false (c == 32) (c == 10) no)
     ∙ ap (λ (ps : List (List ℕ)). cond (c == 32) ([] ∷ ps) (with_first c ps)) (same_parts rest b.1)
@@ -138,10 +137,10 @@ record IsWordAmong {W : Type 0} (text : W → List ℕ) (ws : List W) (bytes : L
 
 among : {W : Type 0} (text : W → List ℕ) (ws : List W) (bytes : List ℕ) → Contains (map text ws) bytes → IsWordAmong text ws bytes
 among text [] bytes h = absurd (omega (arith, h.1))
-among text (w ∷ ws) bytes (zero, within, is) = record { word = w; is = is; passes = λ p all. (both_true (p w) (list_all p ws) all).0 }
+among text (w ∷ ws) bytes (zero, within, is) = record { word = w; is = is; passes = λ p all. (and_parts (p w) (list_all p ws) all).0 }
 among text (w ∷ ws) bytes (suc k, within, is) =
     let a = among text ws bytes (k, omega (arith, within), is) in
-    record { word = a.word; is = a.is; passes = λ p all. a.passes p (both_true (p w) (list_all p ws) all).1 }
+    record { word = a.word; is = a.is; passes = λ p all. a.passes p (and_parts (p w) (list_all p ws) all).1 }
 
 -- a word of these that fails a test
 record FailsAmong {W : Type 0} (text : W → List ℕ) (ws : List W) (test : W → Bool) : Type 0 where
@@ -151,10 +150,10 @@ record FailsAmong {W : Type 0} (text : W → List ℕ) (ws : List W) (test : W �
   pub passes : (p : W → Bool) → list_all p ws ≡ true → p word ≡ true
 
 failing_first : {W : Type 0} (text : W → List ℕ) (w : W) (ws : List W) (test : W → Bool) (b : Bool) → test w ≡ b → (b && list_all test ws) ≡ false → (list_all test ws ≡ false → FailsAmong text ws test) → FailsAmong text (w ∷ ws) test
-failing_first text w ws test false e all more = record { word = w; there = first_of_list (text w) (map text ws); fails = e; passes = λ p every. (both_true (p w) (list_all p ws) every).0 }
+failing_first text w ws test false e all more = record { word = w; there = first_of_list (text w) (map text ws); fails = e; passes = λ p every. (and_parts (p w) (list_all p ws) every).0 }
 failing_first text w ws test true e all more =
     let f = more all in
-    record { word = f.word; there = further (text w) (map text ws) (text f.word) f.there; fails = f.fails; passes = λ p every. f.passes p (both_true (p w) (list_all p ws) every).1 }
+    record { word = f.word; there = further (text w) (map text ws) (text f.word) f.there; fails = f.fails; passes = λ p every. f.passes p (and_parts (p w) (list_all p ws) every).1 }
 
 failing : {W : Type 0} (text : W → List ℕ) (ws : List W) (test : W → Bool) → list_all test ws ≡ false → FailsAmong text ws test
 failing text [] test h = absurd (cc)
@@ -205,8 +204,8 @@ module _ {W R : Type 0} (kind : WordKind W) (threads : ℕ) (spelled : List ℕ 
   count_once [] (w ∷ ws) e a b = absurd (cc)
   count_once (v ∷ vs) [] e a b = absurd (cc)
   count_once (v ∷ vs) (w ∷ ws) e a b =
-      let p = both_true (kind.is_allowed 8 v) (list_all (kind.is_allowed 8) vs) a in
-      let q = both_true (kind.is_allowed 8 w) (list_all (kind.is_allowed 8) ws) b in
+      let p = and_parts (kind.is_allowed 8 v) (list_all (kind.is_allowed 8) vs) a in
+      let q = and_parts (kind.is_allowed 8 w) (list_all (kind.is_allowed 8) ws) b in
       let one = known_once v w (cc) p.0 q.0 in
       let others = count_once vs ws (cc) p.1 q.1 in (
         sum_by-cons kind.count v vs ∙ ap (λ n. n + sum_by kind.count vs) one.1 ∙ ap (λ n. kind.count w + n) others.0 ∙ sym (sum_by-cons kind.count w ws),
@@ -359,7 +358,7 @@ module _ {W R : Type 0} (kind : WordKind W) (threads : ℕ) (spelled : List ℕ 
   unfolding lines_words
   of_lines before number count others [] n u f = subst (BreakNoRule kind threads) (sym (append-nil before)) u.clean
   of_lines before number count others (line ∷ lines) n u f =
-      let b = both_true (has_no_feed line) (list_all has_no_feed lines) f in
+      let b = and_parts (has_no_feed line) (list_all has_no_feed lines) f in
       let next : number + 1 ≡ length (before ++ line ∷ []) + 1 = omega (arith, n, length-append before (line ∷ [])) in
       after_line before lines number count others line n u (line_words spelled is_known times apart number count others line)
       (of_words before number count others line u b.0 (formed_words spelled (parts_of 32 line)) refl)

@@ -1,7 +1,7 @@
 -- Schedules are refused with their first fault.
 use Rattle.std.proofs.Common.{◌≡◌, ℕ, Bool, true, false, List, length, Option, Some, None, Err, refl, sym, ap, ◌∙◌, arith}
 use Rattle.std.specs.Prelude.{◌↔◌, ◌&&◌, flat_map, IsOk}
-use Rattle.std.proofs.lemmas.Bool.{and_from}
+use Rattle.std.proofs.lemmas.Bool.{and_from, and_parts}
 use Rattle.std.proofs.lemmas.List.{length-replicate}
 use Rattle.semantics.specs.declared.schedule.ScheduleWord.{ScheduleWord}
 use Rattle.world_schedules.specs.declared.fault.TextFault.{TextFault}
@@ -13,7 +13,6 @@ use Rattle.world_schedules.specs.ScheduleText.{words_meant, is_turn, is_count}
 use Rattle.world_schedules.proofs.FaultLaws.{IsReader, Verdict, of_text, and_then, refused_first, accepted_only}
 use Rattle.world_schedules.proofs.MeantSchedules.{repetition_for, word_is_read}
 use Rattle.world_schedules.proofs.ScheduleLaws.{known_is, repetition_read}
-use Rattle.world_schedules.proofs.WordLaws.{both_true}
 
 and_true : (a b : Bool) → b ≡ true → a ≡ (a && b)
 and_true true b h = sym h
@@ -43,7 +42,7 @@ reader threads = record {
     counted_apart = refl;
   };
   finds = λ w h.
-      let b = both_true (is_turn 8 w.0) (is_count w.1) h in
+      let b = and_parts (is_turn 8 w.0) (is_count w.1) h in
       let i = word_is_read 8 w (omega arith) b.0 b.1 in
       let f = word_found threads w b.0 b.1 in
       (repetition_for w, ap repetition_of i.bytes ∙ i.is, f.0, f.1, refl);

@@ -3,9 +3,10 @@ use Rattle.std.proofs.Common.{◌≡◌, ℕ, ◌+◌, ◌-◌, ◌≤◌, Bool,
 use Rattle.std.specs.Prelude.{filter, ◌==◌, ◌&&◌, nat_le, IfOk}
 use Rattle.std.specs.Global.{Vec}
 use Rattle.std.specs.List.{list_all}
-use Rattle.std.proofs.lemmas.Bool.{and_from}
+use Rattle.std.proofs.lemmas.Bool.{and_from, and_parts}
 use Rattle.std.proofs.lemmas.Bool.Decides.{nat_tests}
 use Rattle.std.proofs.lemmas.Fmt.{decimal_digit}
+use Rattle.std.proofs.lemmas.Option.{cond_some}
 use Rattle.base.specs.Bytes.{is_some_byte}
 use Rattle.semantics.specs.Journal.{Entry, Step, Clearing, Journal}
 use Rattle.semantics.specs.JournalText.{entry_text}
@@ -18,8 +19,8 @@ use Rattle.world_schedules.specs.ReadingWords.{formed_words}
 use Rattle.world_schedules.specs.declared.fault.ReadError.{ReadError}
 use Rattle.world_schedules.proofs.JournalLemmas.{steps_counted, clearings_counted}
 use Rattle.world_schedules.proofs.NameLemmas.{clearing_read}
-use Rattle.world_schedules.proofs.ScheduleLaws.{guarded, guarded_option, some_with}
-use Rattle.world_schedules.proofs.WordLaws.{words_of-parts, all_parts, both_true, are_words}
+use Rattle.world_schedules.proofs.ScheduleLaws.{guarded_option, some_with}
+use Rattle.world_schedules.proofs.WordLaws.{words_of-parts, all_parts, are_words}
 
 -- ---- one word
 
@@ -30,7 +31,7 @@ pub record IsEntryOf (bytes : List ℕ) (e : Entry) : Type 0 where
 
 -- what is known of such an entry is what may stand in a journal
 pub known_is : (threads : ℕ) (e : Entry) → is_entry 8 e ≡ true → is_up_to threads e ≡ is_entry threads e
-known_is threads (Step k refused) h = ap (λ b. b && nat_le k threads) (sym (both_true (nat_le 1 k) (nat_le k 8) h).0)
+known_is threads (Step k refused) h = ap (λ b. b && nat_le k threads) (sym (and_parts (nat_le 1 k) (nat_le k 8) h).0)
 known_is threads (Clearing names) h = sym h
 
 -- the mark of a refused allocation
@@ -39,8 +40,8 @@ mark refused = cond refused (33 ∷ []) []
 
 entry_read : (name : ℕ) (refused : Bool) (e : Entry) → entry_named name refused ≡ Some e → IsEntryOf (name ∷ mark refused) e
 entry_read name refused e h =
-    let g = guarded (nat_le 49 name && nat_le name 56) (Step (name - 48) refused) e h in
-    let t = both_true (nat_le 49 name) (nat_le name 56) g.0 in
+    let g = cond_some (nat_le 49 name && nat_le name 56) (Step (name - 48) refused) e h in
+    let t = and_parts (nat_le 49 name) (nat_le name 56) g.0 in
     let low : 49 ≤ name = grind (arith, nat_tests, t.0) in
     let high : name ≤ 56 = grind (arith, nat_tests, t.1) in
     let digit : 48 + (name - 48) ≡ name = omega (arith, low) in
@@ -88,7 +89,7 @@ entries_read ((c ∷ cs) ∷ parts) es h =
     subst (AreEntriesOf ((c ∷ cs) ∷ parts)) (sym w.4) (record {
       spelled = ap (λ (b : List ℕ). b ∷ filter is_some_byte parts) first.spelled ∙ ap (λ (bs : List (List ℕ)). entry_text w.0 ∷ bs) a.spelled;
       known = λ threads k.
-          let both = both_true (is_up_to threads w.0) (list_all (is_up_to threads) w.1) k in
+          let both = and_parts (is_up_to threads w.0) (list_all (is_up_to threads) w.1) k in
           and_from (is_entry threads w.0) (list_all (is_entry threads) w.1) (sym (known_is threads w.0 first.allowed) ∙ both.0) (a.known threads both.1);
     })
 

@@ -6,7 +6,7 @@ use Rattle.std.specs.List.{list_all}
 use Rattle.std.specs.Char.{is_ascii_digit}
 use Rattle.std.specs.Str.{all_ascii_digits}
 use Rattle.std.specs.Str.Parse.{digits_value}
-use Rattle.std.proofs.lemmas.Bool.{and_from}
+use Rattle.std.proofs.lemmas.Bool.{and_from, and_parts}
 use Rattle.std.proofs.lemmas.Bool.Decides.{nat_tests}
 use Rattle.std.proofs.lemmas.Fmt.{decimal_digit, decimal_nonempty, digits_decimal, digits_value-decimal, first_decimal}
 use Rattle.std.proofs.lemmas.List.Concat.{flat_map-cons}
@@ -24,7 +24,7 @@ use Rattle.semantics.specs.Schedule.{Schedule}
 use Rattle.world_schedules.specs.ScheduleText.{schedule_word, words_meant, is_turn, is_count, IsScheduleText}
 use Rattle.world_schedules.specs.Words.{is_thread}
 use Rattle.world_schedules.proofs.ScheduleLaws.{all_digits, length-repeated}
-use Rattle.world_schedules.proofs.WordLaws.{words_of-parts, all_parts, both_true, words_read, formed_words-filter}
+use Rattle.world_schedules.proofs.WordLaws.{words_of-parts, all_parts, words_read, formed_words-filter}
 
 -- ---- numbers
 
@@ -63,7 +63,7 @@ once_read name word is = ap (option_and_then (repetition 1)) is
 
 often_read : (name : ℕ) (word : ScheduleWord) (n : ℕ) → named_word name ≡ Some word → nat_le 1 n && nat_le n 1000000 ≡ true → repetition_of (name ∷ 42 ∷ decimal n) ≡ Some (record { word = word; times = n })
 often_read name word n is c =
-    let t = both_true (nat_le 1 n) (nat_le n 1000000) c in
+    let t = and_parts (nat_le 1 n) (nat_le n 1000000) c in
     let one : 1 ≤ n = grind (arith, nat_tests, t.0) in
     let most : n ≤ 1000000 = grind (arith, nat_tests, t.1) in
     ap (option_and_then (λ word. option_and_then (λ times. repetition times word) (natural_of (decimal n)))) is
@@ -79,7 +79,7 @@ pub record IsRead (w : ScheduleWord × Option ℕ) : Type 0 where
 
 thread_low : (threads k : ℕ) → is_thread threads k ≡ true → (1 ≤ k) × (k ≤ threads)
 thread_low threads k h =
-    let t = both_true (nat_le 1 k) (nat_le k threads) h in
+    let t = and_parts (nat_le 1 k) (nat_le k threads) h in
     let one : 1 ≤ k = grind (arith, nat_tests, t.0) in
     let most : k ≤ threads = grind (arith, nat_tests, t.1) in
     (one, most)
@@ -99,7 +99,7 @@ word_is_read threads (Slice, None) most turn count = record { name = 115; rest =
 word_is_read threads (Slice, Some n) most turn count = record { name = 115; rest = 42 ∷ decimal n; bytes = refl; is = often_read 115 Slice n refl count }
 
 known_turn : (threads : ℕ) (word : ScheduleWord) → is_turn threads word ≡ true → is_known_turn threads word ≡ true
-known_turn threads (Turn k) t = (both_true (nat_le 1 k) (nat_le k threads) t).1
+known_turn threads (Turn k) t = (and_parts (nat_le 1 k) (nat_le k threads) t).1
 known_turn threads Collect t = refl
 known_turn threads Slice t = refl
 
@@ -121,8 +121,8 @@ one_known threads (word, Some n) t = known_turn threads word t
 pub words_are_read : (threads : ℕ) (ws : List (ScheduleWord × Option ℕ)) → threads ≤ 8 → list_all (λ (w : ScheduleWord × Option ℕ). is_turn threads w.0 && is_count w.1) ws ≡ true → AreRead threads ws
 words_are_read threads [] most c = record { formed = refl; known = refl; meant = refl }
 words_are_read threads (w ∷ ws) most c =
-    let counted = both_true (is_turn threads w.0 && is_count w.1) (list_all (λ (v : ScheduleWord × Option ℕ). is_turn threads v.0 && is_count v.1) ws) c in
-    let first = both_true (is_turn threads w.0) (is_count w.1) counted.0 in
+    let counted = and_parts (is_turn threads w.0 && is_count w.1) (list_all (λ (v : ScheduleWord × Option ℕ). is_turn threads v.0 && is_count v.1) ws) c in
+    let first = and_parts (is_turn threads w.0) (is_count w.1) counted.0 in
     let one = word_is_read threads w most first.0 first.1 in
     let others = words_are_read threads ws most counted.1 in
     record {

@@ -5,10 +5,11 @@ use Rattle.std.specs.Option.{option_map}
 use Rattle.std.specs.List.{list_all}
 use Rattle.std.specs.Char.{is_ascii_digit}
 use Rattle.std.specs.Str.{all_ascii_digits}
-use Rattle.std.proofs.lemmas.Bool.{and_from}
+use Rattle.std.proofs.lemmas.Bool.{and_from, and_parts}
 use Rattle.std.proofs.lemmas.Bool.Decides.{nat_tests}
 use Rattle.std.proofs.lemmas.Fmt.{digits_decimal}
 use Rattle.std.proofs.lemmas.List.Folds.{list_all-append}
+use Rattle.std.proofs.lemmas.Option.{cond_some}
 use Rattle.std.proofs.lemmas.Str.Parse.{numerals_by_value, tells_all_ascii_digits}
 use Rattle.base.specs.Bytes.{split_at, with_first}
 use Rattle.base.specs.Options.{option_filter}
@@ -21,8 +22,7 @@ use Rattle.world_schedules.specs.ReadingJournals.{name_spelled, names_spelled, c
 use Rattle.world_schedules.specs.ReadingWords.{with_word}
 use Rattle.world_schedules.specs.Split.{parts_of}
 use Rattle.world_schedules.proofs.PartLemmas.{some_part, slice_split-split_at}
-use Rattle.world_schedules.proofs.WordLaws.{both_true}
-use Rattle.world_schedules.proofs.ScheduleLaws.{guarded, some_with, all_digits, decimal-natural_of}
+use Rattle.world_schedules.proofs.ScheduleLaws.{some_with, all_digits, decimal-natural_of}
 use Rattle.world_schedules.proofs.MeantSchedules.{natural_of-decimal}
 
 -- ---- parts with commas between them
@@ -64,7 +64,7 @@ joined_numbers (n ∷ m ∷ names) = ap (λ (l : List ℕ). decimal n ++ 44 ∷ 
 
 name_small : (n : ℕ) → is_name n ≡ true → (1 ≤ n) × (n < 2 ^ 64)
 name_small n h =
-    let t = both_true (nat_le 1 n) (nat_le n 4294967295) h in
+    let t = and_parts (nat_le 1 n) (nat_le n 4294967295) h in
     let low : 1 ≤ n = grind (arith, nat_tests, t.0) in
     let high : n ≤ 4294967295 = grind (arith, nat_tests, t.1) in
     (low, omega (arith, high))
@@ -75,7 +75,7 @@ name_read part n h = by_number (natural_of part) refl h
     by_number : (o : Option ℕ) → natural_of part ≡ o → option_filter is_name o ≡ Some n → (decimal n ≡ part) × (is_name n ≡ true)
     by_number None e g = absurd (cc)
     by_number (Some m) e g =
-        let k = guarded (is_name m) m n g in
+        let k = cond_some (is_name m) m n g in
         let small = name_small m k.0 in
         (subst (λ i. decimal i ≡ part) k.1 (decimal-natural_of part m e small.1), subst (λ i. is_name i ≡ true) k.1 k.0)
 
@@ -117,7 +117,7 @@ clearing_read bytes e h = by_names (names_spelled (parts_of 44 bytes)) refl h
 pub uncut : (separator : ℕ) (w text first : List ℕ) (more : List (List ℕ)) → list_all (λ b. not (b == separator)) w ≡ true → parts_of separator text ≡ first ∷ more → parts_of separator (w ++ text) ≡ (w ++ first) ∷ more
 uncut separator [] text first more h e = e
 uncut separator (c ∷ w) text first more h e =
-    let b = both_true (not (c == separator)) (list_all (λ b. not (b == separator)) w) h in
+    let b = and_parts (not (c == separator)) (list_all (λ b. not (b == separator)) w) h in
     let no : (c == separator) ≡ false = is_false (c == separator) b.0 in
     rw (no, uncut separator w text first more b.1 e) refl
   where
@@ -128,7 +128,7 @@ uncut separator (c ∷ w) text first more h e =
 apart_from : (separator : ℕ) → separator < 48 → (ds : List ℕ) → list_all is_ascii_digit ds ≡ true → list_all (λ b. not (b == separator)) ds ≡ true
 apart_from separator low [] h = refl
 apart_from separator low (d ∷ ds) h =
-    let b = both_true (is_ascii_digit d) (list_all is_ascii_digit ds) h in
+    let b = and_parts (is_ascii_digit d) (list_all is_ascii_digit ds) h in
     let differs : (d == separator) ≡ false = grind (arith, nat_tests, b.0, low) in
     rw (differs, apart_from separator low ds b.1) refl
 
@@ -138,9 +138,9 @@ decimal_apart separator n low small =
 
 pub numbers_apart : (separator : ℕ) (names : List ℕ) → separator < 44 → list_all is_name names ≡ true → list_all (λ b. not (b == separator)) (numbers_text names) ≡ true
 numbers_apart separator [] low h = refl
-numbers_apart separator (n ∷ []) low h = decimal_apart separator n (omega (arith, low)) (name_small n (both_true (is_name n) true h).0).1
+numbers_apart separator (n ∷ []) low h = decimal_apart separator n (omega (arith, low)) (name_small n (and_parts (is_name n) true h).0).1
 numbers_apart separator (n ∷ m ∷ names) low h =
-    let b = both_true (is_name n) (list_all is_name (m ∷ names)) h in
+    let b = and_parts (is_name n) (list_all is_name (m ∷ names)) h in
     let comma : (44 == separator) ≡ false = grind (arith, nat_tests, low) in
     list_all-append (λ b. not (b == separator)) (decimal n) (44 ∷ numbers_text (m ∷ names))
     ∙ rw (decimal_apart separator n (omega (arith, low)) (name_small n b.0).1, comma, numbers_apart separator (m ∷ names) low b.1) refl
@@ -148,10 +148,10 @@ numbers_apart separator (n ∷ m ∷ names) low h =
 parts_numbers : (n : ℕ) (names : List ℕ) → list_all is_name (n ∷ names) ≡ true → parts_of 44 (numbers_text (n ∷ names)) ≡ map decimal (n ∷ names)
 parts_numbers n [] h =
     ap (parts_of 44) (sym (append-nil (decimal n)))
-    ∙ uncut 44 (decimal n) [] [] [] (decimal_apart 44 n (omega arith) (name_small n (both_true (is_name n) true h).0).1) refl
+    ∙ uncut 44 (decimal n) [] [] [] (decimal_apart 44 n (omega arith) (name_small n (and_parts (is_name n) true h).0).1) refl
     ∙ ap (λ (p : List ℕ). p ∷ []) (append-nil (decimal n))
 parts_numbers n (m ∷ names) h =
-    let b = both_true (is_name n) (list_all is_name (m ∷ names)) h in
+    let b = and_parts (is_name n) (list_all is_name (m ∷ names)) h in
     uncut 44 (decimal n) (44 ∷ numbers_text (m ∷ names)) [] (map decimal (m ∷ names)) (decimal_apart 44 n (omega arith) (name_small n b.0).1) (ap (λ (ps : List (List ℕ)). [] ∷ ps) (parts_numbers m names b.1))
     ∙ ap (λ (p : List ℕ). p ∷ map decimal (m ∷ names)) (append-nil (decimal n))
 
@@ -161,7 +161,7 @@ name_again n h = let small = name_small n h in ap (option_filter is_name) (natur
 names_again : (names : List ℕ) → list_all is_name names ≡ true → names_spelled (map decimal names) ≡ Some names
 names_again [] h = refl
 names_again (n ∷ names) h =
-    let b = both_true (is_name n) (list_all is_name names) h in
+    let b = and_parts (is_name n) (list_all is_name names) h in
     ap (λ o. with_word o (names_spelled (map decimal names))) (name_again n b.0) ∙ ap (with_word (Some n)) (names_again names b.1)
 
 pub clearing_again : (names : List ℕ) → are_rising names ≡ true → list_all is_name names ≡ true → clearing_named (numbers_text names) ≡ Some (Clearing names)

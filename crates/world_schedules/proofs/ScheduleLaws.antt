@@ -6,12 +6,13 @@ use Rattle.std.specs.List.{list_all}
 use Rattle.std.specs.Char.{is_ascii_digit}
 use Rattle.std.specs.Str.{all_ascii_digits}
 use Rattle.std.specs.Str.Parse.{digits_value}
-use Rattle.std.proofs.lemmas.Bool.{and_from}
+use Rattle.std.proofs.lemmas.Bool.{and_from, and_parts}
 use Rattle.std.proofs.lemmas.Bool.Decides.{nat_tests}
 use Rattle.std.proofs.lemmas.Fmt.{decimal_digit, decimal-digits_value}
 use Rattle.std.proofs.lemmas.List.{length-append, length-replicate}
 use Rattle.std.proofs.lemmas.List.Concat.{flat_map-cons}
 use Rattle.std.proofs.lemmas.List.Sums.{sum_by-cons}
+use Rattle.std.proofs.lemmas.Option.{cond_some}
 use Rattle.std.proofs.lemmas.Str.Parse.{numerals_by_value, tells_all_ascii_digits}
 use Rattle.base.specs.Bytes.{is_some_byte}
 use Rattle.semantics.specs.declared.schedule.ScheduleWord.{ScheduleWord}
@@ -22,13 +23,9 @@ use Rattle.world_schedules.specs.Split.{parts_of}
 use Rattle.world_schedules.specs.ReadingSchedules.{named_turn, named_word, repetition, repetition_of, is_known_turn, repeated_words, schedule_of}
 use Rattle.world_schedules.specs.ReadingWords.{with_word, formed_words, text_words}
 use Rattle.world_schedules.specs.ScheduleText.{turn_text, schedule_word, words_meant, is_turn, is_count, IsScheduleText}
-use Rattle.world_schedules.proofs.WordLaws.{words_of-parts, all_parts, and_then_ok, both_true, are_words}
+use Rattle.world_schedules.proofs.WordLaws.{words_of-parts, all_parts, and_then_ok, are_words}
 
 -- ---- options
-
-pub guarded : {A : Type 0} (b : Bool) (x y : A) → cond b (Some x) None ≡ Some y → (b ≡ true) × (x ≡ y)
-guarded true x y h = (refl, cc)
-guarded false x y h = absurd (cc)
 
 pub guarded_option : {A : Type 0} (b : Bool) (o : Option A) (y : A) → cond b o None ≡ Some y → (b ≡ true) × (o ≡ Some y)
 guarded_option true o y h = (refl, h)
@@ -51,7 +48,7 @@ all_digits (c ∷ cs) = ap (λ b. is_ascii_digit c && b) (all_digits cs)
 
 digits_are : (ds : List ℕ) (n : ℕ) → digits_number ds ≡ Some n → 0 < length ds → (get_or ds 0 0 ≡ 48 → length ds ≡ 1) → n < 2 ^ 64 → decimal n ≡ ds
 digits_are ds n h some short small =
-    let g = guarded (list_all is_ascii_digit ds) (digits_value 10 ds) n h in
+    let g = cond_some (list_all is_ascii_digit ds) (digits_value 10 ds) n h in
     ap decimal (sym g.1) ∙ decimal-digits_value (numerals_by_value (λ ds. all_ascii_digits ds ≡ true) tells_all_ascii_digits) ds (all_digits ds ∙ g.0) some short (subst (λ m. m < 2 ^ 64) (sym g.1) small)
 
 not_zero : (d e : ℕ) (ds : List ℕ) (n : ℕ) → natural_of (d ∷ e ∷ ds) ≡ Some n → (digits_number (d ∷ e ∷ ds) ≡ Some n) × (d ≡ 48 → ⊥)
@@ -76,14 +73,14 @@ pub record IsWord (name : ℕ) (word : ScheduleWord) : Type 0 where
 
 -- what is known of such a word is what may stand in a schedule
 pub known_is : (threads : ℕ) (word : ScheduleWord) → is_turn 8 word ≡ true → is_known_turn threads word ≡ is_turn threads word
-known_is threads (Turn k) h = ap (λ b. b && nat_le k threads) (sym (both_true (nat_le 1 k) (nat_le k 8) h).0)
+known_is threads (Turn k) h = ap (λ b. b && nat_le k threads) (sym (and_parts (nat_le 1 k) (nat_le k 8) h).0)
 known_is threads Collect h = refl
 known_is threads Slice h = refl
 
 turn_read : (name : ℕ) (word : ScheduleWord) → named_turn name ≡ Some word → IsWord name word
 turn_read name word h =
-    let g = guarded (nat_le 49 name && nat_le name 56) (Turn (name - 48)) word h in
-    let t = both_true (nat_le 49 name) (nat_le name 56) g.0 in
+    let g = cond_some (nat_le 49 name && nat_le name 56) (Turn (name - 48)) word h in
+    let t = and_parts (nat_le 49 name) (nat_le name 56) g.0 in
     let low : 49 ≤ name = grind (arith, nat_tests, t.0) in
     let high : name ≤ 56 = grind (arith, nat_tests, t.1) in
     let digit : 48 + (name - 48) ≡ name = omega (arith, low) in
@@ -127,8 +124,8 @@ repetition_read (name ∷ star ∷ digits) r h =
     let g = guarded_option (star == 42) (option_and_then (λ word. option_and_then (λ times. repetition times word) (natural_of digits)) (named_word name)) r h in
     let w = some_then (λ word. option_and_then (λ times. repetition times word) (natural_of digits)) (named_word name) r g.1 in
     let n = some_then (λ times. repetition times w.0) (natural_of digits) r w.2 in
-    let k = guarded (nat_le 1 n.0 && nat_le n.0 1000000) (record { word = w.0; times = n.0 }) r n.2 in
-    let within = both_true (nat_le 1 n.0) (nat_le n.0 1000000) k.0 in
+    let k = cond_some (nat_le 1 n.0 && nat_le n.0 1000000) (record { word = w.0; times = n.0 }) r n.2 in
+    let within = and_parts (nat_le 1 n.0) (nat_le n.0 1000000) k.0 in
     let high : n.0 ≤ 1000000 = grind (arith, nat_tests, within.1) in
     let t = word_read name w.0 w.1 in
     let mark : star ≡ 42 = grind (arith, nat_tests, g.0) in
@@ -156,7 +153,7 @@ repetitions_read ((c ∷ cs) ∷ parts) rs h =
       spelled = ap (λ (b : List ℕ). b ∷ filter is_some_byte parts) first.spelled ∙ ap (λ (bs : List (List ℕ)). schedule_word (w.0.word, first.times) ∷ bs) a.spelled;
       meant = flat_map-cons words_meant (w.0.word, first.times) a.words ∙ ap (λ (s : List ScheduleWord). s ++ flat_map words_meant a.words) first.meant ∙ ap (λ (s : List ScheduleWord). repeated_words w.0 ++ s) a.meant ∙ sym (flat_map-cons repeated_words w.0 w.1);
       counted = λ threads k.
-          let both = both_true (is_known_turn threads w.0.word) (list_all (λ (r : Repetition). is_known_turn threads r.word) w.1) k in
+          let both = and_parts (is_known_turn threads w.0.word) (list_all (λ (r : Repetition). is_known_turn threads r.word) w.1) k in
           and_from (is_turn threads w.0.word && is_count first.times) (list_all (λ (v : ScheduleWord × Option ℕ). is_turn threads v.0 && is_count v.1) a.words)
           (and_from (is_turn threads w.0.word) (is_count first.times) (sym (known_is threads w.0.word first.allowed) ∙ both.0) first.counted) (a.counted threads both.1);
     })

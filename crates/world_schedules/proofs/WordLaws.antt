@@ -2,7 +2,7 @@
 use Rattle.std.proofs.Common.{◌≡◌, ℕ, ◌+◌, ◌≤◌, Bool, true, false, cond, List, [], ◌∷◌, ◌++◌, Option, Some, None, Result, Ok, Err, refl, sym, ap, ◌∙◌, subst, arith, sum_by}
 use Rattle.std.specs.Prelude.{filter, flat_map, ◌==◌, ◌||◌, ◌&&◌, nat_le}
 use Rattle.std.specs.List.{list_all}
-use Rattle.std.proofs.lemmas.Bool.{and_from}
+use Rattle.std.proofs.lemmas.Bool.{and_from, and_parts}
 use Rattle.std.proofs.lemmas.Bool.Decides.{nat_tests}
 use Rattle.std.proofs.lemmas.List.Concat.{flat_map-cons}
 use Rattle.std.proofs.lemmas.List.Folds.{list_all-append}
@@ -135,7 +135,7 @@ module _ {W : Type 0} (known : W → Bool) (times apart : W → ℕ) (number cou
   allowed_ok (Some x) ws h =
       let g = guarded (list_all known x) x ws (cond (nat_le (count + sum_by times x) 1000000 && nat_le (others + sum_by apart x) 1000000) (Ok x) (refused Limit number)) (record { rule = Name; line = number }) h in
       let k = guarded (nat_le (count + sum_by times x) 1000000 && nat_le (others + sum_by apart x) 1000000) x ws (Ok x) (record { rule = Limit; line = number }) g.1 in
-      let both = both_true (nat_le (count + sum_by times x) 1000000) (nat_le (others + sum_by apart x) 1000000) k.0 in
+      let both = and_parts (nat_le (count + sum_by times x) 1000000) (nat_le (others + sum_by apart x) 1000000) k.0 in
       let same : x ≡ ws = cc (k.1) in
       let few : count + sum_by times x ≤ 1000000 = grind (arith, nat_tests, both.0) in
       let few_others : others + sum_by apart x ≤ 1000000 = grind (arith, nat_tests, both.1) in
@@ -184,7 +184,7 @@ module _ {W : Type 0} (spelled : List ℕ → Option W) (known : W → Bool) (ti
       let t = two_parts (formed_words spelled (parts_of 32 line)) (formed_words spelled (flat_map (parts_of 32) lines)) ws (sym (formed_line line lines) ∙ h.formed) in
       let x = t.0 in
       let y = t.1 in
-      let known_both = both_true (list_all known x) (list_all known y) (sym (list_all-append known x y) ∙ ap (list_all known) (sym t.4) ∙ h.all_known) in
+      let known_both = and_parts (list_all known x) (list_all known y) (sym (list_all-append known x y) ∙ ap (list_all known) (sym t.4) ∙ h.all_known) in
       let sums : sum_by times ws ≡ sum_by times x + sum_by times y = ap (sum_by times) t.4 ∙ sum_by-append times x y in
       let aparts : sum_by apart ws ≡ sum_by apart x + sum_by apart y = ap (sum_by apart) t.4 ∙ sum_by-append apart x y in
       let line_is = ok_allowed known times apart number count others (formed_words spelled (parts_of 32 line)) x t.2 known_both.0 (omega (arith, sums, h.few)) (omega (arith, aparts, h.few_others)) in
