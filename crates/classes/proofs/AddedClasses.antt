@@ -5,13 +5,14 @@ use Rattle.std.specs.Option.{option_map}
 use Rattle.std.specs.List.{prefix_len}
 use Rattle.std.specs.Str.{bytes_eq}
 use Rattle.std.proofs.lemmas.Bool.Decides.{nat_tests}
+use Rattle.std.proofs.lemmas.Slice.Eq.{bytes_eq-Decides}
 use Rattle.base.specs.Bytes.{Identifier}
 use Rattle.class_rules.specs.Class.{ArrayOfObjects, Class, Classes, class_named, array_name}
 use Rattle.class_rules.specs.BuiltIns.{array_class, object_array_class}
 use Rattle.class_rules.specs.Additions.{ClassRule, NameTaken, new_class, with_class}
 use Rattle.class_rules.specs.Mangling.{is_class_name}
 use Rattle.classes.specs.Tables.{ArraysHaveElements}
-use Rattle.classes.proofs.ArrayNames.{same_name, is_same, element_name, no_array, cases, either-append, first_of_both, second_of_both}
+use Rattle.classes.proofs.ArrayNames.{is_same, element_name, no_array, cases, either-append, first_of_both, second_of_both}
 use Rattle.classes.proofs.DistinctNames.{has_name, unnamed}
 use Rattle.classes.proofs.Places.{named-other}
 
@@ -29,7 +30,7 @@ not_its_arrays name = by_test (bytes_eq name (array_name name)) refl
   where
     by_test : (b : Bool) → bytes_eq name (array_name name) ≡ b → b ≡ false
     by_test true e =
-        let longer : length name ≡ length (array_name name) = ap length (same_name name (array_name name) e) in
+        let longer : length name ≡ length (array_name name) = ap length ((bytes_eq-Decides name (array_name name)).0 e) in
         absurd (omega (arith, longer, length-append name (59 ∷ [])))
     by_test false e = refl
 
@@ -96,6 +97,6 @@ added-elements T name s is elements other h =
     (λ q. cases (bytes_eq name (array_name other)) (bytes_eq (array_name name) (array_name other) || false) q
     (λ r. absurd (no_array name other is r))
     (λ r. cases (bytes_eq (array_name name) (array_name other)) false r
-    (λ t. let same : bytes_eq name other ≡ true = is_same name other (element_name name other (same_name (array_name name) (array_name other) t)) in
+    (λ t. let same : bytes_eq name other ≡ true = is_same name other (element_name name other ((bytes_eq-Decides (array_name name) (array_name other)).0 t)) in
     second_of_both T two other (ap (λ b. b || (bytes_eq (array_name name) other || false)) same))
     (λ t. absurd (cc))))

@@ -17,9 +17,6 @@ use Rattle.classes.specs.Tables.{ArraysHaveElements}
 use Rattle.classes.proofs.DistinctNames.{has_name}
 use Rattle.class_rules.proofs.MangledNames.{array_name-no_class}
 
-pub same_name : (a b : Identifier) → bytes_eq a b ≡ true → a ≡ b
-same_name a b h = (bytes_eq-Decides a b).0 h
-
 pub is_same : (a b : Identifier) → a ≡ b → bytes_eq a b ≡ true
 is_same a b e = (bytes_eq-Decides a b).1 e
 
@@ -36,7 +33,7 @@ cases false b h f g = g h
 -- a class name is no array's
 pub no_array : (name element : Identifier) → is_class_name name ≡ true → bytes_eq name (array_name element) ≡ true → ⊥
 no_array name element is h =
-    let e = same_name name (array_name element) h in
+    let e = (bytes_eq-Decides name (array_name element)).0 h in
     let no : is_class_name name ≡ false = ap is_class_name e ∙ array_name-no_class element in
     absurd (cc)
 
@@ -52,7 +49,7 @@ element-there : (n : ℕ) (P : Classes) (name : Identifier) → has_name (map ob
 element-there n [] name h = h
 element-there n (c ∷ P) name h =
     cases (bytes_eq (array_name c.name) (array_name name)) (has_name (map object_array_class (enumerate_from (n + 1) P)) (array_name name)) h
-    (λ q. ap (λ b. b || has_name P name) (is_same c.name name (element_name c.name name (same_name (array_name c.name) (array_name name) q))))
+    (λ q. ap (λ b. b || has_name P name) (is_same c.name name (element_name c.name name ((bytes_eq-Decides (array_name c.name) (array_name name)).0 q))))
     (λ q. or_right (bytes_eq c.name name) (has_name P name) (element-there (n + 1) P name q))
 
 pub either-append : (T U : Classes) (name : Identifier) → has_name (T ++ U) name ≡ (has_name T name || has_name U name)

@@ -9,7 +9,7 @@ use Rattle.std.proofs.lemmas.Cmp.{nat_list_eq_equiv}
 use Rattle.std.proofs.lemmas.List.{length-map}
 use Rattle.std.proofs.lemmas.List.Folds.{prefix_len-append}
 use Rattle.std.proofs.lemmas.Option.{slice_get_within}
-use Rattle.std.proofs.lemmas.Bool.{and_parts, or_parts, not-true}
+use Rattle.std.proofs.lemmas.Bool.{and_parts, or_parts, not-true, ne_eqb, eq-eqb}
 use Rattle.base.specs.Bytes.{Identifier}
 use Rattle.class_rules.specs.Class.{Field, Class, Classes, class_at, superclass, above, ancestry_within, is_subclass}
 use Rattle.class_rules.specs.Fields.{FieldId, own_fields, own_statics, layout, same_field}
@@ -29,12 +29,6 @@ before f fields = prefix_len (λ (g : FieldId). not (same_field f g)) fields
 
 -- ---- one class
 
-same_number : (n : ℕ) → (n == n) ≡ true
-same_number n = grind (arith, nat_tests)
-
-other_number : (n m : ℕ) → n ≢ m → (n == m) ≡ false
-other_number n m h = grind (arith, nat_tests)
-
 -- a field of another name
 other_name : (fields : List Field) (i : ℕ) (d : Field) (name : Identifier) → has_field fields name ≡ false → slice_get fields i ≡ Some d → bytes_eq d.name name ≡ false
 other_name [] i d name h at = absurd (cc)
@@ -47,11 +41,11 @@ module _ (s : Bool) (c : ℕ) (d : Field) where
   own_place [] i h at = absurd (cc)
   own_place (x ∷ fields) zero h at =
       let is : x ≡ d = cc in
-      let same : same_field (identified s c d) (identified s c x) ≡ true = (λ k. same_number c k && bytes_eq d.name (is k).name) ∙ nat_list_eq_equiv.refl d.name in
+      let same : same_field (identified s c d) (identified s c x) ≡ true = (λ k. eq-eqb c c refl k && bytes_eq d.name (is k).name) ∙ nat_list_eq_equiv.refl d.name in
       ap (λ b. cond (not b) (1 + before (identified s c d) (map (identified s c) fields)) 0) same
   own_place (x ∷ fields) (suc i) h at =
       let p = and_parts (not (has_field fields x.name)) (field_names_differ fields) h in
-      let other : same_field (identified s c d) (identified s c x) ≡ false = (λ k. same_number c k && bytes_eq d.name x.name) ∙ other_name fields i d x.name (not-true (has_field fields x.name) p.0) at in
+      let other : same_field (identified s c d) (identified s c x) ≡ false = (λ k. eq-eqb c c refl k && bytes_eq d.name x.name) ∙ other_name fields i d x.name (not-true (has_field fields x.name) p.0) at in
       let rest = own_place fields i p.1 at in
       let more : 1 + before (identified s c d) (map (identified s c) fields) ≡ suc i = omega (arith, rest) in
       ap (λ b. cond (not b) (1 + before (identified s c d) (map (identified s c) fields)) 0) other ∙ more
@@ -60,7 +54,7 @@ module _ (s : Bool) (c : ℕ) (d : Field) where
   pub misses_own : (e : ℕ) (fields : List Field) → c ≢ e → before (identified s c d) (map (identified s e) fields) ≡ length (map (identified s e) fields)
   misses_own e [] h = refl
   misses_own e (x ∷ fields) h =
-      let other : same_field (identified s c d) (identified s e x) ≡ false = ap (λ b. b && bytes_eq d.name x.name) (other_number c e h) in
+      let other : same_field (identified s c d) (identified s e x) ≡ false = ap (λ b. b && bytes_eq d.name x.name) (ne_eqb c e h) in
       let rest = misses_own e fields h in
       let more : 1 + before (identified s c d) (map (identified s e) fields) ≡ length (map (identified s e) (x ∷ fields)) = omega (arith, rest) in
       ap (λ b. cond (not b) (1 + before (identified s c d) (map (identified s e) fields)) 0) other ∙ more
@@ -90,7 +84,7 @@ module _ (T : Classes) (o : IsOrdered T) where
   -- a class isn't above one before it
   pub none_above : (n d c : ℕ) → d < c → is_among n T d c ≡ false
   none_above zero d c h = refl
-  none_above (suc n) d c h = ap (λ b. b || list_any (λ x. x == c) (above (ancestry_within n T) (superclass T d))) (other_number d c (λ e. absurd (omega (arith, e, h)))) ∙ by_super (superclass T d) refl (λ s. none_above n s c)
+  none_above (suc n) d c h = ap (λ b. b || list_any (λ x. x == c) (above (ancestry_within n T) (superclass T d))) (ne_eqb d c (λ e. absurd (omega (arith, e, h)))) ∙ by_super (superclass T d) refl (λ s. none_above n s c)
     where
       by_super : (k : Option ℕ) → superclass T d ≡ k → ((s : ℕ) → s < c → is_among n T s c ≡ false) → list_any (λ x. x == c) (above (ancestry_within n T) k) ≡ false
       by_super None e up = refl

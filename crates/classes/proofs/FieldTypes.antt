@@ -4,6 +4,7 @@ use Rattle.std.specs.Prelude.{◌&&◌, ◌||◌, ◌==◌}
 use Rattle.std.specs.Option.{option_map, option_map_or}
 use Rattle.std.specs.List.{list_all, enumerate_from, position_from}
 use Rattle.std.specs.Str.{bytes_eq}
+use Rattle.std.proofs.Math.Bool.{and-true}
 use Rattle.std.proofs.lemmas.Bool.Decides.{nat_tests}
 use Rattle.std.proofs.lemmas.Iterator.Adapters.{position_from-zero}
 use Rattle.std.proofs.lemmas.Slice.Eq.{bytes_eq-Decides}
@@ -119,12 +120,8 @@ bracketed : (name rest : List ℕ) → first_passes (λ b. b == 91) name ≡ tru
 bracketed [] rest h = refl
 bracketed (b ∷ bs) rest h = let other : (b == 76) ≡ false = grind (arith, nat_tests) in ap (λ t. t && bytes_eq bs rest) other
 
-and_true : (b : Bool) → (b && true) ≡ b
-and_true true = refl
-and_true false = refl
-
 by-class : (kind : ClassKind) (name of : List ℕ) → (is_plain kind || first_passes (λ b. b == 91) name) ≡ true → bytes_eq (reference_signature kind name) (76 ∷ (of ++ 59 ∷ [])) ≡ (is_plain kind && bytes_eq name of)
-by-class Plain name of h = same_last name of 59 59 ∙ and_true (bytes_eq name of)
+by-class Plain name of h = same_last name of 59 59 ∙ and-true (bytes_eq name of)
 by-class (ArrayOfNumbers t) name of h = bracketed name (of ++ 59 ∷ []) h
 by-class (ArrayOfObjects c) name of h = bracketed name (of ++ 59 ∷ []) h
 

@@ -6,6 +6,7 @@ use Rattle.std.specs.List.{list_any, list_all, position_from}
 use Rattle.std.specs.Map.{keys_of, lookup}
 use Rattle.std.specs.Global.{Vec}
 use Rattle.std.specs.Str.{bytes_eq}
+use Rattle.std.proofs.Math.Seq.{split_at}
 use Rattle.std.proofs.lemmas.Cmp.{nat_list_eq_equiv}
 use Rattle.std.proofs.lemmas.Slice.Eq.{bytes_eq-Decides}
 use Rattle.std.proofs.lemmas.Bool.{and_parts, or_parts, not-true}
@@ -22,9 +23,6 @@ use Rattle.classes.proofs.Places.{same_bytes}
 -- one of the fields has the name
 abbrev pub has_field : List Field → Identifier → Bool
 has_field fields name = list_any (λ (f : Field). bytes_eq f.name name) fields
-
-itself : (name : Identifier) → bytes_eq name name ≡ true
-itself name = nat_list_eq_equiv.refl name
 
 -- the test whether a key is the name
 abbrev pub is_key : Identifier → Vec ℕ → Bool
@@ -92,7 +90,7 @@ module _ (T : Classes) (name : Identifier) (text : List ℕ) where
       let p = and_parts (not (has_field fs x.name)) (field_names_differ fs) differ in
       let none = found_nowhere fs (ap (has_field fs) (sym named ∙ ap (λ (y : Field). y.name) (sym is)) ∙ not-true (has_field fs x.name) p.0) in
       ap (λ (y : Field). cond (fits T name text y) (Some y) (find (fits T name text) fs)) is
-      ∙ ap (λ b. cond (b && bytes_eq (signature T f.type) text) (Some f) (find (fits T name text) fs)) (ap (λ n. bytes_eq n name) named ∙ itself name)
+      ∙ ap (λ b. cond (b && bytes_eq (signature T f.type) text) (Some f) (find (fits T name text) fs)) (ap (λ n. bytes_eq n name) named ∙ nat_list_eq_equiv.refl name)
       ∙ ap (λ o. cond (bytes_eq (signature T f.type) text) (Some f) o) none
   found_there (x ∷ fs) (suc i) f at named differ =
       let p = and_parts (not (has_field fs x.name)) (field_names_differ fs) differ in
@@ -103,7 +101,7 @@ module _ (T : Classes) (name : Identifier) (text : List ℕ) where
       by_test false e new = refl
       by_test true e new =
           let is : x.name ≡ name = (bytes_eq-Decides x.name name).0 e in
-          let there : has_field fs x.name ≡ true = has_it x.name fs i f at (ap (λ n. bytes_eq n x.name) (named ∙ sym is) ∙ itself x.name) in
+          let there : has_field fs x.name ≡ true = has_it x.name fs i f at (ap (λ n. bytes_eq n x.name) (named ∙ sym is) ∙ nat_list_eq_equiv.refl x.name) in
           absurd (cc)
 
 -- ---- what the classes of a table declare
@@ -128,11 +126,6 @@ declared_differ T (suc i) s h = by_class (slice_get T i) refl
 
 -- ---- fields that are put one by one
 
-parts : (L : List Field) (i : ℕ) (d : Field) → i < length L → L ≡ take i L ++ get_or L i d ∷ drop (suc i) L
-parts [] i d below = absurd (omega (arith, below))
-parts (x ∷ L) zero d below = refl
-parts (x ∷ L) (suc i) d below = ap (λ l. x ∷ l) (parts L i d (omega (arith, below)))
-
 -- a field after others has another name than they
 other_field : (U : List Field) (f : Field) (R : List Field) → field_names_differ (U ++ f ∷ R) ≡ true → has_field U f.name ≡ false
 other_field [] f R h = refl
@@ -147,4 +140,4 @@ other_field (u ∷ U) f R h =
 
 -- the next of the list has a name that none before it has
 pub next_field : (L : List Field) (i : ℕ) (d : Field) → i < length L → field_names_differ L ≡ true → has_field (take i L) (get_or L i d).name ≡ false
-next_field L i d below h = other_field (take i L) (get_or L i d) (drop (suc i) L) (sym (ap field_names_differ (parts L i d below)) ∙ h)
+next_field L i d below h = other_field (take i L) (get_or L i d) (drop (suc i) L) (sym (ap field_names_differ (split_at L i d below)) ∙ h)
