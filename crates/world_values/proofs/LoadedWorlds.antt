@@ -4,10 +4,8 @@ use Rattle.std.specs.Prelude.{◌&&◌, ◌==◌, nat_lt, nat_le, slice_get, pos
 use Rattle.std.specs.List.{list_all, enumerate_from, AllZip}
 use Rattle.std.specs.Option.{option_map}
 use Rattle.std.specs.Str.{bytes_eq}
-use Rattle.std.proofs.lemmas.Bool.{and_from}
+use Rattle.std.proofs.lemmas.Bool.{and_from, and_parts}
 use Rattle.std.proofs.lemmas.Bool.Decides.{nat_tests}
-use Rattle.std.proofs.lemmas.List.{length-map}
-use Rattle.std.proofs.lemmas.List.FromFn.{length-enumerate_from}
 use Rattle.std.proofs.lemmas.List.Quantifiers.{position-Some}
 use Rattle.std.proofs.lemmas.List.Sums.{sum_by-cons}
 use Rattle.std.proofs.lemmas.Option.{slice_get-map}
@@ -21,7 +19,7 @@ use Rattle.semantics.specs.Object.{ObjectValue, Number, Refers, Object, size, si
 use Rattle.semantics.specs.Reachable.{loaded_count}
 use Rattle.semantics.specs.World.{Invocation, World, initial, class_object, class_objects, fresh_object, made_before, loaded_objects, fits_cells}
 use Rattle.semantics.proofs.ShownRows.{loaded_is, length-before, length-loaded}
-use Rattle.world_schedules.proofs.WordLaws.{both_true}
+use Rattle.semantics.proofs.NoObjects.{length-class_objects}
 use Rattle.world_values.specs.CallArguments.{is_argument, are_arguments}
 use Rattle.world_values.specs.SoundWorlds.{types_by_kind, value_fits, IsObjectAfter, AreObjectsAfter, has_call, IsSound}
 use Rattle.world_values.specs.WorldRules.{is_in_range, is_between}
@@ -45,15 +43,20 @@ class_within (d ∷ T) name c h = by_place (position (λ (x : Class). bytes_eq x
 -- what passes of each passes of one
 pub passes_at : {A : Type 0} (p : A → Bool) (xs : List A) (i : ℕ) (x : A) → list_all p xs ≡ true → slice_get xs i ≡ Some x → p x ≡ true
 passes_at p [] i x h e = absurd (cc)
-passes_at p (y ∷ xs) zero x h e = let same : y ≡ x = cc in subst (λ z. p z ≡ true) same (both_true (p y) (list_all p xs) h).0
-passes_at p (y ∷ xs) (suc i) x h e = passes_at p xs i x (both_true (p y) (list_all p xs) h).1 e
+passes_at p (y ∷ xs) zero x h e = let same : y ≡ x = cc in subst (λ z. p z ≡ true) same (and_parts (p y) (list_all p xs) h).0
+passes_at p (y ∷ xs) (suc i) x h e = passes_at p xs i x (and_parts (p y) (list_all p xs) h).1 e
 
 -- ---- the objects that are made at load, in their order
 
-get_front : {A : Type 0} (xs ys : List A) (i : ℕ) (x : A) → slice_get xs i ≡ Some x → slice_get (xs ++ ys) i ≡ Some x
+pub get_front : {A : Type 0} (xs ys : List A) (i : ℕ) (x : A) → slice_get xs i ≡ Some x → slice_get (xs ++ ys) i ≡ Some x
 get_front [] ys i x h = absurd (cc)
 get_front (y ∷ xs) ys zero x h = h
 get_front (y ∷ xs) ys (suc i) x h = get_front xs ys i x h
+
+pub map_get : {A B : Type 0} (g : A → B) (xs : List A) (i : ℕ) (y : B) → slice_get (map g xs) i ≡ Some y → (x : A) × (slice_get xs i ≡ Some x) × (g x ≡ y)
+map_get g [] i y h = absurd (cc)
+map_get g (x ∷ xs) zero y h = (x, refl, cc)
+map_get g (x ∷ xs) (suc i) y h = map_get g xs i y h
 
 get_after : {A : Type 0} (first rest : List A) (i j : ℕ) → i ≡ length first + j → slice_get (first ++ rest) i ≡ slice_get rest j
 get_after [] rest i j e = let same : i ≡ j = omega arith in ap (slice_get rest) same
@@ -78,12 +81,9 @@ loaded_class w i h =
     ∙ ap (option_map (λ (c : ℕ × Class). class_object w.classes c.0)) class.1
     ∙ ap (λ n. Some (class_object w.classes n)) e)
 
-class_objects_length : (classes : Classes) → length (class_objects classes) ≡ length classes
-class_objects_length classes = length-map (enumerate_from 1 classes) (λ (c : ℕ × Class). class_object classes c.0) ∙ length-enumerate_from 1 classes
-
 -- then the OutOfMemoryError object
 pub loaded_error : (w : World) → slice_get (loaded_objects w) (length w.classes) ≡ Some (fresh_object w.classes out_of_memory_error)
-loaded_error w = get_after (class_objects w.classes) (fresh_object w.classes out_of_memory_error ∷ w.objects) (length w.classes) 0 (omega (arith, class_objects_length w.classes))
+loaded_error w = get_after (class_objects w.classes) (fresh_object w.classes out_of_memory_error ∷ w.objects) (length w.classes) 0 (omega (arith, length-class_objects w.classes))
 
 -- and then the world's
 pub loaded_object : (w : World) (place j : ℕ) → place ≡ length w.classes + 1 + j → slice_get (loaded_objects w) place ≡ slice_get w.objects j
@@ -123,7 +123,7 @@ initial_given made (f ∷ fields) = and_from (is_argument made (initial f.field.
     one (NumberField t) = zero_in
     one (ReferenceField c) = refl
 
-wider : (low high l h : ℕ) (z : ℤ) → low ≤ l → high ≤ h → is_between low high z ≡ true → is_between l h z ≡ true
+pub wider : (low high l h : ℕ) (z : ℤ) → low ≤ l → high ≤ h → is_between low high z ≡ true → is_between l h z ≡ true
 wider low high l h (pos n) a b k = let k : n ≤ high = grind (arith, nat_tests, k) in grind (arith, nat_tests)
 wider low high l h (negsuc n) a b k = let k : n < low = grind (arith, nat_tests, k) in grind (arith, nat_tests)
 
@@ -140,7 +140,7 @@ value_given classes made (NumberField t) (Number z) h = number_in_range t z h
 value_given classes made (NumberField t) (Refers r) h = absurd (cc)
 value_given classes made (ReferenceField c) (Number z) h = absurd (cc)
 value_given classes made (ReferenceField c) (Refers None) h = refl
-value_given classes made (ReferenceField c) (Refers (Some n)) h = (both_true (nat_lt 0 n && nat_le n (length made)) (is_instance classes made n c) h).0
+value_given classes made (ReferenceField c) (Refers (Some n)) h = (and_parts (nat_lt 0 n && nat_le n (length made)) (is_instance classes made n c) h).0
 
 values_given : (classes : Classes) (made : Heap) (ts : List FieldType) (vs : List ObjectValue) → AllZip (λ t v. IsTrue (value_fits classes made t v)) ts vs → list_all (is_argument (length made)) vs ≡ true
 values_given classes made [] [] h = refl
