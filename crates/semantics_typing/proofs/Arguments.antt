@@ -3,6 +3,7 @@ use Rattle.std.proofs.Common.{◌≡◌, ℕ, ℤ, zero, suc, Bool, true, false,
 use Rattle.std.specs.Prelude.{slice_get, is_some, ◌&&◌, ◌==◌}
 use Rattle.std.specs.List.{list_any, AllByRecursion}
 use Rattle.std.specs.Str.{bytes_eq}
+use Rattle.std.proofs.lemmas.Bool.{not-false}
 use Rattle.std.proofs.lemmas.Bool.Decides.{nat_tests}
 use Rattle.base.specs.Bytes.{Identifier, lookup}
 use Rattle.base.specs.Element.{ElementType}
@@ -41,7 +42,7 @@ all_fail false false true d u v w x further h = absurd (cc)
 all_fail false false false true u v w x further h = absurd (cc)
 all_fail false false false false u v w x further h = (refl, refl, refl)
 
-or_fails : (a b : Bool) → (a || not b) ≡ false → (a ≡ false) × (b ≡ true)
+pub or_fails : (a b : Bool) → (a || not b) ≡ false → (a ≡ false) × (b ≡ true)
 or_fails true b h = absurd (cc)
 or_fails false true h = (refl, refl)
 or_fails false false h = absurd (cc)
@@ -91,16 +92,12 @@ IsObjectKind StringObject = Unit {0}
 IsObjectKind (NumberArray t) = Unit {0}
 IsObjectKind kind = ⊥
 
-equal_if : (n m : ℕ) → not (n == m) ≡ false → n ≡ m
+pub equal_if : (n m : ℕ) → not (n == m) ≡ false → n ≡ m
 equal_if n m h = by_test (n == m) refl h
   where
     by_test : (b : Bool) → (n == m) ≡ b → not b ≡ false → n ≡ m
     by_test true e h = grind (arith, nat_tests, e)
     by_test false e h = absurd (cc)
-
-true_if : (b : Bool) → not b ≡ false → b ≡ true
-true_if true h = refl
-true_if false h = absurd (cc)
 
 -- what an argument can be
 abbrev IsArgument : StaticReference → Type 0
@@ -132,7 +129,7 @@ module _ (classes : Classes) (heap : Heap) (vs : Variables) where
   object_known StringObject of x Empty arg d m f = absurd (cc)
   object_known (NumberArray t) of x Empty arg d m f = absurd (cc)
   object_known ClassObject of x (Live n) arg d m f = equal_if (class_of heap n) class_class f
-  object_known ObjectArray of x (Live n) arg d m f = true_if (is_object_array (class_kind classes (class_of heap n))) f
+  object_known ObjectArray of x (Live n) arg d m f = not-false (is_object_array (class_kind classes (class_of heap n))) f
   object_known StringObject of x (Live n) arg d m f = equal_if (class_of heap n) string_class f
   object_known (NumberArray t) of x (Live n) arg d m f = equal_if (class_of heap n) (number_array t) f
   object_known kind of x (Weakly n) arg d m f = absurd arg

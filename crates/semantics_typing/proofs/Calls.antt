@@ -3,8 +3,7 @@ use Rattle.std.proofs.Common.{◌≡◌, ◌≢◌, inl, inr, ℕ, ℤ, zero, su
 use Rattle.std.specs.Prelude.{slice_get, IsTrue, ◌==◌, not, nat_lt, nat_le}
 use Rattle.std.specs.Option.{option_map_or}
 use Rattle.std.specs.Str.{bytes_eq}
-use Rattle.std.proofs.lemmas.Bool.{and_parts, cond_both, not-true}
-use Rattle.std.proofs.lemmas.Bool.Decides.{nat_tests}
+use Rattle.std.proofs.lemmas.Bool.{and_parts, cond_both, not-true, eqb-true}
 use Rattle.std.proofs.lemmas.Option.{slice_get_within}
 use lib.ListN.{length-set}
 use Rattle.std.proofs.lemmas.List.{append-nil, length-take-le, length-drop}
@@ -21,6 +20,7 @@ use Rattle.jni.specs.JniFunction as jni
 use Rattle.jni.specs.JniFunction.{JniFunction, parameters_for, prototype}
 use Rattle.jni.specs.Prototype.{ParameterKind, ClassObject, ObjectArray, StringObject, NumberArray, FieldID, TextBytes, ArrayVariable, ResultKind}
 use Rattle.type_rules.specs.ExprTypes.{Buffer, is_buffer_for}
+use Rattle.type_rules.proofs.TypeTests.{same_types}
 use Rattle.semantics.specs.Answer.{Answer, Region, with_region_got, with_region_set}
 use Rattle.semantics.specs.Answer as answer
 use Rattle.semantics.specs.Arguments.{Actual, reference_given, object_given, text_given, field_given, variable_given}
@@ -43,7 +43,7 @@ use Rattle.semantics_typing.specs.Objects.{ReferenceFits, ValueFits, PlaceFits, 
 use Rattle.world_values.specs.DeclaredFields.{DeclaresWell, IsDeclared}
 use Rattle.semantics_typing.specs.Texts.{IsText}
 use Rattle.semantics_typing.proofs.Arguments.{IsKnownAs, AreKnownAs, known_at, variable_typed}
-use Rattle.semantics_typing.proofs.FieldWrites.{same_type, number_type, HasPlace, holds_field, holds_static, fits_field, holds_element, stands_for, IsThrowable, throwable_is}
+use Rattle.semantics_typing.proofs.FieldWrites.{number_type, HasPlace, holds_field, holds_static, fits_field, holds_element, stands_for, IsThrowable, throwable_is}
 use Rattle.semantics_typing.proofs.Heaps.{Keeps, keeps_same, keeps_after, keeps_more, variables_later}
 use Rattle.semantics_typing.proofs.Lists.{all_append, all_take, all_drop, get_set}
 use Rattle.semantics_typing.proofs.Places.{found_field, found_static}
@@ -85,9 +85,6 @@ text_in_range [] h = tt
 text_in_range (b ∷ bytes) h = (byte_in_range b (omega (arith, h.0)), text_in_range bytes h.1)
 
 -- ---- tests
-
-equal : (n m : ℕ) → (n == m) ≡ true → n ≡ m
-equal n m h = grind (arith, nat_tests, h)
 
 -- ---- variables
 
@@ -295,18 +292,18 @@ module _ (unit : SourceUnit) (classes : Classes) (well : DeclaresWell classes) (
     -- ---- buffers
 
     same_kind : (access : Access) (e : ElementType) (writable : Bool) → access ≡ ElementsCopy e → is_buffer_for access (Some (Buffer u writable)) ≡ true → u ≡ e
-    same_kind (ElementsCopy d) e true is h = let same : d ≡ e = cc in same_type d u h ∙ same
+    same_kind (ElementsCopy d) e true is h = let same : d ≡ e = cc in same_types d u h ∙ same
     same_kind (ElementsCopy d) e false is h = absurd (cc)
     same_kind ArrayView e writable is h = absurd (cc)
     same_kind CharsCopy e writable is h = absurd (cc)
     same_kind CharsView e writable is h = absurd (cc)
 
     chars_copy : (writable : Bool) → is_buffer_for CharsCopy (Some (Buffer u writable)) ≡ true → u ≡ JChar
-    chars_copy false h = same_type JChar u h
+    chars_copy false h = same_types JChar u h
     chars_copy true h = absurd (cc)
 
     chars_view : (writable : Bool) → is_buffer_for CharsView (Some (Buffer u writable)) ≡ true → u ≡ JChar
-    chars_view false h = same_type JChar u h
+    chars_view false h = same_types JChar u h
     chars_view true h = absurd (cc)
 
     numbers_as : (e : ElementType) (n : ℕ) → u ≡ e → HasNumbers classes s.heap e n → HasNumbers classes s.heap u n
@@ -314,7 +311,7 @@ module _ (unit : SourceUnit) (classes : Classes) (well : DeclaresWell classes) (
 
     of_view : Together (jni.GetBuffer ArrayView) → class_of s.heap (object_given args 0) ≡ number_array u
     unfolding go_together
-    of_view h = equal (class_of s.heap (object_given args 0)) (number_array u) h
+    of_view h = eqb-true (class_of s.heap (object_given args 0)) (number_array u) h
 
     -- what a buffer is got of has numbers of its type
     got_numbers : (access : Access) → Known (jni.GetBuffer access) → Together (jni.GetBuffer access) → IsReady classes u t.variables (jni.GetBuffer access) args → HasNumbers classes s.heap u (object_given args 0)

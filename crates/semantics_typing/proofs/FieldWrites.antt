@@ -5,25 +5,23 @@ use Rattle.std.specs.List.{list_any}
 use Rattle.std.specs.Option.{option_map}
 use Rattle.std.proofs.lemmas.Bool.Decides.{nat_tests}
 use Rattle.std.proofs.lemmas.Option.{slice_get_within}
-use Rattle.base.specs.Element.{ElementType, JInt, JShort, JByte, JChar, same_element}
+use Rattle.base.specs.Element.{ElementType}
 use Rattle.class_rules.specs.BuiltIns.{built_ins, class_class, string_class, throwable_class, has_own_making}
 use Rattle.class_rules.specs.Class.{FieldType, NumberField, ReferenceField, ClassKind, Plain, ArrayOfNumbers, ArrayOfObjects, Class, Classes, class_at, class_kind, is_plain, is_object_array, element_class, superclass, above, ancestry_within, is_subclass, elements_fit, assignable}
 use Rattle.class_rules.specs.Fields.{FieldId, own_fields, own_statics, layout}
 use Rattle.class_rules.specs.Grown.{IsGrown}
 use Rattle.classes.proofs.Ancestry.{is_among}
 use Rattle.classes.proofs.Layouts.{layout_within, layout-above, layout-top}
+use Rattle.classes.proofs.ArrayNames.{cases}
 use Rattle.semantics.specs.Heap.{Heap, object_at, class_of, place_in, field_place, static_place, is_instance, holds_number, fits_type}
 use Rattle.semantics.specs.Object.{Refers, Reference, Object}
 use Rattle.semantics_typing.specs.Objects.{ValueFits, type_at, AreTypedObjects}
 use Rattle.world_values.specs.DeclaredFields.{DeclaresWell, IsDeclared}
-use Rattle.semantics_typing.proofs.Lists.{get_more}
+use Rattle.world_values.proofs.LoadedWorlds.{get_front}
 use Rattle.semantics_typing.proofs.TableKinds.{field_type, itself, grown_long, kind_class, kind_string, kind_throwable, super_throwable, super_string, super_root, element_low}
 use Rattle.semantics_typing.proofs.Places.{field_own, declared_class, field_placed, static_placed}
 use Rattle.semantics_typing.proofs.Writes.{there, there_if, reference_fits}
-
-or_cases : {P : Type 0} (a b : Bool) → (a || b) ≡ true → (a ≡ true → P) → (b ≡ true → P) → P
-or_cases true b h f g = f refl
-or_cases false b h f g = g h
+use Rattle.type_rules.proofs.TypeTests.{same_types}
 
 array_kind : (classes : Classes) (j k : ClassKind) → elements_fit classes j k ≡ true → is_plain k ≡ false
 array_kind classes (ArrayOfObjects c) (ArrayOfObjects d) h = refl
@@ -40,15 +38,8 @@ pub class_low : (classes : Classes) (c : ℕ) (d : Class) → class_at classes c
 class_low classes zero d h = absurd (cc)
 class_low classes (suc i) d h = omega arith
 
-pub same_type : (t u : ElementType) → same_element t u ≡ true → u ≡ t
-same_type JInt JInt h = refl
-same_type JShort JShort h = refl
-same_type JByte JByte h = refl
-same_type JChar JChar h = refl
-same_type t u h = absurd (cc)
-
 pub number_type : (t : ElementType) (type : FieldType) → holds_number t type ≡ true → type ≡ NumberField t
-number_type t (NumberField u) h = ap (λ (e : ElementType). NumberField e) (same_type t u h)
+number_type t (NumberField u) h = ap (λ (e : ElementType). NumberField e) (same_types t u h)
 number_type t (ReferenceField c) h = absurd (cc)
 
 module _ (classes : Classes) (well : DeclaresWell classes) (g : IsGrown classes) where
@@ -61,7 +52,7 @@ module _ (classes : Classes) (well : DeclaresWell classes) (g : IsGrown classes)
     has_own e = let at = field_own classes f declared kind in let none : None ≡ Some f = ap (λ (l : List FieldId). slice_get l at.0) (sym e) ∙ at.1 in cc
 
     below : (c : ℕ) → assignable classes c f.class ≡ true → is_subclass classes c f.class ≡ true
-    below c h = or_cases (is_subclass classes c f.class) (elements_fit classes (class_kind classes c) (class_kind classes f.class)) h (λ e. e)
+    below c h = cases (is_subclass classes c f.class) (elements_fit classes (class_kind classes c) (class_kind classes f.class)) h (λ e. e)
         (λ e. absurd (has_own (well.bare f.class f.class (no_plain classes f.class (array_kind classes (class_kind classes c) (class_kind classes f.class) e)) (itself classes f.class some_classes))))
 
     plainly : (c : ℕ) → assignable classes c f.class ≡ true → has_own_making classes c ≡ false
@@ -185,7 +176,7 @@ module _ (classes : Classes) (well : DeclaresWell classes) (g : IsGrown classes)
       by_class false e None top q up = absurd (let none : list_any (λ x. x == throwable_class) (above (ancestry_within n classes) None) ≡ true = ap (λ (o : Option ℕ). list_any (λ x. x == throwable_class) (above (ancestry_within n classes) o)) (sym top) ∙ q in cc)
       by_class false e (Some s) over q up =
           ap (λ (l : List FieldId). slice_get l 0) (layout-above classes c (suc n) n s (omega arith) over)
-          ∙ get_more (layout_within n classes s) (own_fields classes c) 0 message (up s (ap (λ (o : Option ℕ). list_any (λ x. x == throwable_class) (above (ancestry_within n classes) o)) (sym over) ∙ q))
+          ∙ get_front (layout_within n classes s) (own_fields classes c) 0 message (up s (ap (λ (o : Option ℕ). list_any (λ x. x == throwable_class) (above (ancestry_within n classes) o)) (sym over) ∙ q))
 
   pub record IsThrowable (c : ℕ) : Type 0 where
     pub making : has_own_making classes c ≡ false
@@ -195,7 +186,7 @@ module _ (classes : Classes) (well : DeclaresWell classes) (g : IsGrown classes)
   throwable_is c h = record { making = making; first = λ n. field_type classes n c 0 making ∙ ap (option_map (λ (f : FieldId). f.field.type)) (first_message (length classes) c under) }
     where
       under : is_subclass classes c throwable_class ≡ true
-      under = or_cases (is_subclass classes c throwable_class) (elements_fit classes (class_kind classes c) (class_kind classes throwable_class)) h (λ e. e)
+      under = cases (is_subclass classes c throwable_class) (elements_fit classes (class_kind classes c) (class_kind classes throwable_class)) h (λ e. e)
           (λ e. absurd (let no = array_kind classes (class_kind classes c) (class_kind classes throwable_class) e in let yes : is_plain (class_kind classes throwable_class) ≡ true = ap is_plain (kind_throwable classes g) in let both : true ≡ false = sym yes ∙ no in cc))
 
       making : has_own_making classes c ≡ false

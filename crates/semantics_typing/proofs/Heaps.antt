@@ -10,7 +10,8 @@ use Rattle.semantics.specs.Heap.{Heap, object_at, class_of, values_of, with_valu
 use Rattle.semantics.specs.Object.{ObjectValue, Number, Refers, Reference, Object}
 use Rattle.semantics.specs.Variable.{Variable, Scalar, LocalRef, FieldHandle, MethodHandle, Elements, LocalArray, NoBuffer, Copy, View, Variables}
 use Rattle.semantics_typing.specs.Objects.{ReferenceFits, ValueFits, PlaceFits, element_type_of, fields_of, type_at, IsTypedObject, AreTypedObjects, HasNumbers, IsTypedVariable, AreTypedVariables, ShapesStay}
-use Rattle.semantics_typing.proofs.Lists.{get_set, set_there, set_elsewhere, get_more, get_last, all_later}
+use Rattle.semantics_typing.proofs.Lists.{get_set, set_there, set_elsewhere, get_last, all_later}
+use Rattle.world_values.proofs.LoadedWorlds.{get_front}
 
 -- ---- the object of a name
 
@@ -157,7 +158,7 @@ keeps_values classes heap typed (suc m) o at vs same fits =
 module _ (classes : Classes) (heap : Heap) (typed : AreTypedObjects classes heap) (o : Object) where
   more_stay : ShapesStay heap (heap ++ o ∷ [])
   more_stay zero x e = absurd (cc)
-  more_stay (suc i) x e = (x, get_more heap (o ∷ []) i x e, refl, refl)
+  more_stay (suc i) x e = (x, get_front heap (o ∷ []) i x e, refl, refl)
 
   pub keeps_more : IsTypedObject classes heap (length heap + 1) o → Keeps classes heap (heap ++ o ∷ [])
   keeps_more new = record { stay = more_stay; typed = record { objects = each; class_objects = classes_stay classes heap (heap ++ o ∷ []) more_stay typed.class_objects } }

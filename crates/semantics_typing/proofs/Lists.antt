@@ -23,11 +23,6 @@ set_elsewhere (z ∷ xs) zero (suc j) y h = refl
 set_elsewhere (z ∷ xs) (suc i) zero y h = refl
 set_elsewhere (z ∷ xs) (suc i) (suc j) y h = set_elsewhere xs i j y (λ e. h (ap suc e))
 
-pub get_more : {A : Type 0} (xs ys : List A) (i : ℕ) (x : A) → slice_get xs i ≡ Some x → slice_get (xs ++ ys) i ≡ Some x
-get_more [] ys i x h = absurd (cc)
-get_more (z ∷ xs) ys zero x h = h
-get_more (z ∷ xs) ys (suc i) x h = get_more xs ys i x h
-
 -- an element of a list with one more
 pub get_last : {A : Type 0} (xs : List A) (y x : A) (i : ℕ) → slice_get (xs ++ y ∷ []) i ≡ Some x → (slice_get xs i ≡ Some x) ⊎ ((i ≡ length xs) × (y ≡ x))
 get_last [] y x zero h = inr (refl, cc)

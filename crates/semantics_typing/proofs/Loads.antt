@@ -3,10 +3,11 @@ use Rattle.std.proofs.Common.{◌≡◌, ◌≢◌, ⊎_elim, ℕ, zero, suc, �
 use Rattle.std.specs.Prelude.{slice_get, IsTrue, ◌&&◌, ◌==◌, nat_lt, nat_le}
 use Rattle.std.specs.List.{AllZip}
 use Rattle.std.specs.Option.{option_map}
-use Rattle.std.proofs.lemmas.Bool.{ltb-true, ltb-false, leb-true}
+use Rattle.std.proofs.lemmas.Bool.{ltb-true, ltb-false, leb-true, and_parts}
 use Rattle.std.proofs.lemmas.Bool.Decides.{nat_tests, eqb_tells}
 use Rattle.std.proofs.lemmas.List.{length-map}
 use Rattle.std.proofs.lemmas.Option.{slice_get-map, slice_get-get_or}
+use Rattle.std.proofs.lemmas.Slice.Zip.{AllZip-long}
 use Rattle.base.specs.Element.{JChar}
 use Rattle.class_rules.specs.BuiltIns.{built_ins, class_class, string_class, out_of_memory_error}
 use Rattle.class_rules.specs.Class.{FieldType, NumberField, ReferenceField, ClassKind, Plain, ArrayOfNumbers, ArrayOfObjects, Classes, class_kind, assignable}
@@ -15,32 +16,21 @@ use Rattle.semantics.specs.Heap.{Heap, object_at, is_instance}
 use Rattle.semantics.specs.Object.{ObjectValue, Number, Refers, Reference, Object}
 use Rattle.semantics.specs.World.{World, initial, class_object, fresh_object, made_before, loaded_objects}
 use Rattle.semantics.proofs.ShownRows.{loaded_is}
-use Rattle.world_values.proofs.LoadedWorlds.{loaded_class, loaded_error, loaded_object}
+use Rattle.world_values.proofs.LoadedWorlds.{loaded_class, loaded_error, loaded_object, get_front}
 use Rattle.world_values.specs.SoundWorlds.{types_by_kind, reference_fits, value_fits, IsObjectAfter, AreObjectsAfter, IsSound}
 use Rattle.semantics_typing.specs.Objects.{ReferenceFits, ValueFits, PlaceFits, element_type_of, fields_of, type_at, IsTypedObject, AreTypedObjects}
 use Rattle.semantics_typing.proofs.Heaps.{class_there}
-use Rattle.semantics_typing.proofs.Lists.{get_more}
 use Rattle.semantics_typing.proofs.TableKinds.{IsMakeable, grown_long, kind_class, plain_class}
 use Rattle.semantics_typing.proofs.Writes.{fresh_at, fresh_typed}
 
-both_true : (a b : Bool) → (a && b) ≡ true → (a ≡ true) × (b ≡ true)
-both_true true b h = (refl, h)
-both_true false b h = absurd (cc)
-
 -- ---- the world's objects
 
-zip_at : {A B : Type 0} (R : A → B → Type 0) (xs : List A) (ys : List B) (i : ℕ) (y : B) → AllZip R xs ys → slice_get ys i ≡ Some y → (x : A) × (slice_get xs i ≡ Some x) × R x y
+pub zip_at : {A B : Type 0} (R : A → B → Type 0) (xs : List A) (ys : List B) (i : ℕ) (y : B) → AllZip R xs ys → slice_get ys i ≡ Some y → (x : A) × (slice_get xs i ≡ Some x) × R x y
 zip_at R [] [] i y h e = absurd (cc)
 zip_at R [] (z ∷ ys) i y h e = absurd h
 zip_at R (x ∷ xs) [] i y h e = absurd h
 zip_at R (x ∷ xs) (z ∷ ys) zero y h e = let same : z ≡ y = cc in (x, refl, subst (R x) same h.0)
 zip_at R (x ∷ xs) (z ∷ ys) (suc i) y h e = zip_at R xs ys i y h.1 e
-
-zip_length : {A B : Type 0} (R : A → B → Type 0) (xs : List A) (ys : List B) → AllZip R xs ys → length ys ≡ length xs
-zip_length R [] [] h = refl
-zip_length R [] (z ∷ ys) h = absurd h
-zip_length R (x ∷ xs) [] h = absurd h
-zip_length R (x ∷ xs) (z ∷ ys) h = ap suc (zip_length R xs ys h.1)
 
 -- an object among several is made after a beginning of them
 object_after : (classes : Classes) (made objects : Heap) (j : ℕ) (o : Object) → AreObjectsAfter classes made objects → slice_get objects j ≡ Some o → (before : Heap) × (rest : Heap) × (before ++ rest ≡ made ++ objects) × IsObjectAfter classes before o
@@ -52,17 +42,17 @@ object_after classes made (x ∷ objects) (suc j) o h e =
 
 named_before : (before rest : Heap) (n : ℕ) → (nat_lt 0 n && nat_le n (length before)) ≡ true → (o : Object) × (object_at before n ≡ Some o) × (object_at (before ++ rest) n ≡ Some o)
 named_before before rest zero h = absurd (cc)
-named_before [] rest (suc m) h = absurd (let low = leb-true (suc m) 0 (both_true (nat_lt 0 (suc m)) (nat_le (suc m) 0) h).1 in omega (arith, low))
+named_before [] rest (suc m) h = absurd (let low = leb-true (suc m) 0 (and_parts (nat_lt 0 (suc m)) (nat_le (suc m) 0) h).1 in omega (arith, low))
 named_before (x ∷ before) rest (suc m) h =
-    let low = leb-true (suc m) (length (x ∷ before)) (both_true (nat_lt 0 (suc m)) (nat_le (suc m) (length (x ∷ before))) h).1 in
+    let low = leb-true (suc m) (length (x ∷ before)) (and_parts (nat_lt 0 (suc m)) (nat_le (suc m) (length (x ∷ before))) h).1 in
     let at = slice_get-get_or (x ∷ before) m x (omega (arith, low)) in
-    (_, at, get_more (x ∷ before) rest m _ at)
+    (_, at, get_front (x ∷ before) rest m _ at)
 
 module _ (classes : Classes) (before rest : Heap) where
   reference_later : (c : ℕ) (r : Reference) → reference_fits classes before c r ≡ true → ReferenceFits classes (before ++ rest) c r
   reference_later c None h = tt
   reference_later c (Some n) h =
-      let parts = both_true (nat_lt 0 n && nat_le n (length before)) (is_instance classes before n c) h in
+      let parts = and_parts (nat_lt 0 n && nat_le n (length before)) (is_instance classes before n c) h in
       let o = named_before before rest n parts.0 in
       (o.0, o.2, ap (λ (d : ℕ). assignable classes d c) (sym (class_there before n o.0 o.1)) ∙ parts.1)
 
@@ -89,7 +79,7 @@ module _ (classes : Classes) (before rest : Heap) where
       by_count : (k : ClassKind) → class_kind classes o.class ≡ k → (b : Bool) → (o.class == string_class) ≡ b → element_type_of classes o.class ≡ None → length o.values ≡ length (fields_of classes n o.class)
       by_count Plain e false f none =
           let same : types_by_kind classes o.class (class_kind classes o.class) o.values ≡ map (λ (f : FieldId). f.field.type) (layout classes o.class) = rw (e, f) refl in
-          zip_length (λ t v. IsTrue (value_fits classes before t v)) (types_by_kind classes o.class (class_kind classes o.class) o.values) o.values h.values
+          AllZip-long (λ t v. IsTrue (value_fits classes before t v)) (types_by_kind classes o.class (class_kind classes o.class) o.values) o.values h.values
           ∙ ap length same ∙ length-map (layout classes o.class) (λ (f : FieldId). f.field.type) ∙ ap length (sym fields_are)
       by_count Plain e true f none = absurd (let some : element_type_of classes o.class ≡ Some (NumberField JChar) = rw (e, f) refl in let both : None ≡ Some (NumberField JChar) = sym none ∙ some in cc)
       by_count (ArrayOfNumbers t) e b f none = absurd (let some : element_type_of classes o.class ≡ Some (NumberField t) = rw e refl in let both : None ≡ Some (NumberField t) = sym none ∙ some in cc)

@@ -4,11 +4,13 @@ use Rattle.std.specs.Prelude.{slice_get, position, ◌||◌, ◌&&◌, ◌==◌}
 use Rattle.std.specs.List.{list_any, position_from}
 use Rattle.std.specs.Option.{option_map_or}
 use Rattle.std.specs.Str.{bytes_eq}
+use Rattle.std.proofs.lemmas.Bool.{eq-eqb}
 use Rattle.std.proofs.lemmas.Bool.Decides.{nat_tests}
 use Rattle.std.proofs.lemmas.Cmp.{nat_list_eq_equiv}
 use Rattle.std.proofs.lemmas.Iterator.Adapters.{position_from-zero}
 use Rattle.std.proofs.lemmas.List.Folds.{list_any-append}
 use Rattle.std.proofs.lemmas.List.Quantifiers.{position-Some}
+use Rattle.std.proofs.lemmas.Map.Keys.{any_passes_from_place}
 use Rattle.std.proofs.lemmas.Option.{slice_get-get_or}
 use Rattle.base.specs.Bytes.{Identifier}
 use Rattle.class_rules.specs.Class.{Field, Class, Classes, class_at, superclass, above, ancestry_within, ancestry, is_subclass}
@@ -17,12 +19,10 @@ use Rattle.classes.proofs.Ancestry.{is_among}
 use Rattle.classes.proofs.Layouts.{layout_within, layout-above, layout-top}
 use Rattle.semantics.specs.Heap.{place_in}
 use Rattle.world_values.specs.DeclaredFields.{DeclaresWell, IsDeclared}
+use Rattle.world_values.proofs.LoadedWorlds.{map_get}
 use Rattle.semantics_typing.proofs.Lists.{found_at}
 
 -- ---- lists
-
-same_number : (n : ℕ) → (n == n) ≡ true
-same_number n = grind (arith, nat_tests)
 
 pub get_either : {A : Type 0} (xs ys : List A) (i : ℕ) (x : A) → slice_get (xs ++ ys) i ≡ Some x → ((j : ℕ) × (slice_get xs j ≡ Some x)) ⊎ ((j : ℕ) × (slice_get ys j ≡ Some x))
 get_either [] ys i x h = inr (i, h)
@@ -32,20 +32,6 @@ get_either (z ∷ xs) ys (suc i) x h = elim (get_either xs ys i x h) [ inl (j, e
 flat_get : {A B : Type 0} (g : A → List B) (xs : List A) (i : ℕ) (y : B) → slice_get (flat_map g xs) i ≡ Some y → (x : A) × (j : ℕ) × (slice_get (g x) j ≡ Some y)
 flat_get g [] i y h = absurd (cc)
 flat_get g (x ∷ xs) i y h = elim (get_either (g x) (flat_map g xs) i y h) [ inl (j, e) ↦ (x, j, e) | inr (j, e) ↦ flat_get g xs j y e ]
-
-pub map_get : {A B : Type 0} (g : A → B) (xs : List A) (i : ℕ) (y : B) → slice_get (map g xs) i ≡ Some y → (x : A) × (slice_get xs i ≡ Some x) × (g x ≡ y)
-map_get g [] i y h = absurd (cc)
-map_get g (x ∷ xs) zero y h = (x, refl, cc)
-map_get g (x ∷ xs) (suc i) y h = map_get g xs i y h
-
-any_at : {A : Type 0} (p : A → Bool) (xs : List A) (i : ℕ) (x : A) → slice_get xs i ≡ Some x → p x ≡ true → list_any p xs ≡ true
-any_at p [] i x h e = absurd (cc)
-any_at p (y ∷ xs) zero x h e = let same : y ≡ x = cc in let here : p y ≡ true = ap p same ∙ e in ap (λ (b : Bool). b || list_any p xs) here
-any_at p (y ∷ xs) (suc i) x h e = let there = any_at p xs i x h e in ap (λ (b : Bool). p y || b) there ∙ or_true (p y)
-  where
-    or_true : (b : Bool) → (b || true) ≡ true
-    or_true true = refl
-    or_true false = refl
 
 from_some : {A : Type 0} (p : A → Bool) (n : ℕ) (xs : List A) → list_any p xs ≡ true → position_from p n xs ≡ None → ⊥
 from_some p n [] h e = cc
@@ -124,7 +110,7 @@ found_static classes c name text f h =
 -- ---- places
 
 same_itself : (f : FieldId) → same_field f f ≡ true
-same_itself f = ap (λ (b : Bool). b && bytes_eq f.field.name f.field.name) (same_number f.class) ∙ nat_list_eq_equiv.refl f.field.name
+same_itself f = ap (λ (b : Bool). b && bytes_eq f.field.name f.field.name) (eq-eqb f.class f.class refl) ∙ nat_list_eq_equiv.refl f.field.name
 
 same_parts : (f g : FieldId) → same_field f g ≡ true → (f.class ≡ g.class) × (bytes_eq f.field.name g.field.name ≡ true)
 same_parts f g h = by_test (f.class == g.class) refl h
@@ -146,7 +132,7 @@ module _ (classes : Classes) (well : DeclaresWell classes) (f : FieldId) (declar
 
   module _ (kind : f.is_static ≡ false) where
     in_own : list_any (same_field f) (own_fields classes f.class) ≡ true
-    in_own = let at = field_own classes f declared kind in any_at (same_field f) (own_fields classes f.class) at.0 f at.1 (same_itself f)
+    in_own = let at = field_own classes f declared kind in any_passes_from_place (same_field f) (own_fields classes f.class) at.0 f at.1 (same_itself f)
 
     in_layout : (n c : ℕ) → is_among n classes c f.class ≡ true → list_any (same_field f) (layout_within n classes c) ≡ true
     in_layout zero c h = absurd (cc)
@@ -180,5 +166,5 @@ module _ (classes : Classes) (well : DeclaresWell classes) (f : FieldId) (declar
   pub static_placed : f.is_static ≡ true → slice_get (own_statics classes f.class) (place_in f (own_statics classes f.class)) ≡ Some f
   static_placed kind =
       let at = static_own classes f declared kind in
-      placed (own_statics classes f.class) (any_at (same_field f) (own_statics classes f.class) at.0 f at.1 (same_itself f))
+      placed (own_statics classes f.class) (any_passes_from_place (same_field f) (own_statics classes f.class) at.0 f at.1 (same_itself f))
       (λ i g e. (static_declared classes f.class i g e, (static_is classes f.class i g e).1 ∙ sym kind))

@@ -26,6 +26,7 @@ use Rattle.semantics_typing.proofs.Heaps.{Keeps, keeps_same, keeps_more, variabl
 use Rattle.semantics_typing.proofs.Lists.{all_append}
 use Rattle.semantics_typing.proofs.TaskTexts.{TargetHasTexts, HaveTexts, TasksHaveTexts, after_texts}
 use Rattle.semantics_typing.proofs.Writes.{fresh_typed}
+use Rattle.semantics_typing.proofs.Arguments.{variable_typed}
 
 -- what a step leaves
 abbrev pub AdvanceFits : (methods : Bool) → Classes → Heap → Advance → Type 0
@@ -76,14 +77,6 @@ blank_typed classes heap FieldKind n = tt
 blank_typed classes heap MethodKind n = tt
 blank_typed classes heap (BufferKind e) n = tt
 
-found_typed : (classes : Classes) (heap : Heap) (x : Identifier) (vs : Variables) (v : Variable) → AreTypedVariables classes heap vs → lookup x vs ≡ Some v → IsTypedVariable classes heap v
-found_typed classes heap x [] v h e = absurd (cc)
-found_typed classes heap x ((y, w) ∷ vs) v h e = by_test (bytes_eq x y) e (found_typed classes heap x vs v h.1)
-  where
-    by_test : (b : Bool) → (if b then Some w else lookup x vs) ≡ Some v → (lookup x vs ≡ Some v → IsTypedVariable classes heap v) → IsTypedVariable classes heap v
-    by_test true e later = let same : w ≡ v = cc in subst (IsTypedVariable classes heap) same h.0
-    by_test false e later = later e
-
 -- ---- where a result goes
 
 -- the variable that is filled is of the element type, where a buffer goes there
@@ -96,7 +89,7 @@ assigned_fits : (methods : Bool) (classes : Classes) (u : ElementType) (before :
     → Keeps classes old s.heap → AreTypedVariables classes s.heap t.variables → TasksHaveTexts methods t.tasks → ResultFits classes u before s.heap vs given → ((v : Variable) → o ≡ Some v → ElementFits u v given) → AdvanceFits methods classes old (put_assigned x given s t o)
 assigned_fits methods classes u before old vs x given s t None at keeps h texts r e = (keeps, h, texts)
 assigned_fits methods classes u before old vs x given s t (Some v) at keeps h texts r e =
-    (keeps, assign_typed classes s.heap x (filled v given) t.variables h (filled_typed classes u before s.heap vs v given (found_typed classes s.heap x t.variables v h at) r (e v refl)), texts)
+    (keeps, assign_typed classes s.heap x (filled v given) t.variables h (filled_typed classes u before s.heap vs v given (variable_typed classes s.heap x t.variables v h at) r (e v refl)), texts)
 
 pub put_fits : (methods : Bool) (classes : Classes) (u : ElementType) (before : Variables) (old : Heap) (vs : Variables) (target : Target) (given : CallResult) (s : Shared) (t : Thread)
     → Keeps classes old s.heap → AreTypedVariables classes s.heap t.variables → TasksHaveTexts methods t.tasks → ResultFits classes u before s.heap vs given → TargetFits u target t.variables given → AdvanceFits methods classes old (put target given s t)

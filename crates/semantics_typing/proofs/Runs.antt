@@ -1,6 +1,5 @@
 -- Objects are typed after each journal, and each step leaves what they are made of.
 use Rattle.std.proofs.Common.{◌≡◌, ℕ, zero, suc, Bool, true, false, List, [], ◌∷◌, ◌++◌, map, Option, Some, None, refl, sym, ap, ◌∙◌, subst, arith, if◌then◌else◌}
-use Rattle.std.specs.Prelude.{◌&&◌}
 use Rattle.std.specs.List.{AllByRecursion, list_all}
 use Rattle.std.specs.Option.{option_and_then, option_map_or}
 use Rattle.std.proofs.lemmas.Option.{slice_get_within}
@@ -112,11 +111,7 @@ method_error classes h =
     let kind : class_kind classes no_such_method_error ≡ Plain = ap (λ (o : Option Class). option_map_or (λ (d : Class). d.kind) o Plain) h.there ∙ h.kind in
     record { low = omega arith; high = slice_get_within classes 42 h.class h.there; making = rw kind refl }
 
-both_true : (a b : Bool) → (a && b) ≡ true → (a ≡ true) × (b ≡ true)
-both_true true b h = (refl, h)
-both_true false b h = absurd (cc)
-
-calls_there : (threads : List (List Invocation)) → list_all has_call threads ≡ true → list_all has_calls threads ≡ true
+pub calls_there : (threads : List (List Invocation)) → list_all has_call threads ≡ true → list_all has_calls threads ≡ true
 calls_there [] h = refl
 calls_there ([] ∷ threads) h = absurd (cc)
 calls_there ((call ∷ calls) ∷ threads) h = calls_there threads h

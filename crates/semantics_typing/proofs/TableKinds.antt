@@ -12,10 +12,10 @@ use Rattle.class_rules.specs.BuiltIns.{built_ins, class_class, string_class, thr
 use Rattle.class_rules.specs.Class.{ClassKind, Plain, ArrayOfNumbers, ArrayOfObjects, Class, Classes, class_at, class_kind, is_plain, superclass, is_subclass, elements_fit, assignable}
 use Rattle.class_rules.specs.Fields.{FieldId, layout}
 use Rattle.class_rules.specs.Grown.{IsGrown, BuiltIns, WithClass, WithField, WithStatic}
-use Rattle.class_rules.proofs.GrownTables.{grown_is_ordered}
+use Rattle.class_rules.proofs.GrownTables.{grown_is_ordered, at_kept}
+use Rattle.class_rules.proofs.FoundClasses.{built_ins_long}
 use Rattle.classes.proofs.Ancestry.{is_among, among-here}
 use Rattle.semantics_typing.specs.Objects.{element_type_of, fields_of, type_at}
-use Rattle.semantics_typing.proofs.Lists.{get_more}
 
 -- ---- what growth keeps
 
@@ -46,15 +46,11 @@ module _ (number : ℕ) (change : Class → Class) (same_super : (d : Class) →
   changed_at T zero d h = absurd (cc)
   changed_at T (suc i) d h = changed_get 1 T i d h
 
-more_at : (T X : Classes) (c : ℕ) (d : Class) → class_at T c ≡ Some d → class_at (T ++ X) c ≡ Some d
-more_at T X zero d h = absurd (cc)
-more_at T X (suc i) d h = get_more T X i d h
-
 grown_has : (T : Classes) → IsGrown T → (c : ℕ) (d : Class) → class_at built_ins c ≡ Some d → IsLike (class_at T c) d
 grown_has T BuiltIns c d h = record { class = d; is = h; super = refl; kind = refl }
 grown_has T (WithClass classes name s g low high own) c d h =
     let was = grown_has classes g c d h in
-    record { class = was.class; is = more_at classes (new_class name (Some s) ∷ object_array_class (length classes + 1, new_class name (Some s)) ∷ []) c was.class was.is; super = was.super; kind = was.kind }
+    record { class = was.class; is = at_kept classes (new_class name (Some s) ∷ object_array_class (length classes + 1, new_class name (Some s)) ∷ []) c was.class was.is; super = was.super; kind = was.kind }
 grown_has T (WithField classes n field g) c d h =
     let was = grown_has classes g c d h in
     like_later _ was.class d was.super was.kind (changed_at n (λ d. record d { fields = d.fields ++ field ∷ [] }) (λ d. refl) (λ d. refl) classes c was.class was.is)
@@ -62,15 +58,11 @@ grown_has T (WithStatic classes n field g) c d h =
     let was = grown_has classes g c d h in
     like_later _ was.class d was.super was.kind (changed_at n (λ d. record d { statics = d.statics ++ field ∷ [] }) (λ d. refl) (λ d. refl) classes c was.class was.is)
 
-changed_count : (classes : Classes) (c : ℕ) (change : Class → Class) → length (with_changed_class classes c change) ≡ length classes
+pub changed_count : (classes : Classes) (c : ℕ) (change : Class → Class) → length (with_changed_class classes c change) ≡ length classes
 changed_count classes c change = length-map (enumerate_from 1 classes) (λ (d : ℕ × Class). cond (d.0 == c) (change d.1) d.1) ∙ length-enumerate_from 1 classes
 
-built_in_count : length built_ins ≡ 42
-unfolding built_ins
-built_in_count = refl
-
 pub grown_long : (classes : Classes) → IsGrown classes → 42 ≤ length classes
-grown_long classes BuiltIns = omega (arith, built_in_count)
+grown_long classes BuiltIns = omega (arith, built_ins_long)
 grown_long classes (WithClass before name s g low high own) =
     omega (arith, grown_long before g, length-append before (new_class name (Some s) ∷ object_array_class (length before + 1, new_class name (Some s)) ∷ []))
 grown_long classes (WithField before c field g) = omega (arith, grown_long before g, changed_count before c (λ d. record d { fields = d.fields ++ field ∷ [] }))

@@ -204,13 +204,9 @@ functions_fit methods (f ∷ fs) h may =
     let others = list_any (λ (f : Function). list_any asks_method (statements_of f.body)) fs in
     ((h.0, λ e. first_so own others methods may e), functions_fit methods fs h.1 (λ e. second_so own others methods may e))
 
-asked : (asks methods : Bool) → (not asks || methods) ≡ true → asks ≡ true → methods ≡ true
-asked true methods h e = h
-asked false methods h e = absurd (cc)
-
 -- a world that loads allows methods, where they are asked for
 pub unit_fits : (unit : SourceUnit) (w : World) → HasTexts unit → methods_load unit w ≡ true → UnitFits w.methods unit
-unit_fits unit w all loads = functions_fit w.methods (functions_of unit) all (λ e. asked (list_any (λ (f : Function). list_any asks_method (statements_of f.body)) (functions_of unit)) w.methods loads e)
+unit_fits unit w all loads = functions_fit w.methods (functions_of unit) all (λ e. ap (λ (t : Bool). not t || w.methods) (sym e) ∙ loads)
 
 -- ---- effects
 

@@ -10,16 +10,16 @@ use Rattle.syntax.specs.Tree as tree
 use Rattle.syntax.specs.Tree.{Argument, Call, RightSide, FromExpr, FromCall, Test, TestExpr, TestCall, Stmt, Block, End, Next, Function, SourceUnit}
 use Rattle.semantics_typing.specs.Texts.{IsText, IsTextual, RightHasTexts, TestHasTexts, BlockHasTexts, StmtHasTexts, HasTexts}
 
-bytes_are : (bytes : List ℕ) → list_all (λ b. nat_lt b 256) bytes ≡ true → IsText bytes
+pub bytes_are : (bytes : List ℕ) → list_all (λ b. nat_lt b 256) bytes ≡ true → IsText bytes
 bytes_are [] h = tt
 bytes_are (b ∷ bytes) h = let p = and_parts (nat_lt b 256) (list_all (λ b. nat_lt b 256) bytes) h in (ltb-true b 256 p.0, bytes_are bytes p.1)
 
-argument_is : (a : Argument) → text_of_bytes a ≡ true → IsTextual a
+pub argument_is : (a : Argument) → text_of_bytes a ≡ true → IsTextual a
 argument_is (tree.Value e) h = tt
 argument_is (tree.Text bytes) h = bytes_are bytes h
 argument_is (tree.AddressOf x) h = tt
 
-arguments_are : (arguments : List Argument) → list_all text_of_bytes arguments ≡ true → AllByRecursion IsTextual arguments
+pub arguments_are : (arguments : List Argument) → list_all text_of_bytes arguments ≡ true → AllByRecursion IsTextual arguments
 arguments_are [] h = tt
 arguments_are (a ∷ arguments) h = let p = and_parts (text_of_bytes a) (list_all text_of_bytes arguments) h in (argument_is a p.0, arguments_are arguments p.1)
 

@@ -16,11 +16,11 @@ use Rattle.semantics.specs.Heap.{Heap, object_at, class_of, values_of, with_valu
 use Rattle.semantics.specs.Object.{ObjectValue, Number, Refers, Reference, Object}
 use Rattle.semantics.specs.World.{initial, fresh_object}
 use Rattle.world_values.specs.WorldRules.{is_in_range}
+use Rattle.world_values.proofs.LoadedWorlds.{map_get}
 use Rattle.semantics_typing.specs.Objects.{ReferenceFits, ValueFits, PlaceFits, element_type_of, type_at, IsTypedObject, AreTypedObjects, AreInRange, HasNumbers}
 use Rattle.semantics_typing.proofs.Heaps.{values_there, Keeps, keeps_values}
 use Rattle.semantics_typing.proofs.TableKinds.{IsMakeable, makes, field_type, has_fields, zero_assignable, grown_long, kind_string, kind_numbers}
 use Rattle.semantics_typing.proofs.Lists.{get_set, all_get}
-use Rattle.semantics_typing.proofs.Places.{map_get}
 use Rattle.semantics_typing.proofs.Ranges.{zero_in_range}
 
 -- ---- an object of a class is there
