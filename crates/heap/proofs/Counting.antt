@@ -1,24 +1,21 @@
 -- How many marks there are, against a list of what they are for.
 use Rattle.std.proofs.Common.{◌≡◌, ℕ, zero, suc, ◌+◌, ◌<◌, ◌≤◌, Bool, true, false, cond, List, [], ◌∷◌, length, get_or, set, refl, sym, ap, ◌∙◌, subst, arith, ⊎_elim, inl, inr, ◌⊎◌}
 use Rattle.std.specs.List.{Contains}
-use Rattle.std.proofs.lemmas.Bool.{cases_eq, cases_lt}
+use Rattle.std.proofs.lemmas.Bool.{cases_eq, cases_lt, both_ways}
 use Rattle.std.proofs.lemmas.List.{get_or_past, get_or-set_same, get_or-set_other, length-set}
 use Rattle.heap.specs.Marks.{is_kept}
 use Rattle.heap.specs.Marking.{unmarked}
-
-both : (b : Bool) → b ≡ true → b ≡ false → ⊥
-both b t f = absurd (cc)
 
 kept_within : (ms : List Bool) (a : ℕ) → is_kept ms a ≡ true → a < length ms
 kept_within ms a k =
     ⊎_elim
     (λ (l : a < length ms). l)
-    (λ (l : length ms ≤ a). absurd (both (is_kept ms a) k (get_or_past ms a false l)))
+    (λ (l : length ms ≤ a). absurd (both_ways (is_kept ms a) (get_or_past ms a false l) k))
     (cases_lt a (length ms))
 
 -- a mark that is taken away
 unmarked-unset : (ms : List Bool) (a : ℕ) → is_kept ms a ≡ true → unmarked (set ms a false) ≡ unmarked ms + 1
-unmarked-unset [] a k = absurd (both (is_kept [] a) k (get_or_past [] a false (omega arith)))
+unmarked-unset [] a k = absurd (both_ways (is_kept [] a) (get_or_past [] a false (omega arith)) k)
 unmarked-unset (m ∷ ms) zero k =
     let e : m ≡ true = k in
     let now : cond {A = ℕ} m 0 1 ≡ 0 = ap (λ (b : Bool). cond {A = ℕ} b 0 1) e in
@@ -34,7 +31,7 @@ all_unmarked (false ∷ ms) none =
     let rest = all_unmarked ms (λ a k. none (suc a) k) in
     omega arith
 
-none_in : (x : ℕ) → Contains [] x → ⊥
+pub none_in : (x : ℕ) → Contains [] x → ⊥
 none_in x c = let within : c.0 < 0 = c.1 in absurd (omega arith)
 
 in_rest : (x y : ℕ) (xs : List ℕ) (k : ℕ) → k < length (x ∷ xs) → get_or (x ∷ xs) k y ≡ y → (x ≡ y → ⊥) → Contains xs y
@@ -60,7 +57,7 @@ sought ms f x (suc n) =
     by_mark : f n ≡ x → ((a : ℕ) → a < n → is_kept ms a ≡ true → f a ≡ x → ⊥) → (b : Bool) → is_kept ms n ≡ b → ((a : ℕ) × (is_kept ms a ≡ true) × (f a ≡ x)) ⊎ ((a : ℕ) → a < suc n → is_kept ms a ≡ true → f a ≡ x → ⊥)
     by_mark e none true m = inl (n, m, e)
     by_mark e none false m = inr (λ a l k q. ⊎_elim
-        (λ (same : a ≡ n). both (is_kept ms n) (subst (λ i. is_kept ms i ≡ true) same k) m)
+        (λ (same : a ≡ n). both_ways (is_kept ms n) m (subst (λ i. is_kept ms i ≡ true) same k))
         (λ (other : a ≡ n → ⊥). none a (omega arith) k q)
         (cases_eq a n))
 
@@ -73,7 +70,7 @@ marks_fit (x ∷ xs) ms f there apart =
     ⊎_elim
     (λ (found : (a : ℕ) × (is_kept ms a ≡ true) × (f a ≡ x)).
     let still : (b : ℕ) → is_kept (set ms found.0 false) b ≡ true → (is_kept ms b ≡ true) × (b ≡ found.0 → ⊥) = λ b k. ⊎_elim
-    (λ (e : b ≡ found.0). absurd (both (is_kept (set ms found.0 false) found.0) (subst (λ i. is_kept (set ms found.0 false) i ≡ true) e k) (get_or-set_same ms found.0 false false (kept_within ms found.0 found.1))))
+    (λ (e : b ≡ found.0). absurd (both_ways (is_kept (set ms found.0 false) found.0) (get_or-set_same ms found.0 false false (kept_within ms found.0 found.1)) (subst (λ i. is_kept (set ms found.0 false) i ≡ true) e k)))
     (λ (ne : b ≡ found.0 → ⊥). (sym (get_or-set_other ms found.0 b false false ne) ∙ k, ne))
     (cases_eq b found.0) in
     let less = unmarked-unset ms found.0 found.1 in

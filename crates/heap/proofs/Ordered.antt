@@ -1,9 +1,9 @@
 -- Blocks that move in order, and are listed as they move.
 use Rattle.std.proofs.Common.{◌≡◌, ◌≢◌, ℕ, zero, suc, ◌+◌, ◌<◌, ◌≤◌, Bool, true, false, List, [], ◌∷◌, length, map, get_or, set, take, Some, refl, sym, ap, ◌∙◌, subst, arith, ⊎_elim}
 use Rattle.std.specs.Prelude.{slice_get}
-use Rattle.std.proofs.lemmas.Bool.{cases_eq}
-use Rattle.std.proofs.lemmas.List.{get_or-set_same, get_or-set_other, get_or-take, length-set, length-take-le}
-use Rattle.std.proofs.lemmas.Option.{slice_get_within}
+use Rattle.std.proofs.lemmas.Bool.{cases_eq, both_ways}
+use Rattle.std.proofs.lemmas.List.{get_or-set_same, get_or-set_other, get_or-take, length-set, length-take-le, get_or_default}
+use Rattle.std.proofs.lemmas.Option.{slice_get_within, same_Some}
 use Rattle.heap.specs.declared.value.Value.{Value}
 use Rattle.heap.specs.Heap.{Space, IsLaidOut, addresses, block_end, end_from, LieFrom}
 use Rattle.heap.specs.Values.{AreForwarded, word_in}
@@ -46,12 +46,6 @@ ordered_none s cs ps kept to was h = record {
   clear = λ x m. let there = place_of s x (h.blocks x m) in (there.0, omega arith, there.2);
 }
 
-one_at : (s : Space) (k a b : ℕ) → slice_get (addresses s) k ≡ Some a → slice_get (addresses s) k ≡ Some b → a ≡ b
-one_at s k a b e f = cc
-
-both_ways : (b : Bool) → b ≡ true → b ≡ false → ⊥
-both_ways b t f = absurd (cc)
-
 -- a block is gone
 pub ordered_skip : (s : Space) (cs : List Value) (ps : List ℕ) (kept : List Bool) (to : ℕ → ℕ) (was : List ℕ) (i a : ℕ) (ds : List Value) (qs now : List ℕ) (marks : List Bool) (listed : ℕ) → IsMovingInOrder s cs ps kept to was i ds qs now marks listed → slice_get (addresses s) i ≡ Some a → is_kept marks a ≡ false → IsMovingInOrder s cs ps kept to was (i + 1) ds qs now marks listed
 ordered_skip s cs ps kept to was i a ds qs now marks listed h at unmarked =
@@ -66,7 +60,7 @@ ordered_skip s cs ps kept to was i a ds qs now marks listed h at unmarked =
       starts_ahead = λ k l. h.starts_ahead k (omega arith);
       only = λ j l. let o = h.only j l in let below : o.0 < i = o.2 in (o.0, o.1, omega arith, o.3, o.4, o.5);
       all = λ k b l e m. ⊎_elim
-          (λ (q : k ≡ i). absurd (both_ways (is_kept kept a) (subst (λ n. is_kept kept n ≡ true) (one_at s i b a (subst (λ n. slice_get (addresses s) n ≡ Some b) q e) at) m) unkept))
+          (λ (q : k ≡ i). absurd (both_ways (is_kept kept a) unkept (subst (λ n. is_kept kept n ≡ true) (same_Some b a (sym (subst (λ n. slice_get (addresses s) n ≡ Some b) q e) ∙ at)) m)))
           (λ (ne : k ≡ i → ⊥). h.all k b (omega arith) e m)
           (cases_eq k i);
       rises = h.rises;
@@ -76,7 +70,7 @@ ordered_skip s cs ps kept to was i a ds qs now marks listed h at unmarked =
           let o = h.clear x m in
           let from : i ≤ o.0 = o.1 in
           ⊎_elim
-          (λ (q : o.0 ≡ i). absurd (both_ways (is_kept marks a) (subst (λ n. is_kept marks n ≡ true) (one_at s i x a (subst (λ n. slice_get (addresses s) n ≡ Some x) q o.2) at) m) unmarked))
+          (λ (q : o.0 ≡ i). absurd (both_ways (is_kept marks a) unmarked (subst (λ n. is_kept marks n ≡ true) (same_Some x a (sym (subst (λ n. slice_get (addresses s) n ≡ Some x) q o.2) ∙ at)) m)))
           (λ (ne : o.0 ≡ i → ⊥). (o.0, omega arith, o.2))
           (cases_eq o.0 i);
     }
@@ -104,7 +98,7 @@ ordered_step cs ps starts s kept to was i a b ds qs now marks listed es e laid p
           (cases_eq j listed);
       all = λ k c l f m. ⊎_elim
           (λ (q : k ≡ i).
-          let one : c ≡ a = one_at s i c a (subst (λ n. slice_get (addresses s) n ≡ Some c) q f) at in
+          let one : c ≡ a = same_Some c a (sym (subst (λ n. slice_get (addresses s) n ≡ Some c) q f) ∙ at) in
           (listed, omega arith, here ∙ goes ∙ sym (ap to one)))
           (λ (ne : k ≡ i → ⊥). let o = h.all k c (omega arith) f m in let below : o.0 < listed = o.1 in (o.0, omega arith, other o.0 (λ q. absurd (omega arith)) ∙ o.2))
           (cases_eq k i);
@@ -126,12 +120,12 @@ ordered_step cs ps starts s kept to was i a b ds qs now marks listed es e laid p
       count = length-set marks a false ∙ h.count;
       marks_ahead = λ k c l f. let above = rising s i k a c laid (omega arith) at f in get_or-set_other marks a c false false (λ q. absurd (omega arith)) ∙ h.marks_ahead k c (omega arith) f;
       clear = λ x w. ⊎_elim
-          (λ (q : x ≡ a). absurd (both_ways (is_kept (set marks a false) a) (subst (λ n. is_kept (set marks a false) n ≡ true) q w) (get_or-set_same marks a false false (omega arith))))
+          (λ (q : x ≡ a). absurd (both_ways (is_kept (set marks a false) a) (get_or-set_same marks a false false (omega arith)) (subst (λ n. is_kept (set marks a false) n ≡ true) q w)))
           (λ (ne : x ≡ a → ⊥).
           let o = h.clear x (sym (get_or-set_other marks a x false false ne) ∙ w) in
           let from : i ≤ o.0 = o.1 in
           ⊎_elim
-          (λ (r : o.0 ≡ i). absurd (ne (one_at s i x a (subst (λ n. slice_get (addresses s) n ≡ Some x) r o.2) at)))
+          (λ (r : o.0 ≡ i). absurd (ne (same_Some x a (sym (subst (λ n. slice_get (addresses s) n ≡ Some x) r o.2) ∙ at))))
           (λ (nr : o.0 ≡ i → ⊥). (o.0, omega arith, o.2))
           (cases_eq o.0 i))
           (cases_eq x a);
@@ -175,11 +169,6 @@ none_marked s cs ps kept to was i ds qs now marks listed x h all = by_mark (is_k
         absurd (omega arith)
 
 -- ---- the list
-
-any_default : (xs : List ℕ) (k d e : ℕ) → k < length xs → get_or xs k d ≡ get_or xs k e
-any_default [] k d e l = absurd (omega arith)
-any_default (x ∷ xs) zero d e l = refl
-any_default (x ∷ xs) (suc k) d e l = any_default xs k d e (omega arith)
 
 -- blocks none of which overlaps a later one lie one after another
 lie_in_order : (cs : List Value) (ps : List ℕ) (from : ℕ) (xs : List ℕ) → ((k : ℕ) → k < length xs → from ≤ get_or xs k 0) → ((j k : ℕ) → j < k → k < length xs → end_in cs (get_or xs j 0) ≤ get_or xs k 0) → ((k : ℕ) → k < length xs → end_in cs (get_or xs k 0) ≤ length cs) → from ≤ length cs → LieFrom from (map (block_in cs ps) xs) (length cs)
@@ -228,8 +217,8 @@ listed_in_order cs ps kept to ds qs starts count xs end m long same apart inside
           (λ k l. inside (get_or xs k 0) (marked k (omega arith)))
           (omega arith);
       after = λ rs. ends_there ds rs xs end none last;
-      listed = λ x k. let o = m.listed x k in let below : o.0 < count = o.1 in (o.0, omega arith, any_default xs o.0 x 0 (omega arith) ∙ same o.0 o.1 ∙ o.2);
+      listed = λ x k. let o = m.listed x k in let below : o.0 < count = o.1 in (o.0, omega arith, get_or_default xs o.0 x 0 (omega arith) ∙ same o.0 o.1 ∙ o.2);
       only = λ x c.
           let below : c.0 < length xs = c.1 in
-          subst (λ n. is_kept m.marks n ≡ true) (any_default xs c.0 0 x below ∙ c.2) (marked c.0 (omega arith));
+          subst (λ n. is_kept m.marks n ≡ true) (get_or_default xs c.0 0 x below ∙ c.2) (marked c.0 (omega arith));
     }

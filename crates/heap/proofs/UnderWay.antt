@@ -40,9 +40,6 @@ held_of s t (Some m) e h = UnderWay-of s t m e h
 
 -- ---- what is noted
 
-both : (b : Bool) → b ≡ true → b ≡ false → ⊥
-both b t f = absurd (cc)
-
 pub UnderWay-noted : (s : Space) (m : Marks) (a : ℕ) → IsUnderWay s m → IsLaidOut s → IsAddress s a → IsUnderWay s (noted m a) × (is_kept (noted m a).kept a ≡ true) × ((noted m a).marked ≡ m.marked)
 UnderWay-noted s m a h laid some = by_mark (is_kept m.kept a) refl
   where
@@ -153,7 +150,7 @@ module _ (s : Space) (at : ℕ) (change : Block → Block) (leaves : LeavesPlace
         (value_before (λ c. is_kept m.kept c ≡ true) each x p b v);
   }
 
-set_cases : (xs : List Value) (place k : ℕ) (v w : Value) → slice_get (slice_set xs place v) k ≡ Some w → (slice_get xs k ≡ Some w) ⊎ (v ≡ w)
+pub set_cases : (xs : List Value) (place k : ℕ) (v w : Value) → slice_get (slice_set xs place v) k ≡ Some w → (slice_get xs k ≡ Some w) ⊎ (v ≡ w)
 set_cases [] place k v w e = absurd (cc)
 set_cases (x ∷ xs) zero zero v w e = inr (cc)
 set_cases (x ∷ xs) zero (suc k) v w e = inl e
@@ -175,7 +172,7 @@ UnderWay-pinned s m a n h = UnderWay-changed s a (λ (b : Block). record b { pin
 
 -- ---- a further block
 
-some_is : (o : Option Block) → IsSome o → (b : Block) × (o ≡ Some b)
+pub some_is : (o : Option Block) → IsSome o → (b : Block) × (o ≡ Some b)
 some_is None some = absurd (cc)
 some_is (Some b) some = (b, refl)
 
@@ -255,7 +252,7 @@ pub held_pinned : (s : Space) (o : Option Marks) (a n : ℕ) → IfSome o (IsUnd
 held_pinned s None a n h = tt
 held_pinned s (Some m) a n h = UnderWay-pinned s m a n h
 
-all_same : (n k : ℕ) (v w : Value) → slice_get (replicate n v) k ≡ Some w → v ≡ w
+pub all_same : (n k : ℕ) (v w : Value) → slice_get (replicate n v) k ≡ Some w → v ≡ w
 all_same zero k v w e = absurd (cc)
 all_same (suc n) zero v w e = cc
 all_same (suc n) (suc k) v w e = all_same n k v w e
