@@ -2,20 +2,21 @@
 use Rattle.std.proofs.Common.{◌≡◌, ℕ, zero, suc, ◌+◌, ◌<◌, ◌≤◌, Bool, true, false, cond, List, [], ◌∷◌, length, get_or, Option, Some, None, refl, sym, ap, ◌∙◌, subst, arith, ⊎_elim, inl, inr, ◌⊎◌}
 use Rattle.std.specs.Prelude.{slice_get, IsSome}
 use Rattle.std.specs.List.{Contains}
-use Rattle.std.proofs.lemmas.Bool.{cases_eq}
+use Rattle.std.proofs.lemmas.Bool.{cases_eq, both_ways}
 use Rattle.std.proofs.lemmas.List.{length-map}
 use Rattle.heap.specs.declared.value.Value.TheVariants.{Block as Reference}
 use Rattle.heap.specs.Heap.{Block, Space, IsAddress, bare, block_at, pins_at, values_at, addresses}
 use Rattle.heap.specs.Marks.{Marks, noted, is_kept}
 use Rattle.heap.specs.Marking.{unmarked, IsUnderWay}
-use Rattle.heap.proofs.Counting.{marks_fit}
+use Rattle.heap.proofs.Counting.{marks_fit, none_in}
 use Rattle.heap.proofs.Places.{place_of}
+use Rattle.heap.proofs.UnderWay.{marked_noted, some_is}
 use Rattle.compact.specs.Reach.{AreAddresses, Refers, IsClosed}
 use Rattle.compact.specs.Marks.{Adds, IsFollowed}
 use Rattle.compact.specs.Placing.{IsLowest}
 use Rattle.compact.specs.Same.{IsSameWeakly, MovesBy}
 use Rattle.compact.specs.Slices.{AreNoted, IsKeptBy, IsWhole, count_of}
-use Rattle.compact.proofs.Adding.{Adds-noted, kept-noted, marked-noted}
+use Rattle.compact.proofs.Adding.{Adds-noted, kept-noted}
 use Rattle.compact.proofs.Blocks.{Contains-from_get}
 
 -- ---- marks
@@ -48,9 +49,6 @@ cons_at : (a x : ℕ) (xs : List ℕ) (k : ℕ) → k < length (a ∷ xs) → ge
 cons_at a x xs zero l e = inl e
 cons_at a x xs (suc k) l e = inr (k, omega arith, e)
 
-none_in : (x : ℕ) → Contains [] x → ⊥
-none_in x c = let within : c.0 < 0 = c.1 in absurd (omega arith)
-
 -- ---- noting
 
 -- a block that is noted
@@ -63,20 +61,17 @@ pub noting : (m n : Marks) (b : ℕ) → n ≡ noted m b → b < length m.kept �
 noting m n b e within = subst (λ (x : Marks). Noting m x b) (sym e) (record {
   adds = Adds-noted m b within;
   kept = kept-noted m b within;
-  marked = marked-noted m b;
+  marked = marked_noted m b;
 })
 
 -- ---- under way
 
-none_kept : (b : Bool) → b ≡ false → b ≡ true → ⊥
-none_kept b clear k = absurd (cc)
-
 pub UnderWay-new : (s : Space) (kept : List Bool) (m : Marks) → ((a : ℕ) → is_kept kept a ≡ false) → length kept ≡ s.cells → m ≡ record { kept = kept; waiting = []; marked = 0 } → IsUnderWay s m
 UnderWay-new s kept m clear count e = subst (λ (x : Marks). IsUnderWay s x) (sym e) (record {
   count = count;
-  blocks = λ a k. absurd (none_kept (is_kept kept a) (clear a) k);
+  blocks = λ a k. absurd (both_ways (is_kept kept a) (clear a) k);
   waits = λ a c. absurd (none_in a c);
-  each = λ a k out. absurd (none_kept (is_kept kept a) (clear a) k);
+  each = λ a k out. absurd (both_ways (is_kept kept a) (clear a) k);
 })
 
 -- more blocks are noted
@@ -143,15 +138,11 @@ whole s roots m h e pinned rooted = record {
   closed = λ a b k r. h.each a k (λ c. none_in a (subst (λ (l : List ℕ). Contains l a) e c)) r.place b r.value;
 }
 
-some_block : (o : Option Block) → IsSome o → (b : Block) × (o ≡ Some b)
-some_block None some = absurd (cc)
-some_block (Some b) some = (b, refl)
-
 -- the blocks that are kept are no fewer than the marks
 pub kept_many : (s t : Space) (kept : List Bool) (f : ℕ → ℕ) (many : ℕ) → ((a : ℕ) → is_kept kept a ≡ true → IsAddress s a) → MovesBy (λ a. is_kept kept a ≡ true) f s t → many + unmarked kept ≤ length kept → many ≤ length t.blocks
 kept_many s t kept f many blocks moves few =
     let fit = marks_fit (addresses t) kept f (λ a k.
-    let b = some_block (block_at s a) (blocks a k) in
+    let b = some_is (block_at s a) (blocks a k) in
     let there : IsAddress t (f a) = subst (λ (o : Option Block). IsSome o) (sym (moves.kept a b.0 k b.1)) refl in
     let place = place_of t (f a) there in
     Contains-from_get (addresses t) place.0 (f a) place.2) moves.one_to_one in
