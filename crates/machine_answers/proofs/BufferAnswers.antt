@@ -11,7 +11,7 @@ use Rattle.semantics.specs.Arguments.{ReleaseMode, FreeUncopied, mode_given, var
 use Rattle.semantics.specs.CallEffects.{release_effect}
 use Rattle.semantics.specs.CallStep.{trap_of_call}
 use Rattle.semantics.specs.CallTable.{call_effect}
-use Rattle.semantics.specs.Heap.{values_of, numbers_of}
+use Rattle.semantics.specs.Heap.{values_of}
 use Rattle.code_meaning.specs.Does.{OperandFits}
 use Rattle.base.specs.Element.{ElementType}
 use Rattle.base.specs.Bytes.{lookup}

@@ -1,81 +1,246 @@
--- What the machine works out of calls is what the source's calls do.
-use Rattle.std.proofs.Common.{◌≡◌, ℕ, List, Option, None}
+-- What the machine works out of calls is what the source's calls do: a row for each function.
+use Rattle.std.proofs.Common.{◌≡◌, ℕ, ℤ, pos, ◌<◌, ◌≤◌, true, false, not, List, [], ◌∷◌, length, Option, None, slice_get, refl, sym, ap, ◌∙◌, subst, arith}
+use Rattle.std.specs.Prelude.{◌==◌, unwrap_or}
+use Rattle.std.specs.Option.{option_map_or}
+use Rattle.std.proofs.lemmas.Bool.{and_parts}
+use Rattle.base.specs.Element.{ElementType, JInt, JShort, JByte, JChar}
+use Rattle.class_rules.specs.ClassIds.{class_id}
+use Rattle.class_rules.specs.BuiltIns.{array_index_out_of_bounds, class_class, has_own_making, number_array, string_class, string_index_out_of_bounds, throwable_class}
+use Rattle.class_rules.specs.Class.{ArrayOfObjects, Plain, array_class_of, array_name, assignable, class_kind, class_name, element_class, is_plain, superclass}
+use Rattle.class_rules.specs.Fields.{find_field, find_static, own_statics}
+use Rattle.class_rules.proofs.GrownTables.{grown_is_ordered}
+use Rattle.classes.specs.declared.class.FieldHandle.{FieldHandle}
 use Rattle.code.specs.Call.{Call}
-use Rattle.jni.specs.JniFunction.{GetBuffer, ReleaseBuffer, JniFunction, FindClass, AllocObject, NewLocalRef, NewGlobalRef, NewWeakGlobalRef, DeleteLocalRef, DeleteGlobalRef, DeleteWeakGlobalRef, IsSameObject, EnsureLocalCapacity, PushLocalFrame, PopLocalFrame, GetFieldID, GetStaticFieldID, GetArrayLength, NewArray, NewObjectArray, GetObjectArrayElement, SetObjectArrayElement, NewStringUTF, GetStringLength, Throw, ThrowNew, ExceptionOccurred, ExceptionCheck, ExceptionClear, FatalError, GetSuperclass, GetObjectClass, IsInstanceOf, IsAssignableFrom, GetField, SetField, GetObjectField, SetObjectField, GetStaticField, SetStaticField, GetStaticObjectField, SetStaticObjectField, MonitorEnter, MonitorExit, GetArrayRegion, SetArrayRegion, GetStringRegion, GetStaticMethodID, CallStaticVoidMethod, CallStaticIntMethod, CallStaticObjectMethod}
-use Rattle.semantics.specs.Arguments.{Actual}
-use Rattle.semantics.specs.CallStep.{trap_of_call}
+use Rattle.code.specs.Effect.{truth_word}
+use Rattle.code.specs.declared.instr.Operand.{Operand}
+use Rattle.heap.specs.declared.value.Value.TheVariants as cell
+use Rattle.jni.specs.JniFunction.{GetBuffer, ReleaseBuffer, JniFunction, prototype, FindClass, AllocObject, NewLocalRef, NewGlobalRef, NewWeakGlobalRef, DeleteLocalRef, DeleteGlobalRef, DeleteWeakGlobalRef, IsSameObject, EnsureLocalCapacity, PushLocalFrame, PopLocalFrame, GetFieldID, GetStaticFieldID, GetArrayLength, NewArray, NewObjectArray, GetObjectArrayElement, SetObjectArrayElement, NewStringUTF, GetStringLength, Throw, ThrowNew, ExceptionOccurred, ExceptionCheck, ExceptionClear, FatalError, GetSuperclass, GetObjectClass, IsInstanceOf, IsAssignableFrom, GetField, SetField, GetObjectField, SetObjectField, GetStaticField, SetStaticField, GetStaticObjectField, SetStaticObjectField, MonitorEnter, MonitorExit, GetArrayRegion, SetArrayRegion, GetStringRegion, GetStaticMethodID, CallStaticVoidMethod, CallStaticIntMethod, CallStaticObjectMethod}
+use Rattle.jni.specs.Prototype.{ClassObject, FieldID, IntNumber, NonNull, Nullable, NumberArray, ObjectArray, StringObject, TextBytes, GivesNothing}
+use Rattle.semantics.specs.Answer.{effect_of}
+use Rattle.semantics.specs.AnswerTable as table
+use Rattle.semantics.specs.AnswerTable.{call_answer}
+use Rattle.semantics.specs.Arguments.{Actual, name_or_zero}
+use Rattle.semantics.specs.Method.{find_method}
+use Rattle.semantics.specs.Object.{Number}
 use Rattle.semantics.specs.Task.{Target}
 use Rattle.semantics.specs.Thread.{Shared, Thread}
 use Rattle.semantics.specs.World.{World}
 use Rattle.world_values.specs.SoundWorlds.{IsSound}
+use Rattle.world_values.proofs.LoadedWorlds.{class_within}
 use Rattle.code_meaning.specs.Lowered.{Lowered}
 use Rattle.machine_scenes.specs.Buffers.{Acquired}
-use Rattle.machine_answers.specs.declared.answer.Answer.{Answer}
+use Rattle.machine_scenes.specs.Given.{class_of_given, field_at, field_there, fits_there, key_at, name_there, operand_of}
+use Rattle.machine_scenes.specs.NewObjects.{IsMakeable}
+use Rattle.machine_scenes.specs.Statics.{static_at}
+use Rattle.machine_scenes.specs.declared.new_object.New.TheVariants.{Fresh}
 use Rattle.machine_scenes.specs.declared.store.Store.{Store}
 use Rattle.machine_scenes.specs.declared.activation.Activation.{Activation}
-use Rattle.machine_answers.proofs.TwoCalls.{TwoCalls, Asked, Works, Does}
-use Rattle.machine_answers.proofs.ReferenceAnswers.{answers_find, answers_superclass, answers_class, answers_instance, answers_assignable, answers_alloc, answers_new_local, answers_new_global, HasKey, answers_delete, IsHeld, answers_delete_global, answers_new_weak, answers_delete_weak, answers_same, answers_ensure, answers_push, answers_pop}
-use Rattle.machine_answers.proofs.FieldAnswers.{answers_field, answers_static, answers_method, answers_get, answers_set, answers_get_object, answers_set_object, answers_get_static, answers_set_static, answers_get_static_object, answers_set_static_object}
-use Rattle.machine_answers.proofs.ArrayAnswers.{answers_length, answers_string_length, answers_new_array, answers_new_object_array, answers_element, answers_store, answers_string}
-use Rattle.machine_answers.proofs.RegionAnswers.{answers_get_region, answers_string_region, answers_set_region}
+use Rattle.machine_answers.specs.declared.answer.Answer.{Answer}
+use Rattle.machine_answers.specs.declared.answer.Answer.TheVariants.{Gives, Makes, Raises}
+use Rattle.machine_answers.specs.declared.answer.Given.TheVariants as given
+use Rattle.machine_answers.specs.Answers as row
+use Rattle.machine_answers.specs.Sights.{class_object_seen, deleted_seen, name_seen}
+use Rattle.machine_answers.specs.WorkedOut.{IsFoundField, IsFoundMethod, address_in, class_object, deletes_global, deletes_weak, element_there, frame_for, held_reference, index_there, new_array, room_for, stores_there, value_there, word_in, writes_there}
+use Rattle.machine_answers.specs.WorkedOut as worked
+use Rattle.machine_answers.proofs.CallOperands.{own_making, super_known}
+use Rattle.machine_answers.proofs.CallTraps.{has_passed, same_pending}
+use Rattle.machine_answers.proofs.LongTables.{class_is_no_throwable, class_is_plain}
+use Rattle.machine_answers.proofs.SightParts.{name_is}
+use Rattle.machine_answers.proofs.TrapsSeen.{fits_one}
+use Rattle.machine_answers.proofs.TwoCalls.{TwoCalls, Asked, Works, Does, at, built_in_class, class_given, fields, method_error, object_given_at, references, table_of, unit}
+use Rattle.machine_answers.proofs.KindAnswers.{HasKey, IsHeld, Passes, Stands, array_made, back, class_agrees, class_found, class_of_first, counted, does, element_read, element_written, ensured, field_found, first_name, global_deleted, held_agrees, holder, index_is, local_deleted, method_found, named, number_read, own_key, pending_named, place_is, pushed, reference_read, same_names, scene, sight, stands, static_named, stored, there, top_number, weak_deleted, written}
+use Rattle.machine_answers.proofs.RegionAnswers.{numbers_are, region_given, region_read, region_written}
 use Rattle.machine_answers.proofs.BufferAnswers.{answers_get_buffer, answers_release}
-use Rattle.machine_answers.proofs.ExceptionAnswers.{answers_throw, answers_throw_new, answers_occurred, answers_check, answers_clear, answers_fatal}
-use Rattle.machine_answers.proofs.MethodAnswers.{answers_int, answers_object, answers_void}
+use Rattle.machine_answers.proofs.MethodAnswers.{method_called}
 use Rattle.machine_answers.proofs.MonitorAnswers.{answers_enter, answers_exit}
 
 module _ (p : Lowered) (w : World) (store : Store) (pending : Option ℕ) (activation : Activation) (call : Call) (others : Acquired) (k owner : ℕ) (shared : Shared) (s : Thread) (target : Target) (sound : IsSound w) (args : List Actual) where
   abbrev both : TwoCalls
   both = record { p = p; w = w; sound = sound; store = store; pending = pending; activation = activation; call = call; others = others; k = k; owner = owner; shared = shared; s = s; target = target; args = args }
 
-  -- the answer is what the call does
-  pub answers : (f : JniFunction) → Asked both f → trap_of_call w.classes shared s target f args ≡ None → (answer : Answer) → Works both f answer → HasKey both f → IsHeld both f → Does both f answer
-  answers FindClass h free answer is keyed held = answers_find both h answer is
-  answers GetSuperclass h free answer is keyed held = answers_superclass both h answer is
-  answers GetObjectClass h free answer is keyed held = answers_class both h free answer is
-  answers IsInstanceOf h free answer is keyed held = answers_instance both h answer is
-  answers IsAssignableFrom h free answer is keyed held = answers_assignable both h answer is
-  answers NewGlobalRef h free answer is keyed held = answers_new_global both h answer is
-  answers DeleteGlobalRef h free answer is keyed held = answers_delete_global both held h answer is
-  answers NewWeakGlobalRef h free answer is keyed held = answers_new_weak both h answer is
-  answers DeleteWeakGlobalRef h free answer is keyed held = answers_delete_weak both held h answer is
-  answers NewLocalRef h free answer is keyed held = answers_new_local both h answer is
-  answers IsSameObject h free answer is keyed held = answers_same both h answer is
-  answers EnsureLocalCapacity h free answer is keyed held = answers_ensure both h answer is
-  answers PushLocalFrame h free answer is keyed held = answers_push both h answer is
-  answers PopLocalFrame h free answer is keyed held = answers_pop both h answer is
-  answers DeleteLocalRef h free answer is keyed held = answers_delete both keyed answer is
-  answers AllocObject h free answer is keyed held = answers_alloc both h free answer is
-  answers GetFieldID h free answer is keyed held = answers_field both h answer is
-  answers GetStaticFieldID h free answer is keyed held = answers_static both h answer is
-  answers GetStaticMethodID h free answer is keyed held = answers_method both h answer is
-  answers (GetField T) h free answer is keyed held = answers_get both T h free answer is
-  answers (SetField T) h free answer is keyed held = answers_set both T h free answer is
-  answers GetObjectField h free answer is keyed held = answers_get_object both h free answer is
-  answers SetObjectField h free answer is keyed held = answers_set_object both h free answer is
-  answers (GetStaticField T) h free answer is keyed held = answers_get_static both T h free answer is
-  answers (SetStaticField T) h free answer is keyed held = answers_set_static both T h free answer is
-  answers GetStaticObjectField h free answer is keyed held = answers_get_static_object both h free answer is
-  answers SetStaticObjectField h free answer is keyed held = answers_set_static_object both h free answer is
-  answers GetArrayLength h free answer is keyed held = answers_length both h answer is
-  answers (NewArray T) h free answer is keyed held = answers_new_array both T h answer is
-  answers NewObjectArray h free answer is keyed held = answers_new_object_array both h free answer is
-  answers GetObjectArrayElement h free answer is keyed held = answers_element both h free answer is
-  answers SetObjectArrayElement h free answer is keyed held = answers_store both h free answer is
-  answers NewStringUTF h free answer is keyed held = answers_string both h answer is
-  answers Throw h free answer is keyed held = answers_throw both h answer is
-  answers ThrowNew h free answer is keyed held = answers_throw_new both h free answer is
-  answers ExceptionOccurred h free answer is keyed held = answers_occurred both h answer is
-  answers ExceptionCheck h free answer is keyed held = answers_check both h answer is
-  answers ExceptionClear h free answer is keyed held = answers_clear both answer is
-  answers FatalError h free answer is keyed held = answers_fatal both answer is
-  answers GetStringLength h free answer is keyed held = answers_string_length both h answer is
-  answers (GetArrayRegion T) h free answer is keyed held = answers_get_region both T h free answer is
-  answers (SetArrayRegion T) h free answer is keyed held = answers_set_region both T h free answer is
-  answers GetStringRegion h free answer is keyed held = answers_string_region both h free answer is
-  answers (GetBuffer access) h free answer is keyed held = answers_get_buffer both access h free answer is
-  answers (ReleaseBuffer access) h free answer is keyed held = answers_release both access h free answer is
-  answers MonitorEnter h free answer is keyed held = answers_enter both h free answer is
-  answers MonitorExit h free answer is keyed held = answers_exit both h free answer is
-  answers CallStaticVoidMethod h free answer is keyed held = answers_void both h free answer is
-  answers CallStaticIntMethod h free answer is keyed held = answers_int both h free answer is
-  answers CallStaticObjectMethod h free answer is keyed held = answers_object both h free answer is
+  -- the name of the object of an argument
+  name : (i : ℕ) → name_there store.heap (at both i) ≡ name_or_zero (name_seen store.heap (at both i))
+  name i = name_is store.heap (at both i)
+
+  -- the text of the call at a place
+  abbrev text : ℕ → List ℕ
+  text i = unwrap_or (slice_get call.texts i) []
+
+  -- the field ID of argument 1, and its class object
+  abbrev handle : Option FieldHandle
+  handle = field_at (fields both) (operand_of call.operands 1)
+
+  abbrev declaring : Option ℕ
+  declaring = class_object_seen store.loaded.items (field_there w.classes handle).class
+
+  -- objects of a class that has passed its checks can be made, and so can arrays of them
+  makeable : (c : ℕ) → (0 < c) × (c ≤ length w.classes) → (c ≡ class_class → ⊥) → IsMakeable w.classes c
+  makeable c within never = record { low = within.0; high = within.1; no_class = never }
+
+  makes_object : (h : Asked both AllocObject) → Passes both AllocObject → IsMakeable w.classes (name_or_zero (name_seen store.heap (at both 0)))
+  makes_object h free =
+      makeable _ (class_given both AllocObject [] [] refl h free)
+      (own_making w.classes _ (ap (λ (n : ℕ). not (has_own_making w.classes n)) (sym (name 0)) ∙ has_passed p w store pending activation call others k owner shared s target AllocObject args h free))
+
+  makes_throwable : (h : Asked both ThrowNew) → Passes both ThrowNew → IsMakeable w.classes (name_or_zero (name_seen store.heap (at both 0)))
+  makes_throwable h free =
+      makeable _ (class_given both ThrowNew [] (TextBytes ∷ []) refl h free)
+      (λ e. absurd (let clash : false ≡ true = sym (class_is_no_throwable w.classes sound.grown) ∙ ap (λ (c : ℕ). assignable w.classes c throwable_class) (sym e ∙ sym (name 0))
+      ∙ has_passed p w store pending activation call others k owner shared s target ThrowNew args h free in cc))
+
+  makes_numbers : (T : ElementType) → IsMakeable w.classes (number_array T)
+  makes_numbers JInt = built_in_class both 23 (omega arith) (omega arith)
+  makes_numbers JShort = built_in_class both 22 (omega arith) (omega arith)
+  makes_numbers JByte = built_in_class both 20 (omega arith) (omega arith)
+  makes_numbers JChar = built_in_class both 21 (omega arith) (omega arith)
+
+  -- the class of arrays of the class of argument 1
+  abbrev array_class : ℕ
+  array_class = option_map_or (λ (c : ℕ). c) (array_class_of w.classes (name_or_zero (name_seen store.heap (at both 1)))) 0
+
+  makes_references : (h : Asked both NewObjectArray) → Passes both NewObjectArray
+      → IsMakeable w.classes array_class × (unwrap_or (array_class_of w.classes (name_there store.heap (at both 1))) 0 ≡ array_class)
+  makes_references h free =
+      let n = name_or_zero (name_seen store.heap (at both 1)) in
+      let class = class_given both NewObjectArray (IntNumber ∷ []) (Nullable ∷ []) refl h free in
+      let passed = has_passed p w store pending activation call others k owner shared s target NewObjectArray args h free in
+      let plain : is_plain (class_kind w.classes n) ≡ true =
+      ap (λ (c : ℕ). is_plain (class_kind w.classes c)) (sym (name 1)) ∙ (and_parts (is_plain (class_kind w.classes (name_there store.heap (at both 1)))) (fits_there w.classes store.heap (at both 2) (name_there store.heap (at both 1))) passed).0 in
+      let array = sound.declares.arrays n class.0 class.1 plain in
+      let is : array.0 ≡ array_class = sym (ap (λ (o : Option ℕ). option_map_or (λ (c : ℕ). c) o 0) array.1) in (
+        subst (IsMakeable w.classes) is
+            (makeable array.0 (class_within w.classes (array_name (class_name w.classes n)) array.0 array.1)
+            (λ e. absurd (let clash : Plain ≡ ArrayOfObjects n = sym (class_is_plain w.classes sound.grown) ∙ ap (class_kind w.classes) (sym e) ∙ array.2 in cc))),
+        ap (λ (c : ℕ). unwrap_or (array_class_of w.classes c) 0) (name 1) ∙ ap (λ (o : Option ℕ). unwrap_or o 0) array.1 ∙ is,
+      )
+
+  -- what is worked out stands for what the table says of what the call sees
+  seen : (f : JniFunction) → Asked both f → Passes both f → (answer : Answer) → Works both f answer → HasKey both f → IsHeld both f → Stands both answer (prototype f).result (call_answer (unit both) w.classes k (sight both f) f)
+  unfolding call_answer effect_of
+  seen FindClass h free answer is keyed held = stands both is (class_found both FindClass h _ (class_within w.classes (text 0)))
+  seen GetSuperclass h free answer is keyed held =
+      stands both (is ∙ ap (λ (c : ℕ). Gives (given.Reference (class_object store.loaded.items (superclass w.classes c)))) (name 0))
+      (row.gives (row.reference (class_agrees both GetSuperclass h _ (super_known w.classes (grown_is_ordered w.classes sound.grown) _))))
+  seen GetObjectClass h free answer is keyed held =
+      let class = class_of_first both GetObjectClass h (object_given_at both GetObjectClass [] NonNull [] tt refl refl h free) in
+      stands both is (row.gives (row.reference (table_of both GetObjectClass h _ class.0 class.1)))
+  seen IsInstanceOf h free answer is keyed held =
+      stands both (is ∙ ap (λ (c : ℕ). Gives (given.Number (truth_word (fits_there w.classes store.heap (at both 0) c)))) (name 1))
+      (row.gives (row.flag (ap truth_word (fits_one (scene both) (at both 0) _ (there both IsInstanceOf h 0)))))
+  seen IsAssignableFrom h free answer is keyed held =
+      stands both (is ∙ (λ i. Gives (given.Number (truth_word (assignable w.classes (name 0 i) (name 1 i)))))) (row.gives (row.flag refl))
+  seen AllocObject h free answer is keyed held =
+      stands both (is ∙ ap (λ (c : ℕ). Makes (Fresh (class_id c))) (name 0)) (row.makes (record { object = refl; makeable = makes_object h free }))
+  seen NewLocalRef h free answer is keyed held = stands both is (row.gives (row.reference (named both NewLocalRef h 0)))
+  seen NewGlobalRef h free answer is keyed held = stands both is (row.makes_global _ (named both NewGlobalRef h 0))
+  seen NewWeakGlobalRef h free answer is keyed held = stands both is (row.makes_weak _ (named both NewWeakGlobalRef h 0))
+  seen DeleteLocalRef h free answer is keyed held =
+      stands both is (local_deleted both (key_at (references both) (operand_of call.operands 0)) _ (own_key both DeleteLocalRef h keyed refl))
+  seen DeleteGlobalRef h free answer is keyed held =
+      let static = static_named both DeleteGlobalRef h refl held in
+      stands both is
+      (subst (λ (o : Operand). Stands both (deletes_global (references both) o) GivesNothing (table.global_deleted (deleted_seen (scene both) DeleteGlobalRef o))) (sym static.1) (global_deleted both static.0 (static_at (references both) static.0) static.2))
+  seen DeleteWeakGlobalRef h free answer is keyed held =
+      let static = static_named both DeleteWeakGlobalRef h refl held in
+      stands both is
+      (subst (λ (o : Operand). Stands both (deletes_weak (references both) o) GivesNothing (table.weak_deleted (deleted_seen (scene both) DeleteWeakGlobalRef o))) (sym static.1) (weak_deleted both static.0 (static_at (references both) static.0) static.2))
+  seen IsSameObject h free answer is keyed held =
+      stands both (is ∙ (λ i. Gives (given.Number (truth_word (name 0 i == name 1 i)))))
+      (row.gives (row.flag (ap truth_word (same_names both (at both 0) (at both 1) _ _ h.store_agrees.heap (named both IsSameObject h 0) (named both IsSameObject h 1)))))
+  seen EnsureLocalCapacity h free answer is keyed held = stands both (is ∙ ap room_for (top_number both activation.stack)) (ensured both _)
+  seen PushLocalFrame h free answer is keyed held = stands both (is ∙ ap frame_for (top_number both activation.stack)) (pushed both _)
+  seen PopLocalFrame h free answer is keyed held = stands both is (row.pops _ (named both PopLocalFrame h 0))
+  seen GetFieldID h free answer is keyed held =
+      field_found both _ answer (subst (λ (c : ℕ). IsFoundField w.classes (find_field w.classes c (text 0) (text 1)) answer) (name 0) is)
+  seen GetStaticFieldID h free answer is keyed held =
+      field_found both _ answer (subst (λ (c : ℕ). IsFoundField w.classes (find_static w.classes c (text 0) (text 1)) answer) (name 0) is)
+  seen GetStaticMethodID h free answer is keyed held =
+      method_found both _ answer (method_error both (h.methods refl))
+      (subst (λ (c : ℕ). IsFoundMethod (unit both) w.classes (find_method (unit both) w.classes c (text 0) (text 1)) answer) (name 0) is)
+  seen (GetField T) h free answer is keyed held =
+      let f = GetField T in
+      stands both (is ∙ ap (λ (i : ℕ). Gives (given.Number (word_in (value_there store.heap (at both 0) i)))) (place_is both f NonNull [] refl refl h free _))
+      (row.gives (number_read both (at both 0) _ (named both f h 0) h.store_agrees _))
+  seen (SetField T) h free answer is keyed held =
+      let f = SetField T in
+      let first = object_given_at both f [] NonNull (FieldID ∷ IntNumber ∷ []) tt refl refl h free in
+      stands both (is ∙ ap (λ (i : ℕ). writes_there store.heap (at both 0) i (worked.stored (scene both) call T)) (place_is both f NonNull (IntNumber ∷ []) refl refl h free _))
+      (written both (at both 0) first.address _ _ _ _ first.at (first_name both first) (stored both f 2 T refl refl h) h.store_agrees)
+  seen GetObjectField h free answer is keyed held =
+      stands both (is ∙ ap (λ (i : ℕ). Gives (given.Reference (address_in (value_there store.heap (at both 0) i)))) (place_is both GetObjectField NonNull [] refl refl h free _))
+      (row.gives (row.reference (reference_read both (at both 0) _ (named both GetObjectField h 0) h.store_agrees _)))
+  seen SetObjectField h free answer is keyed held =
+      let first = object_given_at both SetObjectField [] NonNull (FieldID ∷ Nullable ∷ []) tt refl refl h free in
+      stands both (is ∙ ap (λ (i : ℕ). writes_there store.heap (at both 0) i (held_reference (at both 2))) (place_is both SetObjectField NonNull (Nullable ∷ []) refl refl h free _))
+      (written both (at both 0) first.address _ _ _ _ first.at (first_name both first) (held_agrees both (at both 2) _ (named both SetObjectField h 2)) h.store_agrees)
+  seen (GetStaticField T) h free answer is keyed held =
+      let f = GetStaticField T in
+      let it = holder both f [] refl h free in
+      let place = place_is both f ClassObject [] refl refl h free (own_statics w.classes (field_there w.classes handle).class) in
+      stands both (is ∙ (λ i. Gives (given.Number (word_in (value_there store.heap (it.same i) (place i)))))) (row.gives (number_read both declaring _ it.agrees h.store_agrees _))
+  seen (SetStaticField T) h free answer is keyed held =
+      let f = SetStaticField T in
+      let it = holder both f (IntNumber ∷ []) refl h free in
+      let place = place_is both f ClassObject (IntNumber ∷ []) refl refl h free (own_statics w.classes (field_there w.classes handle).class) in
+      stands both (is ∙ (λ i. writes_there store.heap (it.same i) (place i) (worked.stored (scene both) call T)))
+      (written both declaring it.address _ _ _ _ it.is it.named (stored both f 2 T refl refl h) h.store_agrees)
+  seen GetStaticObjectField h free answer is keyed held =
+      let it = holder both GetStaticObjectField [] refl h free in
+      let place = place_is both GetStaticObjectField ClassObject [] refl refl h free (own_statics w.classes (field_there w.classes handle).class) in
+      stands both (is ∙ (λ i. Gives (given.Reference (address_in (value_there store.heap (it.same i) (place i))))))
+      (row.gives (row.reference (reference_read both declaring _ it.agrees h.store_agrees _)))
+  seen SetStaticObjectField h free answer is keyed held =
+      let it = holder both SetStaticObjectField (Nullable ∷ []) refl h free in
+      let place = place_is both SetStaticObjectField ClassObject (Nullable ∷ []) refl refl h free (own_statics w.classes (field_there w.classes handle).class) in
+      stands both (is ∙ (λ i. writes_there store.heap (it.same i) (place i) (held_reference (at both 2))))
+      (written both declaring it.address _ _ _ _ it.is it.named (held_agrees both (at both 2) _ (named both SetStaticObjectField h 2)) h.store_agrees)
+  seen GetArrayLength h free answer is keyed held = stands both is (row.gives (counted both h.store_agrees (at both 0)))
+  seen GetStringLength h free answer is keyed held = stands both is (row.gives (counted both h.store_agrees (at both 0)))
+  seen (NewArray T) h free answer is keyed held =
+      stands both (is ∙ ap (λ (z : ℤ). new_array (number_array T) z (cell.Number 0)) (top_number both activation.stack))
+      (array_made both (number_array T) (cell.Number 0) (Number (pos 0)) (makes_numbers T) (record { sfits = omega arith }, refl) _)
+  seen NewObjectArray h free answer is keyed held =
+      let class = makes_references h free in
+      stands both (is ∙ (λ i. new_array (class.1 i) (top_number both activation.stack i) (held_reference (at both 2))))
+      (array_made both array_class _ _ class.0 (held_agrees both (at both 2) _ (named both NewObjectArray h 2)) _)
+  seen GetObjectArrayElement h free answer is keyed held =
+      stands both (is ∙ ap (element_there store.heap (at both 0)) (ap (index_there store.heap (at both 0)) (top_number both activation.stack) ∙ index_is both (at both 0) _))
+      (element_read both (at both 0) _ (named both GetObjectArrayElement h 0) h.store_agrees _)
+  seen SetObjectArrayElement h free answer is keyed held =
+      let first = object_given_at both SetObjectArrayElement [] ObjectArray (IntNumber ∷ Nullable ∷ []) tt refl refl h free in
+      let fits = fits_one (scene both) (at both 2) (element_class (class_kind w.classes (class_of_given store.heap (at both 0)))) (there both SetObjectArrayElement h 2) in
+      let index = ap (index_there store.heap (at both 0)) (top_number both activation.stack) ∙ index_is both (at both 0) _ in
+      stands both (is ∙ (λ i. stores_there store.heap (at both 0) (fits i) (index i) (held_reference (at both 2))))
+      (element_written both (at both 0) first.address _ _ _ first.at (first_name both first) (held_agrees both (at both 2) _ (named both SetObjectArrayElement h 2)) h.store_agrees _ _)
+  seen NewStringUTF h free answer is keyed held =
+      stands both is (row.makes (record { object = refl; makeable = built_in_class both string_class (omega arith) (omega arith) }))
+  seen Throw h free answer is keyed held = stands both is (row.pends _ (named both Throw h 0) (row.int refl (record { sfits = omega arith })))
+  seen ThrowNew h free answer is keyed held =
+      stands both (is ∙ ap (λ (c : ℕ). Raises (class_id c) 0) (name 0)) (row.raises (built_in_class both string_class (omega arith) (omega arith)) (makes_throwable h free))
+  seen ExceptionOccurred h free answer is keyed held = stands both is (row.gives (row.reference (pending_named both ExceptionOccurred h)))
+  seen ExceptionCheck h free answer is keyed held =
+      stands both is (row.gives (row.flag (ap truth_word (same_pending store.heap pending _ (pending_named both ExceptionCheck h)))))
+  seen ExceptionClear h free answer is keyed held = stands both is (row.pends None tt row.nothing)
+  seen FatalError h free answer is keyed held = stands both is row.halts
+  seen (GetArrayRegion T) h free answer is keyed held =
+      let f = GetArrayRegion T in
+      let g = region_given both f (NumberArray T) T tt refl refl h free in
+      stands both is (region_read both g f h array_index_out_of_bounds (omega arith) (omega arith))
+  seen (SetArrayRegion T) h free answer is keyed held =
+      let f = SetArrayRegion T in
+      let g = region_given both f (NumberArray T) T tt refl refl h free in
+      stands both is (region_written both g f h array_index_out_of_bounds (omega arith) (omega arith) (numbers_are both g f h T refl free))
+  seen GetStringRegion h free answer is keyed held =
+      let g = region_given both GetStringRegion StringObject JChar tt refl refl h free in
+      stands both is (region_read both g GetStringRegion h string_index_out_of_bounds (omega arith) (omega arith))
+  seen (GetBuffer access) h free answer is keyed held = back both (GetBuffer access) h held (answers_get_buffer both access h free answer is)
+  seen (ReleaseBuffer access) h free answer is keyed held = back both (ReleaseBuffer access) h held (answers_release both access h free answer is)
+  seen MonitorEnter h free answer is keyed held = back both MonitorEnter h held (answers_enter both h free answer is)
+  seen MonitorExit h free answer is keyed held = back both MonitorExit h held (answers_exit both h free answer is)
+  seen CallStaticVoidMethod h free answer is keyed held = stands both is (back both CallStaticVoidMethod h held (method_called both CallStaticVoidMethod refl h free))
+  seen CallStaticIntMethod h free answer is keyed held = stands both is (back both CallStaticIntMethod h held (method_called both CallStaticIntMethod refl h free))
+  seen CallStaticObjectMethod h free answer is keyed held = stands both is (back both CallStaticObjectMethod h held (method_called both CallStaticObjectMethod refl h free))
+
+  -- so it is what the call does
+  pub answers : (f : JniFunction) → Asked both f → Passes both f → (answer : Answer) → Works both f answer → HasKey both f → IsHeld both f → Does both f answer
+  answers f h free answer is keyed held = does both f h held (seen f h free answer is keyed held)

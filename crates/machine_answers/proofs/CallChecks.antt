@@ -4,12 +4,12 @@ use Rattle.std.specs.Prelude.{unwrap_or}
 use Rattle.std.specs.List.{AllZip}
 use Rattle.base.specs.Bytes.{Identifier}
 use Rattle.syntax.specs.Tree.{SourceUnit}
-use Rattle.class_rules.specs.Class.{Classes, assignable}
+use Rattle.class_rules.specs.Class.{Classes}
 use Rattle.code.specs.declared.instr.Operand.{Operand}
 use Rattle.code.specs.declared.instr.Operand.TheVariants as operand
 use Rattle.heap.specs.Heap.{Space, name_at}
-use Rattle.semantics.specs.Arguments.{Actual, ReferenceActual, FieldActual, MethodActual, method_given, method_in_actual, NumberActual, TextActual, VariableActual, ModeActual, NothingActual, reference_given, reference_in_actual, name_or_zero}
-use Rattle.semantics.specs.Heap.{Heap, class_of, fits_class}
+use Rattle.semantics.specs.Arguments.{Actual, ReferenceActual, FieldActual, MethodActual, method_given, method_in_actual, NumberActual, TextActual, VariableActual, ModeActual, NothingActual, reference_given, reference_in_actual}
+use Rattle.semantics.specs.Heap.{Heap, class_of}
 use Rattle.semantics.specs.Object.{Reference}
 use Rattle.semantics.specs.Variable.{StaticReference, Empty, Live, Deleted, as_static}
 use Rattle.machine_scenes.specs.declared.handle.Handle.{Handle}
@@ -18,7 +18,7 @@ use Rattle.machine_scenes.specs.StoreAgrees.{HeldAgrees}
 use Rattle.machine_scenes.specs.Statics.{References, held_address, held_argument, static_at}
 use Rattle.machine_scenes.specs.declared.references.Held.{Held}
 use Rattle.machine_scenes.specs.declared.references.Held.TheVariants as held
-use Rattle.machine_scenes.specs.Given.{IsGiven, ReferenceIsGiven, class_of_given, class_there, fits_there, method_at, name_there, operand_at, operand_of}
+use Rattle.machine_scenes.specs.Given.{IsGiven, ReferenceIsGiven, class_there, method_at, operand_at, operand_of}
 use Rattle.machine_scenes.specs.HeapAgrees.{ReferenceAgrees, BlocksAgree}
 use Rattle.machine_scenes.proofs.ObjectsAtAddresses.{is_object}
 
@@ -110,26 +110,3 @@ module _ (unit : SourceUnit) (classes : Classes) (space : Space) (references : R
     -- the class of an object by its address
     pub class_is : (a n : ℕ) → ReferenceAgrees space (Some a) (Some n) → class_there space a ≡ class_of heap n
     class_is a n named = ap (λ o. unwrap_or o 0) (is_object space heap a n blocks named).class
-
-    -- ---- what a function asks beyond that
-
-    -- the name of an object by its address
-    pub name_is : (o : Option ℕ) (q : Reference) → ReferenceAgrees space o q → name_there space o ≡ name_or_zero q
-    name_is None None h = refl
-    name_is None (Some n) h = absurd h
-    name_is (Some a) None h = absurd h
-    name_is (Some a) (Some n) h = ap (λ o. unwrap_or o 0) h
-
-    -- its class
-    pub class_given_is : (o : Option ℕ) (q : Reference) → ReferenceAgrees space o q → class_of_given space o ≡ class_of heap (name_or_zero q)
-    class_given_is None None h = refl
-    class_given_is None (Some n) h = absurd h
-    class_given_is (Some a) None h = absurd h
-    class_given_is (Some a) (Some n) h = class_is a n h
-
-    -- whether it fits a class
-    pub fits_is : (o : Option ℕ) (q : Reference) (c : ℕ) → ReferenceAgrees space o q → fits_there classes space o c ≡ fits_class classes heap q c
-    fits_is None None c h = refl
-    fits_is None (Some n) c h = absurd h
-    fits_is (Some a) None c h = absurd h
-    fits_is (Some a) (Some n) c h = ap (λ d. assignable classes d c) (class_is a n h)

@@ -1,8 +1,8 @@
 -- What is known of a call's operands, by the kinds of its parameters.
 use Rattle.std.proofs.Common.{inl, inr, ◌≡◌, ℕ, zero, suc, ◌+◌, ◌-◌, ◌<◌, ◌≤◌, ◌^◌, Bool, true, false, not, List, [], ◌∷◌, ◌++◌, length, Option, Some, None, is_none, slice_get, refl, sym, ap, ◌∙◌, subst, arith, eqb, ⊎_elim, ℤ}
-use Rattle.std.specs.Prelude.{◌⊎◌, ◌||◌, ◌==◌, unwrap_or, FitsSigned, ◌&&◌}
+use Rattle.std.specs.Prelude.{◌⊎◌, ◌||◌, ◌==◌, FitsSigned, ◌&&◌}
 use Rattle.std.specs.Int.{w32}
-use Rattle.std.specs.List.{AllByRecursion, AllZip, list_any}
+use Rattle.std.specs.List.{AllZip, list_any}
 use Rattle.std.specs.Option.{option_map_or}
 use Rattle.std.proofs.lemmas.Bool.Decides.{eqb_tells}
 use Rattle.base.specs.Element.{ElementType}
@@ -14,15 +14,12 @@ use Rattle.classes.specs.declared.class.FieldHandle.{FieldHandle}
 use Rattle.code.specs.declared.instr.Operand.{Operand}
 use Rattle.code.specs.declared.instr.Operand.TheVariants as operand
 use Rattle.heap.specs.Heap.{Space, IsLaidOut, name_at}
-use Rattle.jni.specs.Prototype.{ParameterKind, StaticVariable, WeakVariable, Passed, ClassObject, FieldID, IntNumber, NumberArray, TextBytes}
-use Rattle.semantics.specs.Arguments.{Actual, ReferenceActual, FieldActual, MethodActual, TextActual, VariableActual, ModeActual, NothingActual, reference_given, name_or_zero, text_given, text_in_actual, NumberActual, number_given, number_in_actual}
-use Rattle.semantics.specs.Heap.{Heap, values_of}
+use Rattle.jni.specs.Prototype.{ParameterKind, Passed, ClassObject, FieldID, IntNumber, NumberArray}
+use Rattle.semantics.specs.Arguments.{Actual, ReferenceActual, FieldActual, MethodActual, TextActual, VariableActual, ModeActual, NothingActual, reference_given, NumberActual}
 use Rattle.semantics.specs.Object.{Reference}
-use Rattle.code_meaning.specs.Does.{ActualFits, OperandFits, texts_given, words_given}
+use Rattle.code_meaning.specs.Does.{ActualFits, OperandFits}
 use Rattle.code_meaning.specs.Does as does
 use Rattle.code_meaning.specs.Fits.{IsReferenceKind}
-use Rattle.semantics.specs.Value.{Int}
-use Rattle.code_meaning.specs.Slots.{word_of}
 use Rattle.machine_scenes.specs.declared.handle.Handle.{Handle}
 use Rattle.machine_scenes.specs.Statics.{References, held_address, holds_deleted, holds_null, static_at}
 use Rattle.machine_scenes.specs.declared.references.Held.{Held}
@@ -31,24 +28,18 @@ use Rattle.class_queries.specs.Kinds.{class_misfits}
 use Rattle.machine_answers.specs.Sights.{gives_deleted, gives_null}
 use Rattle.machine_answers.specs.Checked.{misfits, some_misfit, some_missing, may_be_null}
 use Rattle.machine_scenes.specs.Given.{operand_at, operand_of, class_there, IsGiven, field_at}
-use Rattle.machine_scenes.specs.HeapAgrees.{ReferenceAgrees, BlocksAgree, IsTable}
+use Rattle.machine_scenes.specs.HeapAgrees.{ReferenceAgrees, IsTable}
 use Rattle.machine_answers.specs.WorkedOut.{count_there, class_object}
 use Rattle.machine_answers.proofs.CallChecks.{reference_at_place}
 use Rattle.machine_answers.proofs.FewValues.{few_values}
-use Rattle.machine_scenes.proofs.ObjectsAtAddresses.{is_object}
+use Rattle.machine_scenes.proofs.Handles.{class_known}
 
 -- ---- what is there
 
-module _ (classes : Classes) (space : Space) (references : References) (fields : List (Option Handle)) (heap : Heap) (blocks : BlocksAgree space heap space.blocks) where
-  pub count_is : (o : Option ℕ) (q : Reference) → ReferenceAgrees space o q → count_there space o ≡ length (values_of heap (name_or_zero q))
-  count_is None None h = refl
-  count_is None (Some n) h = absurd h
-  count_is (Some a) None h = absurd h
-  count_is (Some a) (Some n) h = (is_object space heap a n blocks h).count
-
-  pub few_there : (o : Option ℕ) → IsLaidOut space → space.cells ≤ 1048576 → count_there space o < 2 ^ 31
-  few_there None laid_out limit = omega arith
-  few_there (Some a) laid_out limit = few_values space a laid_out limit
+-- an object has fewer values than there are `jint`s
+pub few_there : (space : Space) (o : Option ℕ) → IsLaidOut space → space.cells ≤ 1048576 → count_there space o < 2 ^ 31
+few_there space None laid_out limit = omega arith
+few_there space (Some a) laid_out limit = few_values space a laid_out limit
 
 -- ---- class objects
 
@@ -68,17 +59,11 @@ class_object_is space loaded count c table low high = by_address (slice_get load
 pub super_known : (classes : Classes) → IsOrdered classes → (c s : ℕ) → superclass classes c ≡ Some s → (0 < s) × (s ≤ length classes)
 super_known classes o c s h = by_class (class_at classes c) refl h
   where
-    known : (T : Classes) (n : ℕ) (d : Class) → class_at T n ≡ Some d → (0 < n) × (n ≤ length T)
-    known T zero d e = absurd (cc)
-    known [] (suc i) d e = absurd (cc)
-    known (x ∷ T) (suc zero) d e = (omega arith, omega arith)
-    known (x ∷ T) (suc (suc i)) d e = (omega arith, omega (arith, (known T (suc i) d e).1))
-
     by_class : (k : Option Class) → class_at classes c ≡ k → option_map_or (λ (d : Class). d.superclass) k None ≡ Some s → (0 < s) × (s ≤ length classes)
     by_class None e q = absurd (cc)
-    by_class (Some d) e q = let b = o.superclasses c s d e q in known classes s b.class b.is
+    by_class (Some d) e q = let b = o.superclasses c s d e q in class_known classes s b.class b.is
 
--- ---- texts
+-- ---- parameters of no number
 
 pub same_number : (n m : ℕ) → not (n == m) ≡ false → n ≡ m
 same_number n m same =
@@ -97,79 +82,6 @@ no_word p kind never (inl e) = subst IsReferenceKind e kind
 no_word p kind never (inr e) = let clash : true ≡ false = ap may_be_null (sym e) ∙ never in absurd (cc)
 
 module _ (unit : SourceUnit) (classes : Classes) (space : Space) (references : References) (fields : List (Option Handle)) where
-  no_text : (o : Operand) (a : Actual) → OperandFits ClassObject o → IsGiven unit classes space references fields o a → does.text_given a ≡ []
-  no_text operand.Number a (inl e) h = absurd (cc)
-  no_text operand.Number a (inr e) h = absurd (cc)
-  no_text (operand.FieldId i) a fits h = absurd (cc)
-  no_text (operand.MethodId i) a fits h = absurd (cc)
-  no_text operand.Text a fits h = absurd (cc)
-  no_text (operand.Array array) a fits h = ap does.text_given h.1
-  no_text (operand.Buffer i) a fits h = ap does.text_given h.1
-  no_text (operand.Mode mode) a fits h = ap does.text_given h.1
-  no_text (operand.IsCopy i) a fits h = ap does.text_given h.1
-  no_text operand.Null a fits (inl h) = ap does.text_given h.is
-  no_text operand.Null a fits (inr (inl h)) = ap does.text_given h.is
-  no_text operand.Null a fits (inr (inr (inl h))) = ap does.text_given h.is
-  no_text operand.Null a fits (inr (inr (inr h))) = ap does.text_given h
-  no_text (operand.Local i) a fits h = ap does.text_given h.is
-  no_text (operand.Static i) a fits h = ap does.text_given h.is
-
-  one_text : (o : Operand) (a : Actual) → OperandFits TextBytes o → IsGiven unit classes space references fields o a → does.text_given a ≡ text_in_actual (Some a) ∷ []
-  one_text operand.Number a (inl e) h = absurd (cc)
-  one_text operand.Number a (inr e) h = absurd (cc)
-  one_text (operand.FieldId i) a fits h = absurd (cc)
-  one_text (operand.MethodId i) a fits h = absurd (cc)
-  one_text operand.Text a fits h = ap does.text_given h.1 ∙ ap (λ (b : Actual). text_in_actual (Some b) ∷ []) (sym h.1)
-  one_text operand.Null a fits h = absurd fits
-  one_text (operand.Array array) a fits h = absurd (let e = fits.1 in cc)
-  one_text (operand.Buffer i) a fits h = absurd (let e = fits.1 in cc)
-  one_text (operand.Mode mode) a fits h = absurd (cc)
-  one_text (operand.IsCopy i) a fits h = absurd (cc)
-  one_text (operand.Local i) a fits h = absurd fits
-  one_text (operand.Static i) a fits h = absurd fits
-
-  -- the text of a call that takes one
-  pub only_text : (operands : List Operand) (args : List Actual) → AllZip OperandFits (TextBytes ∷ []) operands → AllZip (IsGiven unit classes space references fields) operands args
-      → unwrap_or (slice_get (texts_given args) 0) [] ≡ text_given args 0
-  only_text [] args fits given = absurd fits
-  only_text (x ∷ y ∷ more) args fits given = absurd fits.1
-  only_text (x ∷ []) [] fits given = absurd given
-  only_text (x ∷ []) (a ∷ b ∷ more) fits given = absurd given.1
-  only_text (x ∷ []) (a ∷ []) fits given = ap (λ (l : List (List ℕ)). unwrap_or (slice_get (l ++ []) 0) []) (one_text x a fits.0 given.0)
-
-  -- the text of a call that takes a class and a text
-  pub second_text : (operands : List Operand) (args : List Actual) → AllZip OperandFits (ClassObject ∷ TextBytes ∷ []) operands → AllZip (IsGiven unit classes space references fields) operands args
-      → unwrap_or (slice_get (texts_given args) 0) [] ≡ text_given args 1
-  second_text [] args fits given = absurd fits
-  second_text (c ∷ []) args fits given = absurd fits.1
-  second_text (c ∷ x ∷ y ∷ more) args fits given = absurd fits.1.1
-  second_text (c ∷ x ∷ []) [] fits given = absurd given
-  second_text (c ∷ x ∷ []) (a ∷ []) fits given = absurd given.1
-  second_text (c ∷ x ∷ []) (a ∷ b ∷ d ∷ more) fits given = absurd given.1.1
-  second_text (c ∷ x ∷ []) (a ∷ b ∷ []) fits given =
-      let none = no_text c a fits.0 given.0 in
-      let one = one_text x b fits.1.0 given.1.0 in
-      let all : texts_given (a ∷ b ∷ []) ≡ text_in_actual (Some b) ∷ [] = λ i. none i ++ (one i ++ []) in
-      ap (λ (l : List (List ℕ)). unwrap_or (slice_get l 0) []) all
-
-  -- the texts of a call that takes a class and two texts
-  pub two_texts : (operands : List Operand) (args : List Actual) → AllZip OperandFits (ClassObject ∷ TextBytes ∷ TextBytes ∷ []) operands → AllZip (IsGiven unit classes space references fields) operands args
-      → (unwrap_or (slice_get (texts_given args) 0) [] ≡ text_given args 1) × (unwrap_or (slice_get (texts_given args) 1) [] ≡ text_given args 2)
-  two_texts [] args fits given = absurd fits
-  two_texts (c ∷ []) args fits given = absurd fits.1
-  two_texts (c ∷ x ∷ []) args fits given = absurd fits.1.1
-  two_texts (c ∷ x ∷ y ∷ z ∷ more) args fits given = absurd fits.1.1.1
-  two_texts (c ∷ x ∷ y ∷ []) [] fits given = absurd given
-  two_texts (c ∷ x ∷ y ∷ []) (a ∷ []) fits given = absurd given.1
-  two_texts (c ∷ x ∷ y ∷ []) (a ∷ b ∷ []) fits given = absurd given.1.1
-  two_texts (c ∷ x ∷ y ∷ []) (a ∷ b ∷ d ∷ e ∷ more) fits given = absurd given.1.1.1
-  two_texts (c ∷ x ∷ y ∷ []) (a ∷ b ∷ d ∷ []) fits given =
-      let none = no_text c a fits.0 given.0 in
-      let one = one_text x b fits.1.0 given.1.0 in
-      let two = one_text y d fits.1.1.0 given.1.1.0 in
-      let all : texts_given (a ∷ b ∷ d ∷ []) ≡ text_in_actual (Some b) ∷ text_in_actual (Some d) ∷ [] = λ i. none i ++ (one i ++ (two i ++ [])) in
-      (ap (λ (l : List (List ℕ)). unwrap_or (slice_get l 0) []) all, ap (λ (l : List (List ℕ)). unwrap_or (slice_get l 1) []) all)
-
   -- ---- the object of an argument
 
   -- operand i gives an object
@@ -273,8 +185,6 @@ module _ (unit : SourceUnit) (classes : Classes) (space : Space) (references : R
   is_number (operand.FieldId i) a fits h = absurd (cc)
   is_number (operand.MethodId i) a fits h = absurd (cc)
 
-  -- ---- the number on top of the stack
-
   -- a parameter of no number
   abbrev pub IsWordless : ParameterKind → Type 0
   IsWordless p = (p ≡ IntNumber) ⊎ (p ≡ Passed) → ⊥
@@ -288,38 +198,6 @@ module _ (unit : SourceUnit) (classes : Classes) (space : Space) (references : R
   wordless p (VariableActual x) none fits = refl
   wordless p (ModeActual m) none fits = refl
   wordless p NothingActual none fits = refl
-
-  no_words : (parameters : List ParameterKind) (args : List Actual) → AllByRecursion IsWordless parameters → AllZip ActualFits parameters args → words_given args ≡ []
-  no_words [] [] none fits = refl
-  no_words [] (a ∷ args) none fits = absurd fits
-  no_words (p ∷ parameters) [] none fits = absurd fits
-  no_words (p ∷ parameters) (a ∷ args) none fits =
-      let one = wordless p a none.0 fits.0 in
-      let further = no_words parameters args none.1 fits.1 in
-      λ i. further i ++ one i
-
-  -- the number of argument i is the only one
-  pub record OnTop (args : List Actual) (i : ℕ) : Type 0 where
-    pub number : ℤ
-    pub is : number_given args i ≡ number
-    pub fits : FitsSigned w32 number
-    pub words : words_given args ≡ word_of (Int number) ∷ []
-
-  pub on_top : (before after : List ParameterKind) (operands : List Operand) (args : List Actual) → AllByRecursion IsWordless before → AllByRecursion IsWordless after
-      → AllZip OperandFits (before ++ IntNumber ∷ after) operands → AllZip ActualFits (before ++ IntNumber ∷ after) args → AllZip (IsGiven unit classes space references fields) operands args → OnTop args (length before)
-  on_top [] after [] args none later kinds fit given = absurd kinds
-  on_top [] after (o ∷ operands) [] none later kinds fit given = absurd given
-  on_top [] after (o ∷ operands) (a ∷ args) none later kinds fit given =
-      let number = is_number o a kinds.0 given.0 in
-      let word : does.word_given a ≡ word_of (Int number.0) ∷ [] = ap does.word_given number.1 in
-      let further = no_words after args later fit.1 in
-      record { number = number.0; is = ap (λ (q : Actual). number_in_actual (Some q)) number.1; fits = number.2; words = λ i. further i ++ word i }
-  on_top (p ∷ before) after [] args none later kinds fit given = absurd kinds
-  on_top (p ∷ before) after (o ∷ operands) [] none later kinds fit given = absurd given
-  on_top (p ∷ before) after (o ∷ operands) (a ∷ args) none later kinds fit given =
-      let further = on_top before after operands args none.1 later kinds.1 fit.1 given.1 in
-      let one = wordless p a none.0 fit.0 in
-      record { number = further.number; is = further.is; fits = further.fits; words = λ i. further.words i ++ one i }
 
   -- ---- its class
 
@@ -342,43 +220,6 @@ module _ (unit : SourceUnit) (classes : Classes) (space : Space) (references : R
   pub is_number_array : (t : ElementType) (before after : List ParameterKind) (operands : List Operand) (a : ℕ) → operand_at references (operand_of operands (length before)) ≡ Some a → AllZip OperandFits (before ++ NumberArray t ∷ after) operands
       → some_misfit classes space references (before ++ NumberArray t ∷ after) operands ≡ false → class_there space a ≡ number_array t
   is_number_array t before after operands a at fits misfit = same_number (class_there space a) (number_array t) (of_kind before (NumberArray t) after operands a at fits misfit)
-
--- an argument for a static is one
-static_operand : (o : Operand) → OperandFits StaticVariable o → (i : ℕ) × (o ≡ operand.Static i)
-static_operand (operand.Static i) fits = (i, refl)
-static_operand operand.Number (inl e) = absurd (cc)
-static_operand operand.Number (inr e) = absurd (cc)
-static_operand (operand.MethodId i) fits = absurd (cc)
-static_operand operand.Text fits = absurd (cc)
-static_operand operand.Null fits = absurd fits
-static_operand (operand.Local i) fits = absurd fits
-static_operand (operand.FieldId i) fits = absurd (cc)
-static_operand (operand.Array array) fits = absurd (let e = fits.1 in cc)
-static_operand (operand.Buffer i) fits = absurd (let e = fits.1 in cc)
-static_operand (operand.Mode mode) fits = absurd (cc)
-static_operand (operand.IsCopy i) fits = absurd (cc)
-
-pub only_static : (operands : List Operand) → AllZip OperandFits (StaticVariable ∷ []) operands → (i : ℕ) × (operand_of operands 0 ≡ operand.Static i)
-only_static [] fits = absurd fits
-only_static (o ∷ operands) fits = static_operand o fits.0
-
-weak_operand : (o : Operand) → OperandFits WeakVariable o → (i : ℕ) × (o ≡ operand.Static i)
-weak_operand (operand.Static i) fits = (i, refl)
-weak_operand operand.Number (inl e) = absurd (cc)
-weak_operand operand.Number (inr e) = absurd (cc)
-weak_operand (operand.MethodId i) fits = absurd (cc)
-weak_operand operand.Text fits = absurd (cc)
-weak_operand operand.Null fits = absurd fits
-weak_operand (operand.Local i) fits = absurd fits
-weak_operand (operand.FieldId i) fits = absurd (cc)
-weak_operand (operand.Array array) fits = absurd (let e = fits.1 in cc)
-weak_operand (operand.Buffer i) fits = absurd (let e = fits.1 in cc)
-weak_operand (operand.Mode mode) fits = absurd (cc)
-weak_operand (operand.IsCopy i) fits = absurd (cc)
-
-pub only_weak : (operands : List Operand) → AllZip OperandFits (WeakVariable ∷ []) operands → (i : ℕ) × (operand_of operands 0 ≡ operand.Static i)
-only_weak [] fits = absurd fits
-only_weak (o ∷ operands) fits = weak_operand o fits.0
 
 pub own_making : (classes : Classes) (c : ℕ) → not (has_own_making classes c) ≡ true → c ≡ class_class → ⊥
 own_making classes c h is = clash (not (is_plain (class_kind classes class_class))) (class_class == string_class) (ap (λ (n : ℕ). not (has_own_making classes n)) (sym is) ∙ h)

@@ -1,4 +1,3 @@
-pub mod ArrayAnswers
 pub mod BufferAnswers
 pub mod BufferOperands
 pub mod CallAnswers
@@ -6,18 +5,16 @@ pub mod CallChecks
 pub mod CallOperands
 pub mod CallTraps
 pub mod CopiedRegions
-pub mod ExceptionAnswers
 pub mod FewValues
-pub mod FieldAnswers
 pub mod FieldKinds
 pub mod FieldValues
 pub mod ItemPlaces
+pub mod KindAnswers
 pub mod LongTables
 pub mod MethodAnswers
 pub mod MonitorAnswers
 pub mod Overlays
 pub mod PassedValues
-pub mod ReferenceAnswers
 pub mod RegionAnswers
 pub mod RegionOperands
 pub mod SetPlaces

@@ -12,13 +12,12 @@ use Rattle.semantics.specs.Method.{MethodId}
 use Rattle.machine_scenes.specs.declared.handle.MethodHandle.{MethodHandle}
 use Rattle.machine_scenes.specs.FieldIds.{IsMethod, MethodAgrees}
 use Rattle.machine_scenes.specs.Given.{method_at, operand_of}
-use Rattle.machine_answers.specs.declared.answer.Answer.{Answer}
 use Rattle.machine_answers.specs.declared.answer.Answer.TheVariants.{Calls}
 use Rattle.machine_answers.specs.Answers.{IsAnswer}
 use Rattle.machine_answers.specs.Answers as row
 use Rattle.machine_answers.proofs.CallChecks.{method_at_place}
 use Rattle.machine_answers.proofs.CallTraps.{goes_together}
-use Rattle.machine_answers.proofs.TwoCalls.{TwoCalls, brought, Asked, Does, Works, fields, in_use, references, unit}
+use Rattle.machine_answers.proofs.TwoCalls.{TwoCalls, brought, Asked, Does, fields, in_use, references, unit}
 
 -- both of two hold
 both_hold : (a b : Bool) → (a && b) ≡ true → (a ≡ true) × (b ≡ true)
@@ -62,16 +61,8 @@ module _ (both : TwoCalls) where
   called_method f is h free = absurd (cc)
 
   -- it is entered
-  enters : (f : JniFunction) → CalledMethod f → Does both f Calls
-  enters f it =
+  pub method_called : (f : JniFunction) → calls_method f ≡ true → Asked both f → trap_of_call w.classes shared s target f args ≡ None → Does both f Calls
+  method_called f is h free =
+      let it = called_method f is h free in
       subst (IsAnswer w.classes (brought both) store.heap activation.locals shared s Calls (prototype f).result) (sym it.effect)
       (row.calls it.method.function.name (map passed_value (drop 2 args)))
-
-  pub answers_void : Asked both CallStaticVoidMethod → trap_of_call w.classes shared s target CallStaticVoidMethod args ≡ None → (answer : Answer) → Works both CallStaticVoidMethod answer → Does both CallStaticVoidMethod answer
-  answers_void h free answer is = subst (λ (x : Answer). Does both CallStaticVoidMethod x) (sym is) (enters CallStaticVoidMethod (called_method CallStaticVoidMethod refl h free))
-
-  pub answers_int : Asked both CallStaticIntMethod → trap_of_call w.classes shared s target CallStaticIntMethod args ≡ None → (answer : Answer) → Works both CallStaticIntMethod answer → Does both CallStaticIntMethod answer
-  answers_int h free answer is = subst (λ (x : Answer). Does both CallStaticIntMethod x) (sym is) (enters CallStaticIntMethod (called_method CallStaticIntMethod refl h free))
-
-  pub answers_object : Asked both CallStaticObjectMethod → trap_of_call w.classes shared s target CallStaticObjectMethod args ≡ None → (answer : Answer) → Works both CallStaticObjectMethod answer → Does both CallStaticObjectMethod answer
-  answers_object h free answer is = subst (λ (x : Answer). Does both CallStaticObjectMethod x) (sym is) (enters CallStaticObjectMethod (called_method CallStaticObjectMethod refl h free))

@@ -1,93 +1,38 @@
 -- What the operands of a function of regions give: two numbers, a local array, and an object that holds nothing but numbers.
-use Rattle.std.proofs.Common.{inl, inr, ◌≡◌, ℕ, ℤ, zero, suc, ◌+◌, ◌<◌, ◌≤◌, List, [], ◌∷◌, ◌++◌, length, map, take, drop, Option, Some, refl, sym, ap, ◌∙◌, subst, arith}
+use Rattle.std.proofs.Common.{inl, inr, ◌≡◌, ℕ, ℤ, zero, suc, ◌+◌, ◌<◌, ◌≤◌, List, [], ◌∷◌, length, map, take, drop, Some, None, refl, sym, ap, ◌∙◌, subst, arith}
 use Rattle.std.specs.Prelude.{slice_get, FitsSigned}
 use Rattle.std.specs.Int.{w32, cast_unsigned}
 use Rattle.std.specs.List.{AllZip}
-use Rattle.std.proofs.Math.Facts.{to_z-of_z}
 use Rattle.std.proofs.lemmas.List.{take-map}
 use Rattle.std.proofs.lemmas.Option.{slice_get-get_or, slice_get_within}
 use Rattle.base.specs.Bytes.{Identifier, lookup}
 use Rattle.base.specs.Element.{ElementType}
-use Rattle.syntax.specs.Tree.{SourceUnit}
 use Rattle.class_rules.specs.BuiltIns.{number_array}
 use Rattle.class_rules.specs.Class.{Classes, NumberField}
 use Rattle.class_rules.specs.Grown.{IsGrown}
 use Rattle.code.specs.declared.instr.LocalArray.{LocalArray as ArraySlots}
 use Rattle.code.specs.declared.instr.Operand.{Operand}
 use Rattle.code.specs.declared.instr.Operand.TheVariants as operand
-use Rattle.code_meaning.specs.Does.{ActualFits, OperandFits, words_given}
-use Rattle.code_meaning.specs.Does as does
-use Rattle.code_meaning.specs.Slots.{word_of}
+use Rattle.code_meaning.specs.Does.{ActualFits, OperandFits}
 use Rattle.heap.specs.Heap.{Space}
 use Rattle.heap.specs.declared.value.Value.{Value}
 use Rattle.heap.specs.declared.value.Value.TheVariants.{Number as Word, Null, Block as Address}
-use Rattle.jni.specs.Prototype.{ParameterKind, IntNumber, ArrayVariable}
-use Rattle.semantics.specs.Arguments.{Actual, number_given, number_in_actual, variable_given, variable_in_actual}
+use Rattle.jni.specs.Prototype.{ParameterKind, ArrayVariable}
+use Rattle.semantics.specs.Arguments.{Actual, variable_given, variable_in_actual}
 use Rattle.semantics.specs.Heap.{Heap, number_in, numbers_of, values_of}
 use Rattle.semantics.specs.Object.{ObjectValue, Number, Refers}
-use Rattle.semantics.specs.Value.{Int}
 use Rattle.semantics.specs.Variable.{Variables}
 use Rattle.semantics_typing.specs.Objects.{AreTypedObjects, HasNumbers, PlaceFits, ValueFits, elements_by_kind, element_type_of, type_at}
 use Rattle.semantics_typing.proofs.TableKinds.{kind_numbers}
 use Rattle.semantics_typing.proofs.Heaps.{values_there}
-use Rattle.machine_answers.specs.Answers.{AreWordsOf, array_given}
+use Rattle.machine_answers.specs.Answers.{AreWordsOf, array_given, named_array}
 use Rattle.machine_answers.specs.Copies.{word_of as word_in_cell}
-use Rattle.machine_answers.specs.WorkedOut.{next_number, stack_number}
-use Rattle.machine_scenes.specs.declared.handle.Handle.{Handle}
-use Rattle.machine_scenes.specs.Given.{HasArray, HasElements, IsGiven, operand_of}
+use Rattle.machine_scenes.specs.Given.{HasArray, HasElements, operand_of, operand_or_null}
 use Rattle.machine_scenes.specs.HeapAgrees.{ValueAgrees, ValuesAgree}
-use Rattle.machine_scenes.specs.Statics.{References}
-use Rattle.machine_answers.proofs.CallOperands.{IsWordless, is_number, wordless}
 use Rattle.machine_answers.proofs.Overlays.{get_drop}
+use Rattle.machine_answers.proofs.SightsAgree.{Place, There, Past, place_at}
 
 -- ---- numbers
-
--- the second and the third argument, which are on the stack
-pub record TwoNumbers (args : List Actual) : Type 0 where
-  pub start : ℤ
-  pub count : ℤ
-  pub start_is : number_given args 1 ≡ start
-  pub count_is : number_given args 2 ≡ count
-  pub start_fits : FitsSigned w32 start
-  pub count_fits : FitsSigned w32 count
-  pub words : words_given args ≡ word_of (Int count) ∷ word_of (Int start) ∷ []
-
-module _ (unit : SourceUnit) (classes : Classes) (space : Space) (references : References) (fields : List (Option Handle)) (p q : ParameterKind) (first : IsWordless unit classes space references fields p) (last : IsWordless unit classes space references fields q) where
-  pub two_numbers : (operands : List Operand) (args : List Actual) → AllZip OperandFits (p ∷ IntNumber ∷ IntNumber ∷ q ∷ []) operands → AllZip ActualFits (p ∷ IntNumber ∷ IntNumber ∷ q ∷ []) args
-      → AllZip (IsGiven unit classes space references fields) operands args → TwoNumbers args
-  two_numbers [] args kinds fit given = absurd kinds
-  two_numbers (o ∷ []) args kinds fit given = absurd kinds.1
-  two_numbers (o ∷ m ∷ []) args kinds fit given = absurd kinds.1.1
-  two_numbers (o ∷ m ∷ n ∷ []) args kinds fit given = absurd kinds.1.1.1
-  two_numbers (o ∷ m ∷ n ∷ x ∷ y ∷ more) args kinds fit given = absurd kinds.1.1.1.1
-  two_numbers (o ∷ m ∷ n ∷ x ∷ []) [] kinds fit given = absurd fit
-  two_numbers (o ∷ m ∷ n ∷ x ∷ []) (a ∷ []) kinds fit given = absurd fit.1
-  two_numbers (o ∷ m ∷ n ∷ x ∷ []) (a ∷ b ∷ []) kinds fit given = absurd fit.1.1
-  two_numbers (o ∷ m ∷ n ∷ x ∷ []) (a ∷ b ∷ c ∷ []) kinds fit given = absurd fit.1.1.1
-  two_numbers (o ∷ m ∷ n ∷ x ∷ []) (a ∷ b ∷ c ∷ d ∷ e ∷ more) kinds fit given = absurd fit.1.1.1.1
-  two_numbers (o ∷ m ∷ n ∷ x ∷ []) (a ∷ b ∷ c ∷ d ∷ []) kinds fit given =
-      let start = is_number unit classes space references fields m b kinds.1.0 given.1.0 in
-      let count = is_number unit classes space references fields n c kinds.1.1.0 given.1.1.0 in
-      let none = wordless unit classes space references fields p a first fit.0 in
-      let no_more = wordless unit classes space references fields q d last fit.1.1.1.0 in
-      let one : does.word_given b ≡ word_of (Int start.0) ∷ [] = ap does.word_given start.1 in
-      let two : does.word_given c ≡ word_of (Int count.0) ∷ [] = ap does.word_given count.1 in
-      record {
-        start = start.0;
-        count = count.0;
-        start_is = ap (λ (q : Actual). number_in_actual (Some q)) start.1;
-        count_is = ap (λ (q : Actual). number_in_actual (Some q)) count.1;
-        start_fits = start.2;
-        count_fits = count.2;
-        words = λ i. ((([] ++ no_more i) ++ two i) ++ one i) ++ none i;
-      }
-
--- what they are on the stack
-pub start_on : (args : List Actual) (two : TwoNumbers args) → next_number (words_given args) ≡ number_given args 1
-start_on args two = ap next_number two.words ∙ to_z-of_z {w = w32} two.start_fits ∙ sym two.start_is
-
-pub count_on : (args : List Actual) (two : TwoNumbers args) → stack_number (words_given args) ≡ number_given args 2
-count_on args two = ap stack_number two.words ∙ to_z-of_z {w = w32} two.count_fits ∙ sym two.count_is
 
 -- ---- a local array
 
@@ -112,26 +57,23 @@ array_operand t (operand.Buffer i) fits = absurd (let e = fits.1 in cc)
 array_operand t (operand.Mode mode) fits = absurd (cc)
 array_operand t (operand.IsCopy i) fits = absurd (cc)
 
-module _ (numbers : List ℕ) (vs : Variables) (p q r : ParameterKind) (t : ElementType) where
-  pub local_array : (operands : List Operand) (args : List Actual) → AllZip OperandFits (p ∷ q ∷ r ∷ ArrayVariable t ∷ []) operands → AllZip (HasArray numbers vs) operands args → GivenArray numbers vs operands args
-  local_array [] args kinds has = absurd kinds
-  local_array (o ∷ []) args kinds has = absurd kinds.1
-  local_array (o ∷ m ∷ []) args kinds has = absurd kinds.1.1
-  local_array (o ∷ m ∷ n ∷ []) args kinds has = absurd kinds.1.1.1
-  local_array (o ∷ m ∷ n ∷ x ∷ more) [] kinds has = absurd has
-  local_array (o ∷ m ∷ n ∷ x ∷ more) (a ∷ []) kinds has = absurd has.1
-  local_array (o ∷ m ∷ n ∷ x ∷ more) (a ∷ b ∷ []) kinds has = absurd has.1.1
-  local_array (o ∷ m ∷ n ∷ x ∷ more) (a ∷ b ∷ c ∷ []) kinds has = absurd has.1.1.1
-  local_array (o ∷ m ∷ n ∷ x ∷ more) (a ∷ b ∷ c ∷ d ∷ args) kinds has =
-      let slots = array_operand t x kinds.1.1.1.0 in
-      let held = subst (λ (y : Operand). HasArray numbers vs y d) slots.1 has.1.1.1.0 in
-      let is : variable_in_actual (Some d) ≡ held.0 = ap (λ (y : Actual). variable_in_actual (Some y)) held.1 in
-      record {
-        array = slots.0;
-        at = slots.1;
-        given = (λ i. array_given (o ∷ m ∷ n ∷ slots.1 i ∷ more) (a ∷ b ∷ c ∷ held.1 i ∷ args)) ∙ ap (λ (y : Identifier). Some (y, slots.0)) (sym is);
-        has = subst (λ (y : Identifier). HasElements numbers slots.0 (lookup y vs)) (sym is) held.2;
-      }
+pub local_array : (numbers : List ℕ) (vs : Variables) (t : ElementType) (ps : List ParameterKind) (operands : List Operand) (args : List Actual) → AllZip OperandFits ps operands → AllZip ActualFits ps args → AllZip (HasArray numbers vs) operands args
+    → slice_get ps 3 ≡ Some (ArrayVariable t) → GivenArray numbers vs operands args
+local_array numbers vs t ps operands args kinds fit has is = by_place (place_at (HasArray numbers vs) 3 ps operands args kinds fit has)
+  where
+    by_place : Place (HasArray numbers vs) ps operands args 3 → GivenArray numbers vs operands args
+    by_place (There q o a at_p at_o at_a fits kind held) =
+        let same : q ≡ ArrayVariable t = let e : Some q ≡ Some (ArrayVariable t) = sym at_p ∙ is in cc in
+        let slots = array_operand t o (subst (λ (x : ParameterKind). OperandFits x o) same fits) in
+        let named = subst (λ (y : Operand). HasArray numbers vs y a) slots.1 held in
+        let name : variable_given args 3 ≡ named.0 = ap variable_in_actual at_a ∙ ap (λ (y : Actual). variable_in_actual (Some y)) named.1 in
+        record {
+          array = slots.0;
+          at = ap operand_or_null at_o ∙ slots.1;
+          given = (λ i. named_array (at_o i) (at_a i)) ∙ (λ i. named_array (Some (slots.1 i)) (Some (named.1 i))) ∙ ap (λ (y : Identifier). Some (y, slots.0)) (sym name);
+          has = subst (λ (y : Identifier). HasElements numbers slots.0 (lookup y vs)) (sym name) named.2;
+        }
+    by_place (Past at_p at_o at_a) = absurd (let e : None ≡ Some (ArrayVariable t) = sym at_p ∙ is in cc)
 
 -- the first words of its slots are those of its first elements
 words_taken : (numbers : List ℕ) (elements : List ℤ) (n : ℕ) → n ≤ length elements → ((i : ℕ) (z : ℤ) → slice_get elements i ≡ Some z → FitsSigned w32 z × (slice_get numbers i ≡ Some (cast_unsigned w32 z))) → AreWordsOf (take n numbers) (take n elements)

@@ -9,7 +9,7 @@ use Rattle.class_rules.specs.Fields.{FieldId}
 use Rattle.classes.specs.declared.class.FieldHandle.{FieldHandle}
 use Rattle.code.specs.declared.instr.Operand.{Operand}
 use Rattle.code.specs.declared.instr.Operand.TheVariants as operand
-use Rattle.jni.specs.Prototype.{ParameterKind, IntNumber, Passed, TextBytes}
+use Rattle.jni.specs.Prototype.{ParameterKind, IntNumber, Passed}
 use Rattle.jni.specs.Prototype as jni
 use Rattle.semantics.specs.Arguments.{Actual, ReferenceActual, FieldActual, MethodActual, ReleaseMode, CopyBackAndFree, CopyBack, FreeUncopied, field_in_actual, number_in_actual, name_or_zero, reference_in_actual, text_in_actual}
 use Rattle.semantics.specs.Checks.{is_deleted}

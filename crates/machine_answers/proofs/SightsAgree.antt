@@ -65,7 +65,7 @@ pub data Place (G : Operand → Actual → Type 0) (ps : List ParameterKind) (os
   There : (p : ParameterKind) (o : Operand) (a : Actual) → slice_get ps i ≡ Some p → slice_get os i ≡ Some o → slice_get args i ≡ Some a → OperandFits p o → ActualFits p a → G o a → Place G ps os args i
   Past : slice_get ps i ≡ None → slice_get os i ≡ None → slice_get args i ≡ None → Place G ps os args i
 
-place_at : (G : Operand → Actual → Type 0) (i : ℕ) (ps : List ParameterKind) (os : List Operand) (args : List Actual) → AllZip OperandFits ps os → AllZip ActualFits ps args → AllZip G os args → Place G ps os args i
+pub place_at : (G : Operand → Actual → Type 0) (i : ℕ) (ps : List ParameterKind) (os : List Operand) (args : List Actual) → AllZip OperandFits ps os → AllZip ActualFits ps args → AllZip G os args → Place G ps os args i
 place_at G i [] [] [] f k g = Past refl refl refl
 place_at G i [] (o ∷ os) args f k g = absurd f
 place_at G i (p ∷ ps) [] args f k g = absurd f
@@ -158,7 +158,7 @@ monitor_is (Some x) (Some m) h =
     ap (λ (n : ℕ). put n x.owner x.count) h.0 ∙ ap (λ (n : ℕ). put m.object n x.count) h.1 ∙ ap (λ (n : ℕ). put m.object m.owner n) h.2
 
 -- what a static holds
-held_is : (space : Space) (h : Held) (r : StaticReference) → HeldAgrees space h r → held_seen space h ≡ r
+pub held_is : (space : Space) (h : Held) (r : StaticReference) → HeldAgrees space h r → held_seen space h ≡ r
 held_is space held.Empty Empty h = refl
 held_is space (held.At a) (Live n) h = ap (λ (o : Option ℕ). Live (name_or_zero o)) h
 held_is space (held.Weakly a) (Weakly n) h = ap (λ (o : Option ℕ). Weakly (name_or_zero o)) h
@@ -353,31 +353,30 @@ module _ (p : Lowered) (w : World) (store : Store) (pending : Option ℕ) (activ
       ∙ trap_without w.classes theirs theirs.monitor None theirs.callers call.function
       ∙ sym (depth_last w.classes theirs call.function)
 
+  -- the first operand of a function that ends the reference of a static is a static
+  pub static_given : deletes_static call.function ≡ true → (i : ℕ) × (operand_of call.operands 0 ≡ operand.Static i)
+  static_given deletes_one = by_place (place_at (IsGiven scene.unit scene.classes scene.space scene.references scene.fields) 0 (parameters_for call.function (length args)) call.operands args h.kinds h.fit h.given)
+    where
+      first_kind : (f : JniFunction) → deletes_static f ≡ true → (slice_get (parameters_for f (length args)) 0 ≡ Some StaticVariable) ⊎ (slice_get (parameters_for f (length args)) 0 ≡ Some WeakVariable)
+      first_kind DeleteGlobalRef e = inl refl
+      first_kind DeleteWeakGlobalRef e = inr refl
+      first_kind f e = absurd (cc)
+
+      by_operand : (q : ParameterKind) (o : Operand) → OperandFits q o → (q ≡ StaticVariable) ⊎ (q ≡ WeakVariable) → (i : ℕ) × (o ≡ operand.Static i)
+      by_operand q o fits (inl e) = statics_alone StaticVariable o tt (subst (λ (r : ParameterKind). OperandFits r o) e fits)
+      by_operand q o fits (inr e) = statics_alone WeakVariable o tt (subst (λ (r : ParameterKind). OperandFits r o) e fits)
+
+      by_place : Place (IsGiven scene.unit scene.classes scene.space scene.references scene.fields) (parameters_for call.function (length args)) call.operands args 0 → (i : ℕ) × (operand_of call.operands 0 ≡ operand.Static i)
+      by_place (There q o a at_p at_o at_a fits kind given) = let is = by_operand q o fits (kind_at q at_p (first_kind call.function deletes_one)) in (is.0, ap operand_or_null at_o ∙ is.1)
+      by_place (Past at_p at_o at_a) = absurd (no_kind at_p (first_kind call.function deletes_one))
+
   -- what is deleted is there
   module _ (deletes : deletes_static call.function ≡ true → (i : ℕ) → operand_of call.operands 0 ≡ operand.Static i → HeldStatic store.heap (references_of store activation) shared (variable_given args 0) i) where
     held_alike : deleted_seen scene call.function (operand_of call.operands 0) ≡ source.held_seen shared.statics call.function (variable_given args 0)
-    held_alike = by_function call.function (by_place (place_at (IsGiven scene.unit scene.classes scene.space scene.references scene.fields) 0 (parameters_for call.function (length args)) call.operands args h.kinds h.fit h.given))
+    held_alike = by_function call.function (λ deletes_one. let static = static_given deletes_one in (static.0, static.1, deletes deletes_one static.0 static.1))
       where
-        -- the first operand of such a function is a static
         Is : JniFunction → Type 0
         Is f = deletes_static f ≡ true → (i : ℕ) × (operand_of call.operands 0 ≡ operand.Static i) × HeldStatic store.heap (references_of store activation) shared (variable_given args 0) i
-
-        first_kind : (f : JniFunction) → deletes_static f ≡ true → (slice_get (parameters_for f (length args)) 0 ≡ Some StaticVariable) ⊎ (slice_get (parameters_for f (length args)) 0 ≡ Some WeakVariable)
-        first_kind DeleteGlobalRef e = inl refl
-        first_kind DeleteWeakGlobalRef e = inr refl
-        first_kind f e = absurd (cc)
-
-        by_operand : (q : ParameterKind) (o : Operand) → OperandFits q o → (q ≡ StaticVariable) ⊎ (q ≡ WeakVariable) → (i : ℕ) × (o ≡ operand.Static i)
-        by_operand q o fits (inl e) = statics_alone StaticVariable o tt (subst (λ (r : ParameterKind). OperandFits r o) e fits)
-        by_operand q o fits (inr e) = statics_alone WeakVariable o tt (subst (λ (r : ParameterKind). OperandFits r o) e fits)
-
-        by_place : Place (IsGiven scene.unit scene.classes scene.space scene.references scene.fields) (parameters_for call.function (length args)) call.operands args 0 → Is call.function
-        by_place (There q o a at_p at_o at_a fits kind given) deletes_one =
-            let of_kind = kind_at q at_p (first_kind call.function deletes_one) in
-            let is = by_operand q o fits of_kind in
-            let at : operand_of call.operands 0 ≡ operand.Static is.0 = ap operand_or_null at_o ∙ is.1 in
-            (is.0, at, deletes deletes_one is.0 at)
-        by_place (Past at_p at_o at_a) deletes_one = absurd (no_kind at_p (first_kind call.function deletes_one))
 
         by_function : (f : JniFunction) → Is f → deleted_seen scene f (operand_of call.operands 0) ≡ source.held_seen shared.statics f (variable_given args 0)
         by_function DeleteGlobalRef is =

@@ -178,7 +178,7 @@ module _ (scene : Scene) where
       same_misfit p (class_there scene.space a)
       ∙ ap (λ b. b && source.misfits_class scene.classes p (class_there scene.space a)) (named scene.space (Some a) h)
 
-  fits_one : (r : Option ℕ) (c : ℕ) → ReferenceIsThere scene.space r
+  pub fits_one : (r : Option ℕ) (c : ℕ) → ReferenceIsThere scene.space r
       → fits_there scene.classes scene.space r c ≡ option_map_or (λ (n : ℕ). assignable scene.classes (class_of_given scene.space r) c) (name_seen scene.space r) true
   fits_one None c h = refl
   fits_one (Some a) c h = by_name (name_seen scene.space (Some a)) (sym (named scene.space (Some a) h))

@@ -1,10 +1,7 @@
 -- A call of the machine and the source's call that it stands for: what is known of its arguments once it has passed its checks.
-use Rattle.std.proofs.Common.{◌≡◌, ℕ, pos, zero, suc, ◌<◌, ◌≤◌, false, List, ◌∷◌, length, Option, Some, None, refl, sym, ap, ◌∙◌, subst, arith, ◌++◌}
-use Rattle.std.specs.Prelude.{FitsSigned}
-use Rattle.std.specs.Int.{w32}
-use Rattle.std.specs.List.{AllByRecursion, AllZip}
+use Rattle.std.proofs.Common.{◌≡◌, ℕ, zero, suc, ◌<◌, ◌≤◌, false, List, ◌∷◌, length, Option, Some, None, refl, sym, ap, ◌∙◌, subst, arith, ◌++◌}
+use Rattle.std.specs.List.{AllZip}
 use Rattle.std.specs.Option.{option_map_or}
-use Rattle.std.proofs.Math.Facts.{to_z-of_z}
 use Rattle.syntax.specs.Tree.{SourceUnit}
 use Rattle.syntax.specs.Views.{unit_tree}
 use Rattle.class_rules.specs.BuiltIns.{class_class, no_such_method_error}
@@ -12,45 +9,40 @@ use Rattle.class_rules.specs.Grown.{HasMethodError}
 use Rattle.code.specs.Call.{Call}
 use Rattle.heap.specs.Heap.{name_at}
 use Rattle.jni.specs.JniFunction.{JniFunction, parameters_for, prototype}
-use Rattle.jni.specs.Prototype.{ParameterKind, ClassObject, IntNumber, GivesInt, GivesNothing}
-use Rattle.semantics.specs.Arguments.{Actual, reference_given, object_given, name_or_zero, number_given}
-use Rattle.semantics.specs.CallEffects.{heap_effect, CallEffect, ScalarResult}
+use Rattle.jni.specs.Prototype.{ParameterKind, ClassObject}
+use Rattle.semantics.specs.Arguments.{Actual, reference_given, object_given, name_or_zero}
 use Rattle.semantics.specs.CallStep.{trap_of_call}
 use Rattle.semantics.specs.CallTable.{call_effect}
-use Rattle.semantics.specs.Heap.{class_of, values_of, object_at, number_in, value_at, reference_in, with_value_at}
-use Rattle.semantics.specs.Object.{Object, Reference, ObjectValue, Refers}
+use Rattle.semantics.specs.Heap.{class_of, object_at}
+use Rattle.semantics.specs.Object.{Object, Reference}
 use Rattle.semantics.specs.Task.{Target}
 use Rattle.semantics.specs.Thread.{Shared, Thread, BuffersInUse}
 use Rattle.semantics.specs.World.{World, loaded_objects}
 use Rattle.world_values.specs.SoundWorlds.{IsSound}
-use Rattle.code_meaning.specs.Does.{ActualFits, OperandFits}
+use Rattle.code_meaning.specs.Does.{OperandFits}
 use Rattle.code_meaning.specs.Fits.{IsReferenceKind}
 use Rattle.code_meaning.specs.Lowered.{Lowered}
-use Rattle.semantics.specs.Value.{Int}
-use Rattle.code_meaning.specs.Slots.{word_of}
-use Rattle.machine_answers.proofs.FieldValues.{word_there, reference_there, writes}
-use Rattle.heap.specs.declared.value.Value.{Value}
 use Rattle.machine_scenes.specs.declared.handle.Handle.{Handle}
 use Rattle.machine_scenes.specs.Buffers.{Acquired, acquired_by, beside, in_use_of}
-use Rattle.machine_scenes.specs.StoreAgrees.{StoreAgrees}
 use Rattle.machine_answers.specs.declared.answer.Answer.{Answer}
 use Rattle.machine_scenes.specs.declared.store.Store.{Store}
 use Rattle.machine_scenes.specs.declared.activation.Activation.{Activation}
 use Rattle.machine_answers.specs.declared.answer.Given.TheVariants as given
-use Rattle.machine_answers.specs.Answers.{Brought, GivenAgrees, IsAnswer, int}
+use Rattle.machine_answers.specs.Answers.{Brought, IsAnswer}
 use Rattle.machine_scenes.specs.NewObjects.{IsMakeable}
 use Rattle.machine_answers.specs.Asked.{IsAsked, brought_by, references_of, scene_of}
 use Rattle.machine_scenes.specs.Statics.{References}
 use Rattle.machine_answers.specs.Checked.{some_misfit, some_missing, may_be_null}
-use Rattle.machine_scenes.specs.Given.{operand_at, operand_of, class_there, name_there}
-use Rattle.machine_scenes.specs.HeapAgrees.{ReferenceAgrees, ValueAgrees}
-use Rattle.machine_answers.specs.WorkedOut.{class_object, IsWorkedOut, value_there, word_in, address_in, held_reference, writes_there, count_there, stack_number}
-use Rattle.machine_answers.proofs.CallChecks.{class_is, name_is, reference_at_place}
+use Rattle.machine_scenes.specs.Given.{operand_at, operand_of, class_there}
+use Rattle.machine_scenes.specs.HeapAgrees.{ReferenceAgrees}
+use Rattle.machine_answers.specs.Sights.{name_seen}
+use Rattle.machine_answers.specs.WorkedOut.{class_object, IsWorkedOut}
+use Rattle.machine_answers.proofs.CallChecks.{class_is, reference_at_place}
 use Rattle.machine_scenes.proofs.Handles.{class_known}
 use Rattle.machine_scenes.proofs.BlocksOfNames.{Named, named}
 use Rattle.machine_answers.proofs.CallTraps.{none_deleted, none_lacking, none_unfit}
 use Rattle.machine_answers.proofs.LongTables.{classes_loaded, grown_long}
-use Rattle.machine_answers.proofs.CallOperands.{GivenObject, IsWordless, OnTop, count_is, few_there, class_object_is, object_at_place, on_top, is_class}
+use Rattle.machine_answers.proofs.CallOperands.{GivenObject, class_object_is, object_at_place, is_class}
 
 -- a call that the machine makes in thread k, in its call of this number, and the source's
 pub record TwoCalls : Type 0 where
@@ -109,9 +101,6 @@ module _ (both : TwoCalls) where
   pub agrees : (f : JniFunction) → Asked f → (i : ℕ) → ReferenceAgrees store.heap (at i) (reference_given args i)
   agrees f h i = reference_at_place unit w.classes store.heap references fields call.operands args i h.given
 
-  pub name_of : (f : JniFunction) → Asked f → (i : ℕ) → name_there store.heap (at i) ≡ object_given args i
-  name_of f h i = name_is unit w.classes store.heap references fields shared.heap h.store_agrees.heap.blocks (at i) (reference_given args i) (agrees f h i)
-
   pub table_of : (f : JniFunction) → Asked f → (c : ℕ) → 0 < c → c ≤ length w.classes → ReferenceAgrees store.heap (class_object store.loaded.items (Some c)) (Some c)
   table_of f h c low high = class_object_is store.heap store.loaded.items (length (loaded_objects w)) c h.store_agrees.table low (omega (arith, high, classes_loaded w))
 
@@ -144,26 +133,9 @@ module _ (both : TwoCalls) where
   pub object_there : (g : GivenObject unit w.classes store.heap references fields call.operands args 0) → name_at store.heap g.address ≡ Some (object_given args 0)
   object_there g = g.named ∙ ap (λ (q : Reference). Some (name_or_zero q)) (sym g.is)
 
-  -- the number of an argument, which is the only one
-  pub top_of : (f : JniFunction) (before after : List ParameterKind) → AllByRecursion (IsWordless unit w.classes store.heap references fields) before → AllByRecursion (IsWordless unit w.classes store.heap references fields) after
-      → parameters_for f (length args) ≡ before ++ IntNumber ∷ after → Asked f → OnTop unit w.classes store.heap references fields args (length before)
-  top_of f before after none later are h =
-      on_top unit w.classes store.heap references fields before after call.operands args none later (subst (λ (l : List ParameterKind). AllZip OperandFits l call.operands) are h.kinds)
-      (subst (λ (l : List ParameterKind). AllZip ActualFits l args) are h.fit) h.given
-
-  -- it is on the stack
-  pub number_of : (f : JniFunction) (before after : List ParameterKind) → AllByRecursion (IsWordless unit w.classes store.heap references fields) before → AllByRecursion (IsWordless unit w.classes store.heap references fields) after
-      → parameters_for f (length args) ≡ before ++ IntNumber ∷ after → Asked f → stack_number activation.stack ≡ number_given args (length before)
-  number_of f before after none later are h =
-      let top = top_of f before after none later are h in
-      ap stack_number (h.words ∙ top.words) ∙ to_z-of_z {w = w32} top.fits ∙ sym top.is
-
   -- the class that argument i is
-  pub record GivenClass (i : ℕ) : Type 0 where
-    pub low : 0 < object_given args i
-    pub high : object_given args i ≤ length w.classes
-
-  pub class_given : (f : JniFunction) (before after : List ParameterKind) → parameters_for f (length args) ≡ before ++ ClassObject ∷ after → Asked f → trap_of_call w.classes shared s target f args ≡ None → GivenClass (length before)
+  pub class_given : (f : JniFunction) (before after : List ParameterKind) → parameters_for f (length args) ≡ before ++ ClassObject ∷ after → Asked f → trap_of_call w.classes shared s target f args ≡ None
+      → let n = name_or_zero (name_seen store.heap (at (length before))) in (0 < n) × (n ≤ length w.classes)
   class_given f before after are h free =
       let given = object_given_at f before ClassObject after tt refl are h free in
       let object = object_of f h given.address given.name given.named in
@@ -172,43 +144,7 @@ module _ (both : TwoCalls) where
       (subst (λ (l : List ParameterKind). AllZip OperandFits l call.operands) are h.kinds)
       (subst (λ (l : List ParameterKind). some_misfit w.classes store.heap references l call.operands ≡ false) are (none_unfit p w store pending activation call others k owner shared s target f args h free)) in
       let same : object.0.class ≡ class_class = sym class ∙ sym (class_is unit w.classes store.heap references fields shared.heap h.store_agrees.heap.blocks given.address given.name given.named) ∙ of_class in
-      let name : object_given args (length before) ≡ given.name = ap name_or_zero given.is in
+      let name : name_or_zero (name_seen store.heap (at (length before))) ≡ given.name = ap (λ (o : Option ℕ). name_or_zero (name_seen store.heap o)) given.at ∙ ap name_or_zero given.named in
       let low = low_name given.name object.0 object.1 in
       let high : given.name ≤ length w.classes = (h.typed.objects given.name object.0 object.1).of_class same in
-      record { low = omega (arith, low, name); high = omega (arith, high, name) }
-
-  -- the number of values of argument 0
-  pub counted : (f : JniFunction) → Asked f → (count_there store.heap (at 0) ≡ length (values_of shared.heap (object_given args 0))) × FitsSigned w32 (pos (length (values_of shared.heap (object_given args 0))))
-  counted f h =
-      let size = count_is w.classes store.heap references fields shared.heap h.store_agrees.heap.blocks (at 0) (reference_given args 0) (agrees f h 0) in
-      let few = few_there w.classes store.heap references fields shared.heap h.store_agrees.heap.blocks (at 0) h.store_agrees.laid_out (omega (arith, sound.cells, h.store_agrees.cells)) in
-      (size, subst (λ (l : ℕ). FitsSigned w32 (pos l)) size (record { sfits = few }))
-
-  -- a number of an object is read
-  pub number_read : (o : Option ℕ) (a n m i j : ℕ) → o ≡ Some a → name_at store.heap a ≡ Some n → m ≡ n → i ≡ j → StoreAgrees p w store shared all
-      → GivenAgrees unit w.classes store.heap GivesInt (given.Number (word_in (value_there store.heap o i))) (ScalarResult (Int (number_in (value_at shared.heap m j))))
-  number_read o a n m i j held there same place agree =
-      let word = word_there p w store shared all agree a n j there in
-      int ((λ k. word_in (value_there store.heap (held k) (place k))) ∙ word.word_is ∙ ap (λ (x : ℕ). word_of (Int (number_in (value_at shared.heap x j)))) (sym same))
-      (subst (λ (x : ℕ). FitsSigned w32 (number_in (value_at shared.heap x j))) (sym same) word.fits)
-
-  -- a reference of an object is read
-  pub reference_read : (o : Option ℕ) (a n m i j : ℕ) → o ≡ Some a → name_at store.heap a ≡ Some n → m ≡ n → i ≡ j → StoreAgrees p w store shared all → ReferenceAgrees store.heap (address_in (value_there store.heap o i)) (reference_in (value_at shared.heap m j))
-  reference_read o a n m i j held there same place agree =
-      subst (λ (x : Option ℕ). ReferenceAgrees store.heap x (reference_in (value_at shared.heap m j))) (sym (λ k. address_in (value_there store.heap (held k) (place k))))
-      (subst (λ (x : ℕ). ReferenceAgrees store.heap (address_in (value_there store.heap (Some a) j)) (reference_in (value_at shared.heap x j))) (sym same) (reference_there p w store shared all agree a n j there))
-
-  -- a value of an object is written
-  pub value_written : (o : Option ℕ) (a n m i j : ℕ) (v v' : Value) (u u' : ObjectValue) → o ≡ Some a → name_at store.heap a ≡ Some n → m ≡ n → i ≡ j → v ≡ v' → u ≡ u' → ValueAgrees store.heap v' u' → StoreAgrees p w store shared all
-      → IsAnswer w.classes brought store.heap activation.locals shared s (writes_there store.heap o i v) GivesNothing (heap_effect shared s (with_value_at shared.heap m j u))
-  value_written o a n m i j v v' u u' held there same place value is fits agree =
-      subst (λ (x : Answer). IsAnswer w.classes brought store.heap activation.locals shared s x GivesNothing (heap_effect shared s (with_value_at shared.heap m j u))) (sym (λ k. writes_there store.heap (held k) (place k) (value k)))
-      (subst (λ (x : CallEffect). IsAnswer w.classes brought store.heap activation.locals shared s (writes_there store.heap (Some a) j v') GivesNothing x) (sym (λ k. heap_effect shared s (with_value_at shared.heap (same k) j (is k))))
-      (writes p w store shared all agree brought activation.locals s a n j v' u' there fits))
-
-  -- how a cell holds a reference
-  pub held_agrees : (o : Option ℕ) (q : Reference) → ReferenceAgrees store.heap o q → ValueAgrees store.heap (held_reference o) (Refers q)
-  held_agrees None None h = h
-  held_agrees None (Some n) h = absurd h
-  held_agrees (Some a) None h = absurd h
-  held_agrees (Some a) (Some n) h = h
+      (omega (arith, low, name), omega (arith, high, name))
