@@ -1,19 +1,16 @@
 -- What the slots show once an answer is carried out, and `isCopy` is told.
 use Rattle.syntax.specs.Tree.{SourceUnit}
 use Rattle.std.proofs.Common.{◌≡◌, ◌≢◌, ◌⊎◌, inl, inr, take, drop, ℕ, ◌≤◌, Bool, true, false, List, [], ◌∷◌, length, Option, Some, None, refl, sym, ap, ◌∙◌, subst, arith, ⊎_elim}
-use Rattle.std.specs.Prelude.{slice_get, slice_set, nat_le, nat_lt, if◌then◌else◌}
-use Rattle.std.proofs.lemmas.Bool.{cond_both}
+use Rattle.std.specs.Prelude.{slice_get, slice_set, if◌then◌else◌}
 use Rattle.std.specs.List.{AllByRecursion, AllZip}
 use Rattle.std.proofs.lemmas.List.{length-map, length-take}
 use Rattle.std.proofs.lemmas.Option.{slice_get_within}
 use Rattle.base.specs.Bytes.{Identifier, lookup}
 use Rattle.base.specs.Element.{ElementType}
-use Rattle.class_rules.specs.BuiltIns.{array_index_out_of_bounds, string_index_out_of_bounds}
 use Rattle.class_rules.specs.Class.{Classes}
 use Rattle.heap.specs.Heap.{Space, values_at}
-use Rattle.heap.specs.declared.value.Value.{Value}
 use Rattle.jni.specs.Access.{Access, ElementsCopy, ArrayView, CharsCopy, CharsView}
-use Rattle.jni.specs.JniFunction.{JniFunction, parameters_for, DeleteGlobalRef, DeleteWeakGlobalRef, DeleteLocalRef, EnsureLocalCapacity, FindClass, GetArrayRegion, GetBuffer, GetFieldID, GetObjectArrayElement, GetStaticFieldID, GetStringRegion, MonitorEnter, MonitorExit, NewArray, NewObjectArray, PushLocalFrame, ReleaseBuffer, SetArrayRegion, SetField, SetObjectArrayElement, SetObjectField, SetStaticField, SetStaticObjectField, prototype, GetStaticMethodID}
+use Rattle.jni.specs.JniFunction.{JniFunction, parameters_for, DeleteLocalRef, GetBuffer, ReleaseBuffer, prototype}
 use Rattle.jni.specs.Prototype.{ParameterKind, BufferVariable, IsCopy, Mode, ResultKind, GivesNothing, owner as owner_kind}
 use Rattle.syntax.specs.Views.{unit_tree}
 use Rattle.semantics.specs.Arguments.{Actual, ReleaseMode, CopyBackAndFree, CopyBack, FreeUncopied, mode_given, object_given, variable_given, variable_in_actual, address_given, address_in_actual}
@@ -33,7 +30,6 @@ use Rattle.code.specs.Call.{Call, call_view}
 use Rattle.code.specs.Depth.{Listing}
 use Rattle.code.specs.Effect.{truth_word}
 use Rattle.code.specs.declared.instr.Call.{Call as InMemory}
-use Rattle.code.specs.declared.instr.LocalArray.{LocalArray}
 use Rattle.code.specs.declared.instr.Operand.{Operand}
 use Rattle.code.specs.declared.instr.Operand.TheVariants as operand
 use Rattle.jni.specs.declared.mode.ReleaseMode.{ReleaseMode as ModeOfCode}
@@ -48,20 +44,15 @@ use Rattle.code_meaning.specs.Slots.{Shows, Slots, Visible, held_buffer, visible
 use Rattle.code_meaning.specs.Stands.{IsBufferResult}
 use Rattle.code_meaning.proofs.SlotLaws.{fewer_shown, known_among, shows_buffer_again, shows_set}
 use Rattle.tables.specs.Elements.{OwnedNumbers}
-use Rattle.machine_scenes.specs.declared.references.Held.{Held}
-use Rattle.machine_scenes.specs.declared.references.Held.TheVariants as held_by
-use Rattle.machine_scenes.specs.Statics.{References, static_at}
 use Rattle.machine_scenes.specs.declared.activation.Activation.{Activation}
 use Rattle.machine_answers.specs.declared.answer.Answer.{Answer}
 use Rattle.machine_answers.specs.declared.answer.Answer.TheVariants as answers
 use Rattle.machine_answers.specs.declared.answer.Given.{Given}
 use Rattle.machine_answers.specs.declared.answer.Given.TheVariants as given
-use Rattle.machine_scenes.specs.declared.array_region.ArrayRegion.{ArrayRegion}
 use Rattle.machine_scenes.specs.declared.buffer.Buffer.{Buffer as HeldBuffer}
 use Rattle.machine_scenes.specs.declared.buffer.Buffer.TheVariants as held
 use Rattle.machine_scenes.specs.declared.buffer.Release.{Release}
 use Rattle.machine_scenes.specs.declared.store.Store.{Store}
-use Rattle.semantics.specs.declared.trap.Trap.TheVariants.{OutOfRange}
 use Rattle.machine_answers.specs.Answers.{IsAnswer, is_carried}
 use Rattle.machine_calls.proofs.AnswerCases.{as_answer, released}
 use Rattle.machine_answers.specs.Asked.{brought_by, buffers_of, references_of, scene_of}
@@ -70,7 +61,7 @@ use Rattle.machine_calls.specs.CarriedOut.{LeavesCopy, ResultAgrees, buffers_aft
 use Rattle.machine_answers.specs.Copies.{overlaid, word_of as word_in, words_of}
 use Rattle.machine_scenes.specs.Given.{operand_of}
 use Rattle.machine_scenes.specs.Scenes.{Scene}
-use Rattle.machine_answers.specs.WorkedOut.{IsWorkedOut, buffer_there, copies_in, copies_out, deletes, deletes_global, deletes_held, deletes_held_weakly, deletes_weak, local_array, mode_of, region, releases, slot_of, stores_there, writes_there}
+use Rattle.machine_answers.specs.WorkedOut.{IsWorkedOut, buffer_there, deletes, mode_of, region, releases, slot_of}
 use Rattle.machine_answers.proofs.BufferOperands.{given_buffer, given_mode}
 use Rattle.machine_scenes.proofs.KeyLaws.{set_cases}
 use Rattle.machine_steps.specs.Executes.{in_use_with}
@@ -82,6 +73,7 @@ use Rattle.machine_steps.proofs.AskedCalls.{CalledAs, called as called_at, r as 
 use Rattle.machine_steps.proofs.Calls.{Ready}
 use Rattle.machine_steps.proofs.Changes.{buffer_by_kind, change_is, is_buffer_set, is_set}
 use Rattle.machine_steps.proofs.CopiedArrays.{AreKept, Copied, Released, array_known, copied_taken, kept_or_copied, meant_after, shows_copied}
+use Rattle.machine_steps.proofs.KeysLeft.{others_are_quiet}
 use Rattle.machine_steps.proofs.OwnersLeft.{leaves_owners, left_own}
 use Rattle.machine_steps.proofs.Receives.{IsNoBuffer, no_buffer, nothing_told, plain_static}
 use Rattle.machine_steps.proofs.SlotBuffers.{all_put, buffers_nulled}
@@ -269,83 +261,17 @@ module _ (space : Space) (copies : List (Option OwnedNumbers)) (k : ℕ) (slots 
 
 -- ---- what releases a buffer
 
-abbrev is_release : Answer → Bool
-is_release (answers.Releases r) = true
-is_release a = false
-
-no_deletion : (o : Option ℕ) → is_release (deletes o) ≡ false
-no_deletion None = refl
-no_deletion (Some key) = refl
-
-no_held_deletion : (i : ℕ) (h : Held) → is_release (deletes_held i h) ≡ false
-no_held_deletion i (held_by.At a) = refl
-no_held_deletion i h = refl
-
-no_global_deletion : (references : References) (o : Operand) → is_release (deletes_global references o) ≡ false
-no_global_deletion references (operand.Static i) = no_held_deletion i (static_at references i)
-no_global_deletion references o = refl
-
-no_weakly_held_deletion : (i : ℕ) (h : Held) → is_release (deletes_held_weakly i h) ≡ false
-no_weakly_held_deletion i (held_by.Weakly a) = refl
-no_weakly_held_deletion i held_by.Cleared = refl
-no_weakly_held_deletion i h = refl
-
-no_weak_deletion : (references : References) (o : Operand) → is_release (deletes_weak references o) ≡ false
-no_weak_deletion references (operand.Static i) = no_weakly_held_deletion i (static_at references i)
-no_weak_deletion references o = refl
-
-no_write : (space : Space) (q : Option ℕ) (place : ℕ) (v : Value) → is_release (writes_there space q place v) ≡ false
-no_write space None place v = refl
-no_write space (Some a) place v = by_test (nat_lt place (length (values_at space a)))
-  where
-    by_test : (b : Bool) → is_release (if b then answers.Writes a place v else answers.Gives given.Nothing) ≡ false
-    by_test true = refl
-    by_test false = refl
-
-no_store : (space : Space) (q : Option ℕ) (fits : Bool) (i : Option ℕ) (v : Value) → is_release (stores_there space q fits i v) ≡ false
-no_store space q fits None v = refl
-no_store space q false (Some i) v = refl
-no_store space q true (Some i) v = no_write space q i v
-
-no_copy_out : (exception : ℕ) (array : LocalArray) (q : Option ArrayRegion) → is_release (copies_out exception array q) ≡ false
-no_copy_out exception array None = refl
-no_copy_out exception array (Some q) = cond_both (nat_le q.count array.len) (answers.CopiesOut q) (answers.Halts OutOfRange) (λ (a : Answer). is_release a ≡ false) (λ e. refl) (λ e. refl)
-
-no_copy_in : (exception : ℕ) (array : LocalArray) (q : Option ArrayRegion) → is_release (copies_in exception array q) ≡ false
-no_copy_in exception array None = refl
-no_copy_in exception array (Some q) = cond_both (nat_le q.count array.len) (answers.CopiesIn q) (answers.Halts OutOfRange) (λ (a : Answer). is_release a ≡ false) (λ e. refl) (λ e. refl)
-
 module _ (scene : Scene) (function : Call) (release : Release) where
-  other : (a : Answer) → answers.Releases release ≡ a → is_release a ≡ false → ⊥
-  other a is keeps = let clash : true ≡ false = ap is_release is ∙ keeps in cc
+  no_deletion : (o : Option ℕ) → answers.Releases release ≡ deletes o → ⊥
+  no_deletion None is = cc
+  no_deletion (Some key) is = cc
 
   -- a function that gives nothing and releases a buffer
   releases_by : (f : JniFunction) → (prototype f).result ≡ GivesNothing → IsWorkedOut scene function f (answers.Releases release) → (access : Access) × (f ≡ ReleaseBuffer access)
   releases_by (ReleaseBuffer access) nothing is = (access, refl)
-  releases_by DeleteGlobalRef nothing is = absurd (other _ is (no_global_deletion scene.references (operand_of function.operands 0)))
-  releases_by DeleteWeakGlobalRef nothing is = absurd (other _ is (no_weak_deletion scene.references (operand_of function.operands 0)))
-  releases_by DeleteLocalRef nothing is = absurd (other _ is (no_deletion _))
-  releases_by (SetField T) nothing is = absurd (other _ is (no_write scene.space _ _ _))
-  releases_by SetObjectField nothing is = absurd (other _ is (no_write scene.space _ _ _))
-  releases_by (SetStaticField T) nothing is = absurd (other _ is (no_write scene.space _ _ _))
-  releases_by SetStaticObjectField nothing is = absurd (other _ is (no_write scene.space _ _ _))
-  releases_by SetObjectArrayElement nothing is = absurd (other _ is (no_store scene.space _ _ _ _))
-  releases_by (GetArrayRegion T) nothing is = absurd (other _ is (no_copy_out array_index_out_of_bounds (local_array scene function) (region scene function)))
-  releases_by (SetArrayRegion T) nothing is = absurd (other _ is (no_copy_in array_index_out_of_bounds (local_array scene function) (region scene function)))
-  releases_by GetStringRegion nothing is = absurd (other _ is (no_copy_out string_index_out_of_bounds (local_array scene function) (region scene function)))
-  releases_by FindClass nothing is = absurd (cc)
-  releases_by EnsureLocalCapacity nothing is = absurd (cc)
-  releases_by PushLocalFrame nothing is = absurd (cc)
-  releases_by (NewArray T) nothing is = absurd (cc)
-  releases_by NewObjectArray nothing is = absurd (cc)
-  releases_by GetObjectArrayElement nothing is = absurd (cc)
-  releases_by (GetBuffer access) nothing is = absurd (cc)
-  releases_by MonitorEnter nothing is = absurd (cc)
-  releases_by MonitorExit nothing is = absurd (cc)
-  releases_by GetFieldID nothing is = absurd (cc)
-  releases_by GetStaticFieldID nothing is = absurd (cc)
-  releases_by GetStaticMethodID nothing is = absurd (cc)
-  releases_by f nothing is = absurd (other _ is refl)
+  releases_by DeleteLocalRef nothing is = absurd (no_deletion _ is)
+  releases_by PopLocalFrame nothing is = absurd (cc)
+  releases_by f nothing is = absurd (let clash : false ≡ true = others_are_quiet scene function f (answers.Releases release) refl is in cc)
 
   release_is : (slots : List HeldBuffer) (object : Option ℕ) (o : Operand) (mode : ModeOfCode) → answers.Releases release ≡ releases slots object o mode → (release.slot ≡ slot_of o) × (release.held ≡ buffer_there slots (slot_of o)) × (release.mode ≡ mode)
   release_is slots None o mode e = absurd (cc)

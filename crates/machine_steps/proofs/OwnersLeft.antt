@@ -26,7 +26,7 @@ use Rattle.machine_steps.specs.Invoked.{AtCall}
 use Rattle.machine_steps.proofs.Calls.{Ready}
 use Rattle.machine_threads.specs.SlotsHold.{slots_of}
 use Rattle.machine_scenes.proofs.KeyLaws.{name_there, set_cases}
-use Rattle.machine_steps.proofs.KeysLeft.{may_end, none_left_out, others_end_none, others_get}
+use Rattle.machine_steps.proofs.KeysLeft.{may_end, others_get, others_leave}
 use Rattle.machine_scenes.proofs.LocalFrames.{as_many_frames}
 use Rattle.machine_steps.proofs.OwnedKeys.{DeletesKey}
 use Rattle.code_meaning.proofs.OwnerLaws.{owner_lost_with_slot, owners_mapped}
@@ -104,7 +104,7 @@ module _ (p : Lowered) (w : World) (store : Store) (pending : Option ℕ) (call 
       owners = r.meant.owners;
       shows = subst (λ (o : Owners). Shows h.code r.known (visible_to o shared s) (slots_of call r.meant)) (sym same) r.shows;
       among = λ i level at. at;
-      left = λ i key level found at. none_left_out answer (length call.locals.frames) key level (others_end_none (scene_of (unit_tree p.unit) w.classes store call k pending) function f answer none is);
+      left = λ i key level found at. others_leave (scene_of (unit_tree p.unit) w.classes store call k pending) function f answer (length call.locals.frames) key level none is;
     }
 
     leaves : (f : JniFunction) → called.f ≡ f → Works f → LeavesOwners f answer
