@@ -1,6 +1,5 @@
 -- A call that only enters or leaves a monitor.
 use Rattle.std.proofs.Common.{◌≡◌, ℕ, true, false, List, Option, refl}
-use Rattle.class_rules.specs.Class.{Classes}
 use Rattle.code.specs.declared.instr.Target.{Target}
 use Rattle.code.specs.declared.instr.Target.TheVariants as target
 use Rattle.code_meaning.specs.Lowered.{Lowered}
@@ -17,7 +16,6 @@ use Rattle.machine_answers.specs.declared.answer.Answer.TheVariants as answer
 use Rattle.machine_answers.specs.declared.answer.Given.TheVariants as given
 use Rattle.machine_calls.proofs.MonitorCarries as monitors
 use Rattle.machine_calls.specs.CarriedOut.{CarriesOut, IsPossible, buffers_after, slots_after}
-use Rattle.machine_calls.specs.Made.{cells_of}
 use Rattle.machine_scenes.specs.Buffers.{Acquired}
 use Rattle.machine_scenes.specs.declared.buffer.Buffer.{Buffer}
 use Rattle.machine_scenes.specs.Statics.{StaticReference}
@@ -30,13 +28,6 @@ pub goes_on : (a : Answer) → changes_monitor a ≡ true → is_carried a ≡ t
 goes_on (answer.Halts trap) is = absurd (let clash : false ≡ true = is in cc)
 goes_on answer.Calls is = absurd (let clash : false ≡ true = is in cc)
 goes_on a is = refl
-
--- it makes nothing
-pub makes_nothing : (classes : Classes) (texts : List (List ℕ)) (a : Answer) → changes_monitor a ≡ true → cells_of classes texts a ≡ 0
-makes_nothing classes texts (answer.Makes new) is = absurd (let clash : false ≡ true = is in cc)
-makes_nothing classes texts (answer.Throws class) is = absurd (let clash : false ≡ true = is in cc)
-makes_nothing classes texts (answer.Raises class text) is = absurd (let clash : false ≡ true = is in cc)
-makes_nothing classes texts a is = refl
 
 -- slots stay
 pub numbers_stay : (space : Space) (a : Answer) → changes_monitor a ≡ true → (numbers : List ℕ) → numbers ≡ slots_after space a numbers

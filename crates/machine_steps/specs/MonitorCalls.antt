@@ -1,5 +1,7 @@
 -- What is done with a monitor by a call that no check stops.
 use Rattle.std.specs.Prelude.{◌≡◌, ℕ, Bool, true, false, List, ◌∷◌, map, Some}
+use Rattle.jni.specs.declared.function.JniFunction.{JniFunction as FunctionInMemory}
+use Rattle.jni.specs.declared.function.JniFunction.TheVariants as function
 use Rattle.monitors.specs.declared.monitors.Enter.{Enter}
 use Rattle.monitors.specs.declared.monitors.Enter.TheVariants.{Entered}
 use Rattle.monitors.specs.declared.monitors.Exit.{Exit}
@@ -9,16 +11,23 @@ use Rattle.monitors.specs.Monitors.{AreOf, ChangesAt, entered, entering, leaving
 use Rattle.machine_answers.specs.declared.answer.Answer.{Answer}
 use Rattle.machine_answers.specs.declared.answer.Answer.TheVariants as answer
 
+-- it is a function that enters or leaves one
+abbrev pub is_of_monitors : FunctionInMemory → Bool
+is_of_monitors function.MonitorEnter = true
+is_of_monitors function.MonitorExit = true
+is_of_monitors f = false
+
 -- what is done is only that a monitor is entered or left
 abbrev pub changes_monitor : Answer → Bool
 changes_monitor (answer.Enters o) = true
 changes_monitor (answer.Exits n) = true
 changes_monitor a = false
 
--- a monitor that is left is its thread's
-abbrev pub OwnsWhatItLeaves : (thread : ℕ) → Answer → List Monitor → Type 0
-OwnsWhatItLeaves thread (answer.Exits n) monitors = leaving thread (monitor_of monitors n) ≡ Left
-OwnsWhatItLeaves thread a monitors = Unit {0}
+-- its thread may: a monitor that is entered is no other thread's, and not at its limit, and one that is left is the thread's
+abbrev pub MayChange : (thread : ℕ) → Answer → List Monitor → Type 0
+MayChange thread (answer.Enters o) monitors = entering thread (monitor_of monitors o.name) ≡ Entered
+MayChange thread (answer.Exits n) monitors = leaving thread (monitor_of monitors n) ≡ Left
+MayChange thread a monitors = Unit {0}
 
 -- what doing it leaves of the monitors
 abbrev pub Changes : (thread : ℕ) → Answer → (before after : List Monitor) → Type 0

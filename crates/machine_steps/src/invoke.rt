@@ -12,12 +12,12 @@ ghost use Rattle.machine_answers.specs.Answers.{is_carried};
 ghost use Rattle.semantics.specs.World.{World as SourceWorld};
 ghost use Rattle.machine_steps.specs.Executes.{IsAsBefore};
 ghost use Rattle.machine_steps.specs.Received.{told_slot};
-ghost use Rattle.machine_steps.specs.MonitorCalls.{OwnsWhatItLeaves, changes_monitor};
+ghost use Rattle.machine_steps.specs.MonitorCalls.{MayChange, changes_monitor, is_of_monitors};
 ghost use Rattle.machine_threads.specs.Callers.{owner_at};
 ghost use Rattle.machine_steps.specs.Invoked.{called_from, is_halt, DoesCall, IsAnswered, IsHinderedAtCall, IsStopped, StandsAtCall, done_or_refused};
 
 use crate::fault::StepFault;
-use crate::monitor::{answer_at_once, change_monitor};
+use crate::monitor::{answer_at_once, change_monitor, is_of_monitors};
 use crate::receive::{receive, receive_number};
 use crate::scene::scene_of;
 use base::limits::MOST_ACTIVATIONS;
@@ -81,23 +81,22 @@ pub fn invoke(
     ensures pending { OnErr result (pending.new ≡ pending.old) }
     ensures activation { OnErr result (activation.new ≡ activation.old) }
 {
-    match unchecked_answer(program, world, store, *pending, activation, call, thread) {
-        Some(answer) => {
-            if finish_monitor(store, activation, call, thread, answer)? {
-                Ok(Invoked::Done)
-            } else {
-                invoke_apart(
-                    program, world, store, pending, activation, call, thread, owner, may_refuse,
-                )
-            }
+    if is_of_monitors(call.function) {
+        if change_at_once(program, world, store, *pending, activation, call, thread) {
+            Ok(Invoked::Done)
+        } else {
+            invoke_apart(
+                program, world, store, pending, activation, call, thread, owner, may_refuse,
+            )
         }
-        None => invoke_apart(
+    } else {
+        invoke_apart(
             program, world, store, pending, activation, call, thread, owner, may_refuse,
-        ),
+        )
     }
 }
 
-/// The instruction that calls a function, where it isn't seen at once that it enters or leaves a monitor.
+/// The instruction that calls a function, where that doesn't enter or leave a monitor at once.
 /// Each kind of answer that is seen at once is finished by itself, so none is handed on as one of many kinds. This stands
 /// apart from the loop over steps, which is faster without its variables.
 #[inline(never)]
@@ -266,9 +265,35 @@ fn deleted_seen(
     deleted_at_once(&scene, call)
 }
 
-/// What a call answers, where it is seen at once that it enters or leaves a monitor and that no check stops it. Whether its
-/// thread owns the monitor that it leaves isn't asked yet.
-/// It is made by the thread of this number. None says nothing of the call.
+/// Enters or leaves a monitor, as a call of the thread of this number asks, and answers whether it did so: where it is seen at
+/// once that no check stops it, and the thread may. Else all is as before, also where host memory was refused, for which the
+/// call asks again then.
+/// This stands apart from the loop over steps: it has few variables, so none of them goes through memory.
+#[inline(never)]
+fn change_at_once(
+    program: &Program<'_>,
+    world: &World,
+    store: &mut Store,
+    pending: Option<Addr>,
+    activation: &mut Activation,
+    call: &Call,
+    thread: u8,
+) -> bool
+    requires at_call { (owner : ℕ) × StandsAtCall program.now world.now store.old pending activation.old call.now thread owner }
+    requires place { activation.old.place + 1 < 2 ^ 64 }
+    requires function { is_of_monitors call.now.function ≡ true }
+    ensures done { result ≡ true → (owner : ℕ) → DoesCall program.now world.now store.old store.new pending pending
+        activation.old activation.new call.now thread owner Invoked.Done }
+    ensures kept { result ≡ false → (store.new ≡ store.old) × (activation.new ≡ activation.old) }
+{
+    match unchecked_answer(program, world, store, pending, activation, call, thread) {
+        Some(answer) => finish_monitor(store, activation, call, thread, answer),
+        None => false,
+    }
+}
+
+/// What a call of a function of monitors answers where it is seen at once that no check stops it. Whether its thread, which has
+/// this number, may enter or leave the monitor isn't asked yet. None says nothing of the call.
 #[inline(always)]
 fn unchecked_answer(
     program: &Program<'_>,
@@ -280,7 +305,8 @@ fn unchecked_answer(
     thread: u8,
 ) -> Option<Answer>
     requires at_call { (owner : ℕ) × StandsAtCall program.now world.now store.now pending activation.now call.now thread owner }
-    ensures answer { IfSome result (λ answer. OwnsWhatItLeaves thread answer store.now.monitors
+    requires function { is_of_monitors call.now.function ≡ true }
+    ensures answer { IfSome result (λ answer. MayChange thread answer store.now.monitors
         → IsAnswered program.now world.now store.now pending activation.now thread call.now answer) }
     ensures changes { IfSome result (λ answer. changes_monitor answer ≡ true) }
 {
@@ -503,8 +529,8 @@ fn finish_seen(
     )?)
 }
 
-/// Enters or leaves a monitor, as a call answers, puts 0 where it goes, and answers whether it did so: a monitor that the thread
-/// doesn't own isn't left, and all is as it was.
+/// Enters or leaves a monitor, as a call answers, puts 0 where it goes, and answers whether it did so: where the thread may not, or
+/// where host memory for it was refused, all is as it was.
 #[inline(always)]
 fn finish_monitor(
     store: &mut Store,
@@ -512,28 +538,25 @@ fn finish_monitor(
     call: &Call,
     thread: u8,
     answer: Answer,
-) -> Result<bool, AllocError>
+) -> bool
     requires at_call { (p : Lowered) × (w : SourceWorld) × (pending : Option ℕ) × (owner : ℕ)
         × StandsAtCall p w store.old pending activation.old call.now thread owner }
     requires place { activation.old.place + 1 < 2 ^ 64 }
     requires changes { changes_monitor answer ≡ true }
-    ensures done { IfOk result (λ done. done ≡ true → (p : Lowered) (w : SourceWorld) (pending : Option ℕ) (owner : ℕ)
-        → (OwnsWhatItLeaves thread answer store.old.monitors
+    ensures done { result ≡ true → (p : Lowered) (w : SourceWorld) (pending : Option ℕ) (owner : ℕ)
+        → (MayChange thread answer store.old.monitors
         → IsAnswered p w store.old pending activation.old thread call.now answer)
         → DoesCall p w store.old store.new pending pending activation.old activation.new call.now thread owner
-        Invoked.Done) }
-    ensures kept { IfOk result (λ done. done ≡ false → (store.new ≡ store.old) × (activation.new ≡ activation.old)) }
-    ensures enters { OnErr result (OwnsWhatItLeaves thread answer store.old.monitors) }
-    ensures store { OnErr result (store.new ≡ store.old) }
-    ensures activation { OnErr result (activation.new ≡ activation.old) }
+        Invoked.Done }
+    ensures kept { result ≡ false → (store.new ≡ store.old) × (activation.new ≡ activation.old) }
 {
-    if !change_monitor(&mut store.monitors, thread, answer)? {
-        return Ok(false);
+    if !change_monitor(&mut store.monitors, thread, answer) {
+        return false;
     }
     // Here the proof takes up what is known of a table.
     let _ = activation.locals.frames();
-    receive_number(activation, call.target, 0);
-    Ok(true)
+    receive_number(activation, &call.target, 0);
+    true
 }
 
 /// The slot of the flag that is given for `isCopy`, if there is one.

@@ -1,6 +1,6 @@
 //! Functions of monitors that no check stops (JNI Specification, chapter 4, "Monitor Operations").
 
-ghost use Rattle.std.specs.Prelude.{◌≡◌, ℕ, Bool, true, false, [], ◌∷◌, None, Some, slice_get, IfOk, IfSome, OnErr};
+ghost use Rattle.std.specs.Prelude.{◌≡◌, ℕ, Bool, true, false, [], ◌∷◌, None, Some, slice_get, IfSome};
 ghost use Rattle.base.specs.Element.{ElementType};
 ghost use Rattle.syntax.specs.Tree.{SourceUnit};
 ghost use Rattle.class_rules.specs.Class.{Classes};
@@ -12,7 +12,7 @@ ghost use Rattle.machine_answers.specs.Checked.{trap_found};
 ghost use Rattle.machine_answers.specs.WorkedOut.{IsWorkedOut};
 ghost use Rattle.machine_scenes.specs.Given.{AreAddresses, held_in, operand_at};
 ghost use Rattle.machine_scenes.specs.Locals.{address_of};
-ghost use Rattle.machine_steps.specs.MonitorCalls.{Changes, OwnsWhatItLeaves, changes_monitor};
+ghost use Rattle.machine_steps.specs.MonitorCalls.{Changes, MayChange, changes_monitor, is_of_monitors};
 
 use code::instr::{Call, Operand};
 use heap::Addr;
@@ -22,13 +22,11 @@ use machine_scenes::activation::Activation;
 use machine_scenes::references::local_of;
 use machine_scenes::store::Store;
 use monitors::{Enter, Exit, Monitors, Object};
-use std::alloc::AllocError;
 use tables::{Local, Locals};
 
-/// What a call answers, where it is seen at once that it enters or leaves a monitor and that no check stops it. Whether its
-/// thread owns the monitor that it leaves isn't asked yet.
-/// It is made by the thread of this number, no exception is pending, and its argument is a local reference to an
-/// object. None says nothing of the call.
+/// What a call of a function of monitors answers where it is seen at once that no check stops it: no exception is pending, and
+/// its argument is a local reference to an object. Whether its thread, which has this number, may enter or leave the
+/// monitor isn't asked yet. None says nothing of the call.
 #[inline(always)]
 pub(crate) fn answer_at_once(
     store: &Store,
@@ -37,11 +35,12 @@ pub(crate) fn answer_at_once(
     call: &Call,
     thread: u8,
 ) -> Option<Answer>
+    requires function { is_of_monitors call.now.function ≡ true }
     requires objects { AreAddresses store.now.heap (references_of store.now activation.now) call.now.operands.items }
     ensures free { IfSome result (λ answer. (unit : SourceUnit) (classes : Classes) (room : Bool) (wanted : ElementType)
         → trap_found (scene_of unit classes store.now activation.now thread pending) room wanted
         (function_value call.now.function) call.now.operands.items ≡ None) }
-    ensures works { IfSome result (λ answer. OwnsWhatItLeaves thread answer store.now.monitors
+    ensures works { IfSome result (λ answer. MayChange thread answer store.now.monitors
         → (unit : SourceUnit) (classes : Classes)
         → IsWorkedOut (scene_of unit classes store.now activation.now thread pending) (call_view call.now)
         (function_value call.now.function) answer) }
@@ -49,17 +48,14 @@ pub(crate) fn answer_at_once(
 {
     match call.function {
         JniFunction::MonitorEnter => match object_at_once(store, pending, activation, call) {
-            Some(object) => match store.monitors.entering(object.name, thread) {
-                Enter::Entered => Some(Answer::Enters(object)),
-                Enter::Limit | Enter::Busy => None,
-            },
+            Some(object) => Some(Answer::Enters(object)),
             None => None,
         },
         JniFunction::MonitorExit => match object_at_once(store, pending, activation, call) {
             Some(object) => Some(Answer::Exits(object.name)),
             None => None,
         },
-        _ => None,
+        _ => unreachable!(),
     }
 }
 
@@ -105,31 +101,35 @@ fn only_local(keys: &[Option<Local>], locals: &Locals, operands: &[Operand]) -> 
     }
 }
 
-/// Enters or leaves a monitor, as an answer says, and answers whether it did so: a monitor that the thread doesn't own isn't
-/// left, and all is as before.
-///
-/// An error says that host memory for it was refused; then all is as before.
+/// Whether a function enters or leaves a monitor.
 #[inline(always)]
-pub(crate) fn change_monitor(
-    monitors: &mut Monitors,
-    thread: u8,
-    answer: Answer,
-) -> Result<bool, AllocError>
+pub(crate) fn is_of_monitors(function: JniFunction) -> bool
+    ensures { result ≡ is_of_monitors function }
+{
+    matches!(
+        function,
+        JniFunction::MonitorEnter | JniFunction::MonitorExit
+    )
+}
+
+/// Enters or leaves a monitor, as an answer says, and answers whether it did so. Where the thread may not, or where host memory
+/// for it was refused, all is as before.
+#[inline(always)]
+pub(crate) fn change_monitor(monitors: &mut Monitors, thread: u8, answer: Answer) -> bool
     requires changes { changes_monitor answer ≡ true }
-    ensures owns { IfOk result (λ done. done ≡ true → OwnsWhatItLeaves thread answer monitors.old) }
-    ensures changed { IfOk result (λ done. done ≡ true → Changes thread answer monitors.old monitors.new) }
-    ensures kept { IfOk result (λ done. done ≡ false → monitors.new ≡ monitors.old) }
-    ensures enters { OnErr result (OwnsWhatItLeaves thread answer monitors.old) }
-    ensures err { OnErr result (monitors.new ≡ monitors.old) }
+    ensures may { result ≡ true → MayChange thread answer monitors.old }
+    ensures changed { result ≡ true → Changes thread answer monitors.old monitors.new }
+    ensures kept { result ≡ false → monitors.new ≡ monitors.old }
 {
     match answer {
-        Answer::Enters(object) => {
-            monitors.enter(object, thread)?;
-            Ok(true)
-        }
+        Answer::Enters(object) => match monitors.enter(object, thread) {
+            Ok(Enter::Entered) => true,
+            Ok(_) => false,
+            Err(_) => false,
+        },
         Answer::Exits(name) => match monitors.exit(name, thread) {
-            Exit::Left => Ok(true),
-            Exit::NotOwner => Ok(false),
+            Exit::Left => true,
+            Exit::NotOwner => false,
         },
         _ => unreachable!(),
     }

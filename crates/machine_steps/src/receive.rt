@@ -58,15 +58,33 @@ pub fn receive(
 /// Puts a number that a function gives into its target, and goes on after the instruction. It takes no host memory.
 /// `receive` does the same once it has seen what is given: calls of monitors, which are to be fast, know that already.
 #[inline(always)]
-pub fn receive_number(activation: &mut Activation, target: Target, word: u32)
+pub fn receive_number(activation: &mut Activation, target: &Target, word: u32)
     requires place { activation.old.place + 1 < 2 ^ 64 }
-    requires target { HasTarget target activation.old }
+    requires target { HasTarget target.now activation.old }
     ensures { (kind : SourceKind) (told : Option ℕ)
-        → Receives target kind told (Given.Number word) activation.old activation.new }
+        → Receives target.now kind told (Given.Number word) activation.old activation.new }
+{
+    match *target {
+        Target::Dropped => {
+            activation.stack.clear();
+            activation.place += 1;
+        }
+        _ => keep_number(activation, target, word),
+    }
+}
+
+/// The same, also where the number isn't dropped, as it mostly is. It stands apart from calls of monitors, which are faster
+/// without its variables.
+#[inline(never)]
+fn keep_number(activation: &mut Activation, target: &Target, word: u32)
+    requires place { activation.old.place + 1 < 2 ^ 64 }
+    requires target { HasTarget target.now activation.old }
+    ensures { (kind : SourceKind) (told : Option ℕ)
+        → Receives target.now kind told (Given.Number word) activation.old activation.new }
 {
     activation.stack.clear();
     activation.place += 1;
-    match target {
+    match *target {
         Target::Number(slot) => activation.slots.numbers[slot as usize] = word,
         Target::Local(slot) => activation.slots.references[slot as usize] = None,
         Target::Test => activation.stack.push(u32::from(word == 0)),

@@ -19,8 +19,8 @@ receive_number-requires-clause-target c =
 
 pub returns-clause-done : goal.returns-clause-done
 returns-clause-done c is p w pending owner told_if others own shared s task rest h =
-    let done = c.if-not-branch.false in
-    let told = told_if (c.in_ok-change_monitor.ensures.owns done) in
+    let done = c.if-not-change_monitor.false in
+    let told = told_if (c.change_monitor.ensures.may done) in
     let store = c.args.store.now in
     let activation = c.args.activation.now in
     let call = c.args.call.now in
@@ -35,7 +35,7 @@ returns-clause-done c is p w pending owner told_if others own shared s task rest
     (free p w store pending activation call others k owner own shared s task rest h a told plain)
     answer false (record store { monitors = c.change_monitor.new.monitors }) pending activation.locals (given.Number 0)
     (monitors.carries p w store pending activation.locals kind others k owner shared s (can_carry p w store pending activation call others k owner own shared s task rest h a told plain kind same) (brings p w store pending activation call others k owner own shared s task rest h a told plain) refl
-    (does p w store pending activation call others k owner own shared s task rest h a told plain) a changes answer c.change_monitor.new.monitors (c.in_ok-change_monitor.ensures.changed done))
+    (does p w store pending activation call others k owner own shared s task rest h a told plain) a changes answer c.change_monitor.new.monitors (c.change_monitor.ensures.changed done))
     c.frames.ensures.stacked (λ key copy at left. at) tt
     activation.slots.numbers activation.slots.buffers (monitors.numbers_stay store.heap a changes activation.slots.numbers.items) (monitors.buffers_stay a changes activation.slots.buffers.items) c.receive_number.new.activation store.statics
     (c.receive_number.ensures kind (told_slot (slice_get (call_view call).operands 1)))

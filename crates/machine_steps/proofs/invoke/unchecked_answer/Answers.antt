@@ -13,7 +13,7 @@ use Rattle.machine_answers.specs.Checked.{trap_found}
 use Rattle.machine_answers.specs.Sights.{element_wanted}
 use Rattle.machine_answers.specs.WorkedOut.{IsWorkedOut}
 use Rattle.machine_scenes.specs.Locals.{locals_after}
-use Rattle.machine_steps.specs.MonitorCalls.{OwnsWhatItLeaves}
+use Rattle.machine_steps.specs.MonitorCalls.{MayChange}
 use Rattle.machine_steps.proofs.SeenCalls.{all_there, as_seen}
 use Rattle.machine_steps.proofs.invoke.unchecked_answer.Goals as goal
 
@@ -26,7 +26,7 @@ pub answer_at_once-requires : goal.answer_at_once-requires
 answer_at_once-requires c =
     let at = c.requires.at_call in
     let a = at.1 in
-    record { objects = (all_there c.args.program.now c.args.world.now c.args.store.now c.args.pending c.args.activation.now c.args.call.now a.0 c.args.thread at.0 a.1 a.2 a.3 a.4 a.5 a.6 c.args.store.now.monitors (scene_of (unit_tree c.args.program.now.unit) c.args.world.now.classes c.args.store.now c.args.activation.now c.args.thread c.args.pending) refl).objects }
+    record { function = c.requires.function; objects = (all_there c.args.program.now c.args.world.now c.args.store.now c.args.pending c.args.activation.now c.args.call.now a.0 c.args.thread at.0 a.1 a.2 a.3 a.4 a.5 a.6 c.args.store.now.monitors (scene_of (unit_tree c.args.program.now.unit) c.args.world.now.classes c.args.store.now c.args.activation.now c.args.thread c.args.pending) refl).objects }
 
 pub returns-clause-answer : goal.returns-clause-answer
 returns-clause-answer c =
@@ -37,7 +37,7 @@ returns-clause-answer c =
     let scene = scene_of (unit_tree c.args.program.now.unit) w.classes c.args.store.now c.args.activation.now c.args.thread c.args.pending in
     known
     (λ (x : Answer). (unit : SourceUnit) (classes : Classes) (room : Bool) (wanted : ElementType) → trap_found (scene_of unit classes c.args.store.now c.args.activation.now c.args.thread c.args.pending) room wanted (function_value call.function) call.operands.items ≡ None)
-    (λ (x : Answer). OwnsWhatItLeaves c.args.thread x c.args.store.now.monitors → (unit : SourceUnit) (classes : Classes) → IsWorkedOut (scene_of unit classes c.args.store.now c.args.activation.now c.args.thread c.args.pending) (call_view call) (function_value call.function) x)
+    (λ (x : Answer). MayChange c.args.thread x c.args.store.now.monitors → (unit : SourceUnit) (classes : Classes) → IsWorkedOut (scene_of unit classes c.args.store.now c.args.activation.now c.args.thread c.args.pending) (call_view call) (function_value call.function) x)
     _ c.answer_at_once.result
     (λ (x : Answer) free works owns.
     record {
