@@ -1,5 +1,5 @@
 -- Values by name that lie in a hash map: a value is looked up and assigned at the place of its name.
-use Rattle.std.proofs.Common.{◌≡◌, ℕ, Bool, true, false, cond, List, [], ◌∷◌, map, position, Option, Some, None, Result, Ok, Err, OnOk, is_some, is_err, refl, sym, ap, ◌∙◌, Bor}
+use Rattle.std.proofs.Common.{◌≡◌, ◌<◌, ℕ, zero, suc, Bool, true, false, cond, List, [], ◌∷◌, map, position, Option, Some, None, Result, Ok, Err, OnOk, is_some, is_err, refl, sym, ap, ◌∙◌, Bor, slice_get, ◌+◌, not, length, nat_lt, lt-ltb, arith}
 use Rattle.std.specs.Option.{option_map, option_copied}
 use Rattle.std.specs.Str.{bytes_eq}
 use Rattle.std.specs.Map as maps
@@ -7,6 +7,7 @@ use Rattle.std.proofs.lemmas.Slice.Eq.{bytes_eq-Decides}
 use Rattle.base.specs.Bytes.{Identifier, ByName, lookup}
 use Rattle.indexmap.specs.IndexMap.{insert_entry, set_value_at}
 use Rattle.indexmap.proofs.MapLemmas.{Found-position, insert_entry-first}
+use Rattle.std.specs.List.{position_or_len}
 use Rattle.semantics.specs.Variable.{assign}
 use Rattle.replay_terms.specs.Views.{by_name}
 
@@ -18,6 +19,34 @@ same_key k l = bytes_eq k.now l.now
 pub on_ok : {X Y : Type 0} (r : Result X Y) (P : Type 0) → OnOk r P → is_err r ≡ false → P
 on_ok (Ok x) P p h = p
 on_ok (Err y) P p h = absurd (cc)
+
+-- an entry has another name
+abbrev pub IsOther : {V : Type 0} → Identifier → List (Bor Identifier × V) → ℕ → Type 0
+IsOther {V} x es k = (e : Bor Identifier × V) → slice_get es k ≡ Some e → bytes_eq x e.0.now ≡ false
+
+abbrev is_named : Identifier → Bor Identifier → Bool
+is_named x k = bytes_eq x k.now
+
+module _ {V : Type 0} (x : Identifier) where
+  keys_within : (es : List (Bor Identifier × V)) (i : ℕ) (e : Bor Identifier × V) → slice_get es i ≡ Some e → i < length (maps.keys_of es)
+  keys_within [] i e at = absurd (cc)
+  keys_within (f ∷ es) zero e at = omega arith
+  keys_within (f ∷ es) (suc i) e at = omega (arith, keys_within es i e at)
+
+  first_so : (es : List (Bor Identifier × V)) (i : ℕ) (e : Bor Identifier × V) → slice_get es i ≡ Some e → bytes_eq x e.0.now ≡ true → ((k : ℕ) → k < i → IsOther x es k) → position_or_len (is_named x) (maps.keys_of es) ≡ i
+  first_so [] i e at same others = absurd (cc)
+  first_so (f ∷ es) zero e at same others =
+      let is : f ≡ e = cc in ap (λ (b : Bool). cond (not b) (1 + position_or_len (is_named x) (maps.keys_of es)) 0) (ap (λ (g : Bor Identifier × V). bytes_eq x g.0.now) is ∙ same)
+  first_so (f ∷ es) (suc i) e at same others =
+      ap (λ (b : Bool). cond (not b) (1 + position_or_len (is_named x) (maps.keys_of es)) 0) (others 0 (omega arith) f refl)
+      ∙ ap (λ n. 1 + n) (first_so es i e at same (λ k low. others (suc k) (omega (arith, low))))
+      ∙ omega arith
+
+  -- the first entry of a name, before which none has it
+  pub first_there : (es : List (Bor Identifier × V)) (i : ℕ) (e : Bor Identifier × V) → slice_get es i ≡ Some e → bytes_eq x e.0.now ≡ true → ((k : ℕ) → k < i → IsOther x es k) → position (is_named x) (maps.keys_of es) ≡ Some i
+  first_there es i e at same others =
+      ap (λ n. cond (nat_lt n (length (maps.keys_of es))) (Some n) None) (first_so es i e at same others)
+      ∙ ap (λ (b : Bool). cond b (Some i) None) (lt-ltb i _ (keys_within es i e at))
 
 nothing : {V : Type 0} (o : Option V) → is_some o ≡ false → o ≡ None
 nothing None none = refl

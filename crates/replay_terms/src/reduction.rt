@@ -9,7 +9,7 @@ ghost use Rattle.replay_terms.specs.Views.{value_view, evaluated_view, term_view
 
 use crate::sight::{element_in, null_value, number_in};
 use crate::statics::Statics;
-use crate::term::{Term, put_term};
+use crate::term::{Term, put_term, put_value};
 use crate::value::{Evaluated, Value, binary_value, constant, literal, prefix_value};
 use crate::variable::Variables;
 use semantics::{Objects, Trap};
@@ -62,7 +62,7 @@ fn replace(term: &mut Term<'_>, value: Evaluated) -> Reduction
 {
     match value {
         Evaluated::Gives(value) => {
-            put_term(term, Term::Done(value));
+            put_value(term, value);
             Reduction::Reduced
         }
         Evaluated::Traps(trap) => Reduction::Trapped(trap),

@@ -6,6 +6,7 @@ ghost use Rattle.syntax.specs.Parts.{null_tested};
 ghost use Rattle.syntax.specs.Tree.{Binary};
 ghost use Rattle.syntax.specs.Views.{expr_tree, binary_tree};
 ghost use Rattle.semantics.specs.Term.{term_of, binary_term};
+ghost use Rattle.replay_terms.specs.declared.term.Term.TheVariants as term;
 ghost use Rattle.replay_terms.specs.Views.{term_view, NumbersInRange};
 
 use crate::value::Value;
@@ -36,6 +37,21 @@ pub fn put_term<'a>(place: &mut Term<'a>, term: Term<'a>)
     ensures { place.new ≡ term.entry }
 {
     drop(mem::replace(place, term));
+}
+
+/// Puts a value in the place of a term. Most terms have no parts, so there is nothing of them to drop.
+pub(crate) fn put_value(place: &mut Term<'_>, value: Value)
+    ensures { place.new ≡ term.Done value }
+{
+    match mem::replace(place, Term::Done(value)) {
+        Term::Element(_, part) | Term::Prefix(_, part) => drop(part),
+        Term::And(left, right) | Term::Or(left, right) | Term::Binary(_, left, right) => {
+            drop(left);
+            drop(right);
+        }
+        Term::Done(_) | Term::Number { .. } | Term::Named(_) => {}
+        Term::Read(_) | Term::IsNull(_, _) => {}
+    }
 }
 
 /// The term of an operator between two terms.

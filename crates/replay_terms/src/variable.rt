@@ -1,9 +1,10 @@
 //! The variables of a call in progress.
 
-ghost use Rattle.std.specs.Prelude.{◌≡◌, ◌≤◌, ◌++◌, [], IfOk, Some, drop, flat_map, length, map, pos, replicate, slice_set};
+ghost use Rattle.std.specs.Prelude.{◌≡◌, ◌≤◌, ◌<◌, ◌++◌, [], IfOk, IfSome, Some, is_some, slice_get, drop, flat_map, length, map, pos, replicate, slice_set};
 ghost use Rattle.std.specs.Option.{option_map};
 ghost use Rattle.base.specs.Bytes.{lookup};
-ghost use Rattle.indexmap.specs.IndexMap.{values};
+ghost use Rattle.std.specs.Str.{bytes_eq};
+ghost use Rattle.indexmap.specs.IndexMap.{get_by, index_map_len, index_of_by, values};
 ghost use Rattle.base.specs.Element.{element_value};
 ghost use Rattle.semantics.specs.CallEffects.{begun_with, copied_elements, freed, local_array};
 ghost use Rattle.semantics.specs.CallStep.{element_type};
@@ -114,7 +115,10 @@ impl<'a> Variables<'a> {
     pub fn content_named(&self, name: &[u8]) -> Option<&Content<'a>>
         ensures { option_map (λ c. content_view c.now) result ≡ lookup name.now (variables_view self.now) }
     {
-        self.contents.get(name)
+        match place_of(&self.contents, name) {
+            Some(place) => Some(&self.contents[place]),
+            None => None,
+        }
     }
 
     /// Sets the variable of this name. Where there is none, it is new and comes last. There is no memory for buffers
@@ -129,7 +133,7 @@ impl<'a> Variables<'a> {
     pub fn set_named(&mut self, name: &'a [u8], content: Content<'a>) -> Result<(), AllocError>
         ensures { IfOk result (λ _. variables_view self.new ≡ assign name.now (content_view content.entry) (variables_view self.old)) }
     {
-        let Some(place) = self.contents.get_index_of(name) else {
+        let Some(place) = place_of(&self.contents, name) else {
             return self.insert(name, content);
         };
         let old = taken(&self.contents[place]);
@@ -172,7 +176,7 @@ impl<'a> Variables<'a> {
     pub fn write(&mut self, name: &Name, index: usize, number: i32) -> Written
         ensures { WritesElement (variables_view self.old) name.now index number result (variables_view self.new) }
     {
-        match self.contents.get_index_of(name.as_bytes()) {
+        match place_of(&self.contents, name.as_bytes()) {
             Some(place) => write_content(&mut self.contents[place], index, number),
             None => Written::Nothing,
         }
@@ -182,7 +186,7 @@ impl<'a> Variables<'a> {
     pub fn free(&mut self, name: &[u8])
         ensures { variables_view self.new ≡ change name.now freed (variables_view self.old) }
     {
-        if let Some(place) = self.contents.get_index_of(name) {
+        if let Some(place) = place_of(&self.contents, name) {
             let old = free_content(&mut self.contents[place]);
             self.in_use.copied -= old.copied;
             self.in_use.views -= old.views;
@@ -235,10 +239,30 @@ impl<'a> Variables<'a> {
         requires { length values.now ≤ length (local_array (lookup name.now (variables_view self.old))) }
         ensures { variables_view self.new ≡ change name.now (begun_with (map held_number values.now)) (variables_view self.old) }
     {
-        if let Some(place) = self.contents.get_index_of(name) {
+        if let Some(place) = place_of(&self.contents, name) {
             begin_content(&mut self.contents[place], values);
         }
     }
+}
+
+/// How many variables are compared with a name before it is looked up by its hash.
+const COMPARED: usize = 8;
+
+/// The place of the variable of this name. The first few are compared with the name at once, since most calls have no more.
+fn place_of(contents: &IndexMap<&[u8], Content<'_>>, name: &[u8]) -> Option<usize>
+    ensures index { result ≡ index_of_by (λ k. bytes_eq name.now k.now) contents.now }
+    ensures found { is_some result ≡ is_some (get_by (λ k. bytes_eq name.now k.now) contents.now) }
+    ensures within { IfSome result (λ i. i < index_map_len contents.now) }
+    ensures value { IfSome result (λ i. slice_get (values contents.now) i ≡ get_by (λ k. bytes_eq name.now k.now) contents.now) }
+{
+    for place in 0..contents.len().min(COMPARED) {
+        if let Some((other, _)) = contents.get_index(place) {
+            if name == *other {
+                return Some(place);
+            }
+        }
+    }
+    contents.get_index_of(name)
 }
 
 /// Puts what a variable holds in the place of what it held.
