@@ -1,22 +1,27 @@
 -- Steps of terms are steps of their tasks, and of the call in progress.
-use Rattle.std.proofs.Common.{◌≡◌, ℕ, Bool, false, List, ◌∷◌, Option, Some, sym, ap, ◌∙◌, subst}
+use Rattle.std.proofs.Common.{◌≡◌, ℕ, false, List, ◌∷◌, Option, None, Some, sym, ap, ◌∙◌}
+use Rattle.syntax.specs.Tree.{SourceUnit}
+use Rattle.class_rules.specs.Class.{Classes}
+use Rattle.semantics.specs.Object.{Reference}
+use Rattle.semantics.specs.Thread.{BuffersInUse, Shared}
 use Rattle.semantics.specs.Sight.{Sight}
 use Rattle.semantics.specs.Task.{Task}
 use Rattle.semantics.specs.ThreadStep.{step_within}
-use Rattle.semantics.specs.declared.object_id.ObjectId.{ObjectId}
-use Rattle.replay_arguments.specs.Shares.{shared_view, sight_in}
-use Rattle.replay_arguments.specs.declared.scene.Turn.{Turn}
-use Rattle.replay_arguments.specs.declared.shared.Shared.{Shared}
+use Rattle.replay_arguments.specs.Shares.{sight_in}
 use Rattle.replay_steps.specs.declared.activation.Activation.{Activation}
 use Rattle.replay_steps.specs.declared.activation.Work.{Work}
 use Rattle.replay_steps.specs.declared.attempt.Attempt.{Attempt}
 use Rattle.replay_steps.specs.declared.attempt.Attempt.TheVariants as attempt
 use Rattle.replay_steps.specs.Activations.{Advances, IsAtStatement, tasks_after, tasks_from, tasks_left}
-use Rattle.replay_steps.specs.Attempts.{AttemptsAt, AttemptsTask, AttemptsTerm, IsOpen}
-use Rattle.replay_steps.specs.Steps.{Does, Scene, scene_of}
+use Rattle.replay_steps.specs.Attempts.{AttemptsCall, AttemptsTask, AttemptsTerm, IsOpen, attempt_for}
+use Rattle.replay_steps.specs.Steps.{Does, Scene, scene_with}
+use Rattle.replay_steps.specs.Calls.{ReducesFirst}
+use Rattle.replay_steps.proofs.Invocations.{number_reduces}
 use Rattle.replay_steps.proofs.TaskLemmas.{does}
 use Rattle.replay_tasks.specs.declared.outcome.Outcome.TheVariants as outcome
+use Rattle.replay_tasks.specs.declared.task.Invocation.{Invocation}
 use Rattle.replay_tasks.specs.declared.task.Task.{Task as TaskInMemory}
+use Rattle.replay_tasks.specs.declared.task.Task.TheVariants as task
 use Rattle.replay_tasks.specs.Effects.{HasEffect, reduced}
 use Rattle.replay_tasks.specs.Tasks.{TaskInRange, task_view}
 use Rattle.replay_terms.specs.declared.reduction.Reduction.{Reduction}
@@ -31,6 +36,14 @@ pub task_attempted : (sight : Sight) (line : ℕ) (at : Term → TaskInMemory)
 task_attempted sight line at steps old new attempt.Reduced h = steps old new reduction.Reduced h.0 h.1
 task_attempted sight line at steps old new attempt.Stuck h = steps old new reduction.Stuck h.0 h.1
 task_attempted sight line at steps old new attempt.Left h = ap at h
+
+-- a call's first number that isn't worked out takes its step
+pub number_attempted : (sight : Sight) (i new : Invocation) → new.line ≡ i.line → new.purpose ≡ i.purpose → new.function ≡ i.function → (new.operands.items ≡ i.operands.items → new ≡ i)
+    → (took : Option Reduction) → ReducesFirst sight i.operands.items took new.operands.items → AttemptsTask sight (task.Invoke i) (attempt_for took) (task.Invoke new)
+number_attempted sight i new line purpose function same None h = ap (λ (x : Invocation). let t : TaskInMemory = task.Invoke x in t) (same h.1)
+number_attempted sight i new line purpose function same (Some reduction.Reduced) h = number_reduces sight i new line purpose function reduction.Reduced h
+number_attempted sight i new line purpose function same (Some (reduction.Trapped trap)) h = ap (λ (x : Invocation). let t : TaskInMemory = task.Invoke x in t) (same h.2)
+number_attempted sight i new line purpose function same (Some reduction.Stuck) h = number_reduces sight i new line purpose function reduction.Stuck h
 
 -- the work with another task in the place of the one that is begun
 abbrev pub with_task : Work → TaskInMemory → Work
@@ -53,20 +66,18 @@ module _ (scene : Scene) (old : Work) (begun left : TaskInMemory) (is : old.task
       ap (λ (ts : List Task). step_within scene.unit scene.classes scene.in_use scene.thread scene.shared t false (Some ts)) first
       ∙ steps t rest sees (has ∙ ap (λ (ts : List Task). let o : Option (List Task) = Some ts in o) first)
 
-module _ (turn : Turn) (shared : Shared) (pending : Option ObjectId) (old : Activation) (begun left : TaskInMemory) (is : old.work.task ≡ Some begun) where
-  abbrev scene_then : Scene
-  scene_then = scene_of turn (shared_view shared) old.locals pending
+module _ (s : Shared) (old : Activation) (begun left : TaskInMemory) (is : old.work.task ≡ Some begun) where
+  -- the scene of whatever turn it is
+  abbrev scene_of_any : SourceUnit → Classes → BuffersInUse → ℕ → Reference → Scene
+  scene_of_any unit classes in_use thread pending = scene_with unit classes in_use thread s old.locals.variables old.locals.frames pending
 
   -- a call in progress takes the step of its task
-  pub call_attempted : turn.refused ≡ false → (r : Attempt) → AttemptsTask (sight_in (shared_view shared) old.locals.variables) begun r left
-      → AttemptsAt turn shared pending old r (record old { work = with_task old.work left })
-  call_attempted goes attempt.Reduced h =
-      subst (λ (b : Bool). Advances b scene_then old.work outcome.Stays scene_then (with_task old.work left)) (sym goes)
-      (stays scene_then old.work begun left is (does scene_then begun left outcome.Stays h))
-  call_attempted goes attempt.Stuck h =
-      subst (λ (b : Bool). Advances b scene_then old.work outcome.Impossible scene_then (with_task old.work left)) (sym goes)
-      (stops scene_then old.work begun left is (does scene_then begun left outcome.Impossible h))
-  call_attempted goes attempt.Left h =
+  pub call_attempted : (r : Attempt) → AttemptsTask (sight_in s old.locals.variables) begun r left → AttemptsCall s old r (record old { work = with_task old.work left })
+  call_attempted attempt.Reduced h = λ unit classes in_use thread pending.
+      let scene = scene_of_any unit classes in_use thread pending in stays scene old.work begun left is (does scene begun left outcome.Stays h)
+  call_attempted attempt.Stuck h = λ unit classes in_use thread pending.
+      let scene = scene_of_any unit classes in_use thread pending in stops scene old.work begun left is (does scene begun left outcome.Impossible h)
+  call_attempted attempt.Left h =
       ap (λ (task : TaskInMemory). let a : Activation = record old { work = with_task old.work task } in a) h
       ∙ ap (λ (o : Option TaskInMemory). let a : Activation = record old { work = record old.work { task = o } } in a) (sym is)
 

@@ -6,3 +6,4 @@ mod ActivationLemmas
 mod WaitLemmas
 mod CallerLemmas
 mod AttemptLemmas
+pub mod SameLists

@@ -1,12 +1,12 @@
 //! Activations: calls in progress.
 
-ghost use Rattle.std.specs.Prelude.{◌≡◌, IfOk, IsSome, Option, Some, None, []};
+ghost use Rattle.std.specs.Prelude.{◌≡◌, IfOk, IsSome, Some, None, []};
 ghost use Rattle.class_rules.specs.Grown.{IsGrown};
 ghost use Rattle.semantics.specs.Task.{tasks_of};
 ghost use Rattle.replay_steps.specs.Activations.{tasks_left, IsAtStatement, IsInRange, AreSet, IsApplied, HasBegun, HasTurned, StepsTask, Advances, AdvancesAt};
-ghost use Rattle.replay_steps.specs.Attempts.{AttemptsAt};
+ghost use Rattle.replay_steps.specs.Attempts.{AttemptsCall};
+ghost use Rattle.replay_arguments.specs.Shares.{shared_view};
 ghost use Rattle.replay_steps.specs.Steps.{Scene, scene_at};
-ghost use Rattle.semantics.specs.declared.object_id.ObjectId.{ObjectId as ObjectInMemory};
 ghost use Rattle.syntax.specs.Views.{expr_tree, block_tree};
 ghost use Rattle.replay_tasks.specs.declared.outcome.Outcome.TheVariants as outcome;
 ghost use Rattle.replay_tasks.specs.Tasks.{branch_task, statements_in, BlockInRange, ExprInRange, StatementInRange, StatementsInRange, OutcomeInRange};
@@ -325,9 +325,8 @@ fn take_step<'a>(
     go_on(turn, shared, pending, activation)
 }
 
-/// Lets a call take its next step by what it is, or the same with its object refused, and begins what comes next.
-#[inline]
-fn step_and_begin<'a>(
+/// Lets a call take its next step, or the same with its object refused, and begins what comes next.
+pub fn advance<'a>(
     turn: Turn<'a>,
     shared: &mut Shared<'a>,
     pending: &mut Option<ObjectId>,
@@ -344,39 +343,16 @@ fn step_and_begin<'a>(
     Ok(outcome)
 }
 
-/// Lets the term of the task that is begun take a step, where that is all the call's next step does: most steps are such,
-/// and none of them has an outcome to hand on.
+/// Lets the term of the task that is begun take a step, where that is all the call's next step does, and nothing is refused: most
+/// steps are such, and none of them needs to know whose turn it is, or has an outcome to hand on.
 #[inline]
-fn attempt_step<'a>(turn: Turn<'a>, shared: &Shared<'a>, activation: &mut Activation<'a>) -> Attempt
+pub fn attempt_step<'a>(shared: &Shared<'a>, activation: &mut Activation<'a>) -> Attempt
     requires { IsAtStatement activation.old.work }
-    ensures step { (pending : Option ObjectInMemory) → AttemptsAt turn.entry shared.now pending activation.old result activation.new }
+    ensures step { AttemptsCall (shared_view shared.now) activation.old result activation.new }
     ensures range { IsAtStatement activation.new.work }
 {
-    if turn.refused {
-        return Attempt::Left;
-    }
     match &mut activation.work.task {
         Some(task) => attempt_task(shared, &activation.locals.variables, task),
         None => Attempt::Left,
-    }
-}
-
-/// Lets a call take its next step, or the same with its object refused, and begins what comes next.
-pub fn advance<'a>(
-    turn: Turn<'a>,
-    shared: &mut Shared<'a>,
-    pending: &mut Option<ObjectId>,
-    activation: &mut Activation<'a>,
-) -> Result<Outcome<'a>, AllocError>
-    requires range { IsAtStatement activation.old.work }
-    requires grown { IsGrown turn.classes.now }
-    ensures step { IfOk result (λ o. AdvancesAt turn.entry
-        shared.old activation.old pending.old o shared.new activation.new pending.new) }
-    ensures range { IfOk result (λ _. IsAtStatement activation.new.work) }
-{
-    match attempt_step(turn, shared, activation) {
-        Attempt::Reduced => Ok(Outcome::Stays),
-        Attempt::Stuck => Ok(Outcome::Impossible),
-        Attempt::Left => step_and_begin(turn, shared, pending, activation),
     }
 }

@@ -1,17 +1,20 @@
 //! Steps of terms, which are most steps of tasks.
 
+ghost use Rattle.std.specs.Prelude.{◌≡◌};
 ghost use Rattle.replay_arguments.specs.Shares.{shared_view, sight_in};
-ghost use Rattle.replay_steps.specs.Attempts.{AttemptsTask, AttemptsTerm};
-ghost use Rattle.replay_tasks.specs.Tasks.{TaskInRange};
+ghost use Rattle.replay_steps.specs.Attempts.{AttemptsTask, AttemptsTerm, attempt_for};
+ghost use Rattle.replay_tasks.specs.declared.task.Task.TheVariants as task;
+ghost use Rattle.replay_tasks.specs.Tasks.{OperandsInRange, TaskInRange};
 ghost use Rattle.replay_terms.specs.Views.{NumbersInRange};
 
+use crate::invoke::reduce_number;
 use replay_arguments::Shared;
-use replay_tasks::Task;
+use replay_tasks::{Invocation, Task};
 use replay_terms::{Reduction, Term, Variables, reduce};
 
 /// What became of a term that was to take a step.
 #[derive(Clone, Copy)]
-pub(crate) enum Attempt {
+pub enum Attempt {
     /// It took it.
     Reduced,
     /// Nothing fits, as in no accepted program.
@@ -37,7 +40,34 @@ fn attempt_term(shared: &Shared<'_>, variables: &Variables<'_>, term: &mut Term<
     }
 }
 
-/// Lets the term of a task that sets a variable, branches or loops take a step.
+/// What became of the first number of a call that isn't worked out, if there is one.
+fn attempt_for(took: Option<Reduction>) -> Attempt
+    ensures { result ≡ attempt_for took }
+{
+    match took {
+        Some(Reduction::Reduced) => Attempt::Reduced,
+        Some(Reduction::Stuck) => Attempt::Stuck,
+        Some(Reduction::Trapped(_)) | None => Attempt::Left,
+    }
+}
+
+/// Lets the first number of a call that isn't worked out take a step.
+#[inline(never)]
+fn attempt_number<'a>(
+    shared: &Shared<'a>,
+    variables: &Variables<'a>,
+    i: &mut Invocation<'a>,
+) -> Attempt
+    requires { OperandsInRange i.old.operands.items }
+    ensures step { AttemptsTask (sight_in (shared_view shared.now) variables.now)
+        (task.Invoke i.old) result (task.Invoke i.new) }
+    ensures numbers { OperandsInRange i.new.operands.items }
+    ensures purpose { i.new.purpose ≡ i.old.purpose }
+{
+    attempt_for(reduce_number(shared, variables, i))
+}
+
+/// Lets the term of a task that sets a variable, branches or loops take a step, or the first number of a call.
 #[inline]
 pub(crate) fn attempt_task<'a>(
     shared: &Shared<'a>,
@@ -52,6 +82,7 @@ pub(crate) fn attempt_task<'a>(
         Task::Set(a) => attempt_term(shared, variables, &mut a.term),
         Task::Branch(choice) => attempt_term(shared, variables, &mut choice.test),
         Task::Loop(i) => attempt_term(shared, variables, &mut i.term),
+        Task::Invoke(i) => attempt_number(shared, variables, i),
         _ => Attempt::Left,
     }
 }

@@ -87,7 +87,7 @@ fn make_call<'a>(
 }
 
 /// Lets the first number of a call that isn't worked out take a step; none where each is.
-fn reduce_number(
+pub(crate) fn reduce_number(
     shared: &Shared<'_>,
     variables: &Variables<'_>,
     i: &mut Invocation<'_>,
@@ -99,6 +99,7 @@ fn reduce_number(
     ensures line { i.new.line ≡ i.old.line }
     ensures purpose { i.new.purpose ≡ i.old.purpose }
     ensures function { i.new.function ≡ i.old.function }
+    ensures same { i.new.operands.items ≡ i.old.operands.items → i.new ≡ i.old }
 {
     reduce_first(shared, variables, &mut i.operands)
 }

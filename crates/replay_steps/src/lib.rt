@@ -8,6 +8,7 @@ mod invoke;
 mod step;
 mod wait;
 
-pub use activation::{Activation, Outer, Work, advance, work_of};
+pub use activation::{Activation, Outer, Work, advance, attempt_step, work_of};
+pub use attempt::Attempt;
 pub use callers::{Entering, entering_of, resume};
 pub use wait::waits;

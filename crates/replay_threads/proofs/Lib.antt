@@ -7,3 +7,4 @@ mod StandingLemmas
 mod BufferLemmas
 pub mod RootLemmas
 mod ClearingLemmas
+mod AttemptedSteps

@@ -14,6 +14,8 @@ use Rattle.semantics.specs.Thread.{BuffersInUse, Thread, lengths_copied, objects
 use Rattle.semantics.specs.Variable.{Variables}
 use Rattle.semantics.specs.WeakReferences.{may_clear}
 use Rattle.replay_steps.specs.declared.activation.Activation.{Activation}
+use Rattle.replay_steps.specs.declared.attempt.Attempt.{Attempt}
+use Rattle.replay_steps.specs.declared.attempt.Attempt.TheVariants as attempt
 use Rattle.semantics.specs.State.{State}
 use Rattle.semantics.specs.Step.{world_step, is_blocked, is_unfinished}
 use Rattle.semantics.specs.ReportOf.{standing_at, standing_of}
@@ -66,6 +68,12 @@ Leads unit w s e new false = world_step unit w s e ≡ None
 -- the same in each state that it stands for
 abbrev pub TakesEntry : SourceUnit → StateInMemory → Entry → (possible : Bool) → StateInMemory → Type 0
 TakesEntry unit old e possible new = (w : World) (s : State) → Stands unit w old s → Leads unit w s e new possible
+
+-- where nothing is refused, a term's step of thread k is possible and leaves this, or isn't possible, or all is as it was
+abbrev pub AttemptsTurn : StateInMemory → ℕ → Attempt → StateInMemory → Type 0
+AttemptsTurn old k attempt.Reduced new = (unit : SourceUnit) → TakesEntry unit old (entry.Step k false) true new
+AttemptsTurn old k attempt.Stuck new = (unit : SourceUnit) → TakesEntry unit old (entry.Step k false) false new
+AttemptsTurn old k attempt.Left new = new ≡ old
 
 -- ---- clearings
 

@@ -25,6 +25,8 @@ use Rattle.replay_tasks.specs.declared.outcome.Outcome.TheVariants as outcome
 use Rattle.replay_threads.specs.declared.thread.Thread.{Thread as ThreadInMemory}
 use Rattle.replay_steps.specs.Activations.{tasks_left, IsAtStatement}
 use Rattle.replay_steps.specs.Callers.{CallerStands, CallsFrom, IsCalling, MakesCaller, Resumes, entering_view}
+use Rattle.replay_steps.specs.declared.attempt.Attempt.{Attempt}
+use Rattle.replay_steps.specs.declared.attempt.Attempt.TheVariants as attempt
 use Rattle.replay_steps.specs.declared.callers.Entering.{Entering}
 use Rattle.replay_tasks.specs.Outcomes.{result_view}
 use Rattle.replay_arguments.specs.declared.scene.Turn.{Turn}
@@ -239,3 +241,13 @@ TakesStep unit classes in_use k refused shared old took after new =
 -- the same at a turn
 abbrev pub TakesTurn : SourceUnit → Turn → Shared → ThreadInMemory → Option EventInMemory → Shared → ThreadInMemory → Type 0
 TakesTurn unit turn shared old took after new = TakesStep unit turn.classes.now (in_use_view turn.in_use) turn.thread turn.refused shared old took after new
+
+-- the same whose turn ever it is, with nothing refused, and nothing done to what threads share
+abbrev pub StepsAnywhere : Shared → ThreadInMemory → Option EventInMemory → ThreadInMemory → Type 0
+StepsAnywhere shared old took new = (unit : SourceUnit) (classes : Classes) (in_use : BuffersInUse) (k : ℕ) → TakesStep unit classes in_use k false shared old took shared new
+
+-- a term took its step, which was the thread's, can't take it, or is as it was
+abbrev pub AttemptsStep : Shared → ThreadInMemory → Attempt → ThreadInMemory → Type 0
+AttemptsStep shared old attempt.Reduced new = StepsAnywhere shared old (Some event.Quiet) new
+AttemptsStep shared old attempt.Stuck new = StepsAnywhere shared old None new
+AttemptsStep shared old attempt.Left new = new ≡ old

@@ -1,6 +1,6 @@
 //! The state of a replay, and what an entry does to it.
 
-ghost use Rattle.std.specs.Prelude.{◌≡◌, ◌<◌, ◌*◌, [], IfOk, IfSome, IfNone, is_some, map, ◌≤◌, flat_map, length, sum_by};
+ghost use Rattle.std.specs.Prelude.{◌≡◌, ℕ, ◌<◌, ◌*◌, [], IfOk, IfSome, IfNone, is_some, map, ◌≤◌, flat_map, length, sum_by};
 ghost use Rattle.base.specs.Limits.{most_activations, most_copied, most_views};
 ghost use Rattle.syntax.specs.Limits.{IsTree};
 ghost use Rattle.syntax.specs.Views.{unit_tree};
@@ -8,17 +8,17 @@ ghost use Rattle.type_rules.specs.TypeRules.{IsWellTyped};
 ghost use Rattle.semantics.specs.Journal.{Step, Clearing};
 ghost use Rattle.semantics.specs.Views.{names_of};
 ghost use Rattle.syntax.specs.Tree.{SourceUnit};
-ghost use Rattle.replay_threads.specs.States.{AreInRange, IsLiveAt, TakesEntry, TakesNone, IsNoted, AreStandings, Waits, call_copies, call_views, copied_in, in_use_by, variables_of, viewed_in};
+ghost use Rattle.replay_threads.specs.States.{AreInRange, AttemptsTurn, IsLiveAt, TakesEntry, TakesNone, IsNoted, AreStandings, Waits, call_copies, call_views, copied_in, in_use_by, variables_of, viewed_in};
 ghost use Rattle.replay_threads.specs.Threads.{ThreadInRange, last_first};
 ghost use Rattle.semantics.specs.Thread.{lengths_copied, objects_viewed};
 ghost use Rattle.replay_terms.specs.Views.{in_use_view};
 ghost use Rattle.report.specs.ThreadStatus.{standing_view};
 
 use crate::clearing::may_clear;
-use crate::thread::{Thread, is_waiting, take_step};
+use crate::thread::{Thread, is_waiting, take_step, try_step};
 use functions::Functions;
 use replay_arguments::{Shared, Turn};
-use replay_steps::Activation;
+use replay_steps::{Activation, Attempt};
 use replay_terms::BuffersInUse;
 use report::ThreadStatus;
 use report_objects::standing_of;
@@ -194,8 +194,8 @@ fn buffers_in_use(threads: &[Thread<'_>]) -> BuffersInUse
 
 /// Takes the step of thread `k`, which is at this place and can step, its allocation refused or not; false where the
 /// step isn't possible.
-#[inline]
-fn take_turn<'a>(
+#[inline(never)]
+fn take_whole_turn<'a>(
     alloc: Global,
     functions: &Functions<'a>,
     state: &mut State<'a>,
@@ -222,6 +222,46 @@ fn take_turn<'a>(
     let thread = &mut state.threads[place];
     let took = take_step(functions, state.world, turn, &mut state.shared, thread)?;
     note(state, k, took)
+}
+
+/// Takes the step of thread `k`, which is at this place and can step, where it is a term's alone; false where it isn't possible, and
+/// none where there is more to do.
+#[inline]
+fn attempt_turn(state: &mut State<'_>, place: usize) -> Attempt
+    requires range { AreInRange state.old.threads.items }
+    requires there { place < length state.old.threads.items }
+    ensures step { (k : ℕ) → IsLiveAt state.old k place → AttemptsTurn state.old k result state.new }
+    ensures range { AreInRange state.new.threads.items }
+{
+    try_step(&state.shared, &mut state.threads[place])
+}
+
+/// The same, whatever the step does.
+#[inline]
+fn take_turn<'a>(
+    alloc: Global,
+    functions: &Functions<'a>,
+    state: &mut State<'a>,
+    k: u8,
+    place: usize,
+    refused: bool,
+) -> Result<bool, AllocError>
+    requires tree { IsTree (unit_tree functions.now) }
+    requires well_typed { IsWellTyped (unit_tree functions.now) }
+    requires range { AreInRange state.old.threads.items }
+    requires live { IsLiveAt state.old k place }
+    ensures step { IfOk result (λ possible.
+        TakesEntry (unit_tree functions.now) state.old (Step k refused) possible state.new) }
+    ensures range { IfOk result (λ _. AreInRange state.new.threads.items) }
+{
+    if refused {
+        return take_whole_turn(alloc, functions, state, k, place, true);
+    }
+    match attempt_turn(state, place) {
+        Attempt::Reduced => Ok(true),
+        Attempt::Stuck => Ok(false),
+        Attempt::Left => take_whole_turn(alloc, functions, state, k, place, false),
+    }
 }
 
 /// Clears the weak references to these objects; false where they may not be cleared.

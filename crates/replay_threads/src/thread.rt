@@ -14,7 +14,7 @@ ghost use Rattle.semantics.specs.Views.{name_of};
 ghost use Rattle.class_rules.specs.ClassIds.{number_of};
 ghost use Rattle.class_rules.specs.Grown.{IsGrown};
 ghost use Rattle.semantics.specs.World.{Invocation};
-ghost use Rattle.replay_threads.specs.Threads.{argument_content, AreCalling, BeginsNext, IsBegun, EndsStep, HasCalled, HasLeft, HasPushed, HasResumed, HasReturned, TakesTurn, ThreadInRange, ThreadWaits, WorkInRange, event_of, last_first};
+ghost use Rattle.replay_threads.specs.Threads.{argument_content, AreCalling, AttemptsStep, BeginsNext, IsBegun, EndsStep, HasCalled, HasLeft, HasPushed, HasResumed, HasReturned, TakesTurn, ThreadInRange, ThreadWaits, WorkInRange, event_of, last_first};
 ghost use Rattle.replay_steps.specs.Callers.{IsCalling};
 ghost use Rattle.replay_tasks.specs.Outcomes.{result_view};
 ghost use Rattle.replay_tasks.specs.Tasks.{StatementsInRange};
@@ -29,7 +29,9 @@ use classes::table::ClassTable;
 use functions::Functions;
 use replay_arguments::{Locals, Shared, Turn};
 use replay_objects::{Frames, Names, Store};
-use replay_steps::{Activation, Entering, advance, entering_of, resume, waits, work_of};
+use replay_steps::{
+    Activation, Attempt, Entering, advance, attempt_step, entering_of, resume, waits, work_of,
+};
 use replay_tasks::{CallResult, Outcome};
 use replay_terms::{Content, Value, Variables};
 use semantics::{CALL_LEVEL, Ending, Event, ObjectId, Trap};
@@ -490,6 +492,19 @@ pub(crate) fn is_waiting<'a>(
     match &thread.activation {
         None => false,
         Some(activation) => waits(classes, k, shared, thread.pending, activation),
+    }
+}
+
+/// Lets the term of a thread's task take a step, where that is all that the thread's next step does, and nothing is refused.
+#[inline]
+pub(crate) fn try_step<'a>(shared: &Shared<'a>, thread: &mut Thread<'a>) -> Attempt
+    requires { ThreadInRange thread.old }
+    ensures step { AttemptsStep (shared_view shared.now) thread.old result thread.new }
+    ensures range { ThreadInRange thread.new }
+{
+    match &mut thread.activation {
+        Some(activation) => attempt_step(shared, activation),
+        None => Attempt::Left,
     }
 }
 

@@ -1,6 +1,5 @@
 use Rattle.std.proofs.Common.{◌≡◌, ℕ, Bor, List, Option, IfSome, slice_get, sym, ap, ◌∙◌, subst, below_more, arith}
 use Rattle.std.specs.Str.{bytes_eq}
-use Rattle.std.specs.Map as maps
 use Rattle.indexmap.specs.IndexMap.{get_by, values}
 use Rattle.indexmap.proofs.MapLemmas.{value_index}
 use Rattle.replay_terms.proofs.ByNameLemmas.{IsOther, first_there}

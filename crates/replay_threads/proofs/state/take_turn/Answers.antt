@@ -1,53 +1,42 @@
-use Rattle.std.proofs.Common.{◌≡◌, Bool, length, ap, refl, sym, ◌∙◌, subst, arith}
-use Rattle.std.specs.Prelude.{Option, Result, Ok, Err, IfOk, is_some}
-use Rattle.std.specs.Global.{Vec}
-use Rattle.class_rules.specs.Class.{Classes}
-use Rattle.replay_arguments.specs.declared.shared.Shared.{Shared}
-use Rattle.replay_arguments.specs.Shares.{shared_view}
-use Rattle.semantics.specs.Thread.{BuffersInUse}
-use Rattle.semantics.specs.World.{World}
-use Rattle.replay_terms.specs.Views.{in_use_view}
-use Rattle.replay_threads.specs.declared.thread.Thread.{Thread}
-use Rattle.std.proofs.lemmas.Option.{slice_get_read}
-use Rattle.std.proofs.lemmas.Result.{IfOk-weaker}
-use Rattle.syntax.specs.Views.{unit_tree}
+use Rattle.std.proofs.Common.{◌≡◌, Bool, true, false, IfOk, sym, subst}
 use Rattle.semantics.specs.Journal as entry
-use Rattle.semantics.specs.declared.event.Event.{Event}
-use Rattle.replay_threads.specs.States.{AreInRange, TakesEntry, in_use_by}
-use Rattle.replay_threads.specs.Threads.{TakesStep}
-use Rattle.replay_threads.proofs.StateLemmas.{in_use_same, takes, range_at, range_set}
+use Rattle.syntax.specs.Views.{unit_tree}
+use Rattle.replay_steps.specs.declared.attempt.Attempt.{Attempt}
+use Rattle.replay_threads.specs.declared.state.State.{State}
+use Rattle.replay_threads.specs.States.{AttemptsTurn, IsLiveAt, TakesEntry}
 use Rattle.replay_threads.proofs.state.take_turn.Goals as goal
 
-pub take_step-requires-clause-range : goal.take_step-requires-clause-range
-take_step-requires-clause-range c =
-    let ts = c.args.state.now.threads.items in
-    let at = slice_get_read ts (length ts) c.args.place c.index_mut-thread.result.now refl c.requires.live.there c.index_mut-thread.ensures.value in
-    range_at ts c.args.place c.index_mut-thread.result.now c.requires.range at
+pub attempt_turn-requires-clause-there : goal.attempt_turn-requires-clause-there
+attempt_turn-requires-clause-there c = c.requires.live.there
 
--- where it was written down
-noted_so : {E : Type 0} (r : Result Bool E) (P : Bool → Type 0) (took : Option Event) (N : Type 0) → IfOk r (λ possible. possible ≡ is_some took) → IfOk r (λ _. N) → (N → P (is_some took)) → IfOk r P
-noted_so (Ok possible) P took N is noted goes = subst P (sym is) (goes noted)
-noted_so (Err e) P took N is noted goes = tt
-
-pub returns-clause-step : goal.returns-clause-step
-returns-clause-step c =
-    let unit = unit_tree c.args.functions.now in
+pub returns-in-Reduced-clause-step : goal.returns-in-Reduced-clause-step
+returns-in-Reduced-clause-step c =
     let m = c.args.state.now in
-    let t = c.index_mut-thread.result.now in
-    let after = c.take_step.new.thread in
-    let new = c.note.new.state in
-    let at = slice_get_read m.threads.items (length m.threads.items) c.args.place t refl c.requires.live.there c.index_mut-thread.ensures.value in
-    noted_so c.note.result (λ possible. TakesEntry unit m (entry.Step c.args.k c.args.refused) possible new) c.in_ok-took.took _ c.note.ensures.possible c.note.ensures.noted
-    (λ noted w s h.
-    let seen = subst (λ (s' : Shared). TakesStep unit c.classes.result.now (in_use_view c.buffers_in_use.result) c.args.k c.args.refused (shared_view m.shared) t c.in_ok-took.took (shared_view s') after) (sym noted.shared) c.in_ok-took.ensures.step in
-    let known = subst (λ (T : Classes). TakesStep unit T (in_use_view c.buffers_in_use.result) c.args.k c.args.refused (shared_view m.shared) t c.in_ok-took.took (shared_view new.shared) after) (c.classes.ensures.classes ∙ ap (λ (v : World). v.classes) (sym h.world)) seen in
-    let step = subst (λ (u : BuffersInUse). TakesStep unit w.classes u c.args.k c.args.refused (shared_view m.shared) t c.in_ok-took.took (shared_view new.shared) after) (c.buffers_in_use.ensures ∙ ap in_use_by c.deref.ensures.value ∙ in_use_same unit w m s h) known in
-    takes unit w m s h c.requires.range c.args.k c.args.refused c.args.place t after c.in_ok-took.took new
-    (omega arith) at (c.requires.live.live t at) c.requires.live.runs (sym (c.requires.live.free unit w s h c.requires.range)) step
-    noted.world (ap (λ (v : Vec Thread). v.items) noted.threads) noted.printed noted.stop)
+    let new = c.attempt_turn.new.state in
+    let unit = unit_tree c.args.functions.now in
+    subst (λ (b : Bool). TakesEntry unit m (entry.Step c.args.k b) true new) (sym c.if-refused.false)
+    (subst (λ (r : Attempt). AttemptsTurn m c.args.k r new) c.in-Reduced.is (c.attempt_turn.ensures.step c.args.k c.requires.live) unit)
 
-pub returns-clause-range : goal.returns-clause-range
-returns-clause-range c =
-    IfOk-weaker c.note.result _ (λ _. AreInRange c.note.new.state.threads.items) (λ possible noted.
-    subst (λ (v : Vec Thread). AreInRange v.items) (sym noted.threads)
-    (range_set c.args.state.now.threads.items c.args.place c.take_step.new.thread c.requires.range c.in_ok-took.ensures.range)) c.note.ensures.noted
+pub returns-in-Stuck-clause-step : goal.returns-in-Stuck-clause-step
+returns-in-Stuck-clause-step c =
+    let m = c.args.state.now in
+    let new = c.attempt_turn.new.state in
+    let unit = unit_tree c.args.functions.now in
+    subst (λ (b : Bool). TakesEntry unit m (entry.Step c.args.k b) false new) (sym c.if-refused.false)
+    (subst (λ (r : Attempt). AttemptsTurn m c.args.k r new) c.in-Stuck.is (c.attempt_turn.ensures.step c.args.k c.requires.live) unit)
+
+pub take_whole_turn-requires-in-Left-clause-live : goal.take_whole_turn-requires-in-Left-clause-live
+take_whole_turn-requires-in-Left-clause-live c =
+    let m = c.args.state.now in
+    let new = c.attempt_turn.new.state in
+    let same : new ≡ m = subst (λ (r : Attempt). AttemptsTurn m c.args.k r new) c.in-Left.is (c.attempt_turn.ensures.step c.args.k c.requires.live) in
+    subst (λ (x : State). IsLiveAt x c.args.k c.args.place) (sym same) c.requires.live
+
+pub returns-in-Left-clause-step : goal.returns-in-Left-clause-step
+returns-in-Left-clause-step c =
+    let m = c.args.state.now in
+    let new = c.attempt_turn.new.state in
+    let unit = unit_tree c.args.functions.now in
+    let same : new ≡ m = subst (λ (r : Attempt). AttemptsTurn m c.args.k r new) c.in-Left.is (c.attempt_turn.ensures.step c.args.k c.requires.live) in
+    subst (λ (b : Bool). IfOk c.take_whole_turn-in-Left.result (λ possible. TakesEntry unit m (entry.Step c.args.k b) possible c.take_whole_turn-in-Left.new.state)) (sym c.if-refused.false)
+    (subst (λ (x : State). IfOk c.take_whole_turn-in-Left.result (λ possible. TakesEntry unit x (entry.Step c.args.k false) possible c.take_whole_turn-in-Left.new.state)) same c.take_whole_turn-in-Left.ensures.step)
