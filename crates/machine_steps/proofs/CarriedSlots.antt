@@ -10,7 +10,7 @@ use Rattle.base.specs.Element.{ElementType}
 use Rattle.class_rules.specs.Class.{Classes}
 use Rattle.heap.specs.Heap.{Space, values_at}
 use Rattle.jni.specs.Access.{Access, ElementsCopy, ArrayView, CharsCopy, CharsView}
-use Rattle.jni.specs.JniFunction.{JniFunction, parameters_for, DeleteLocalRef, GetBuffer, ReleaseBuffer, prototype}
+use Rattle.jni.specs.JniFunction.{JniFunction, parameters_for, DeleteLocalRef, PopLocalFrame, GetBuffer, ReleaseBuffer, prototype}
 use Rattle.jni.specs.Prototype.{ParameterKind, BufferVariable, IsCopy, Mode, ResultKind, GivesNothing, owner as owner_kind}
 use Rattle.syntax.specs.Views.{unit_tree}
 use Rattle.semantics.specs.Arguments.{Actual, ReleaseMode, CopyBackAndFree, CopyBack, FreeUncopied, mode_given, object_given, variable_given, variable_in_actual, address_given, address_in_actual}
