@@ -1,6 +1,6 @@
 //! Texts that are words, separated by spaces and line feeds.
 
-ghost use Rattle.std.specs.Prelude.{◌≡◌, ℕ, [], ◌+◌, ◌-◌, ◌^◌, ◌<◌, ◌≤◌, List, Option, Bool, IfOk, OnOk, IfSome, is_some, min, sum_by};
+ghost use Rattle.std.specs.Prelude.{◌≡◌, ℕ, [], ◌+◌, ◌++◌, ◌-◌, ◌^◌, ◌<◌, ◌≤◌, List, Option, Bool, IfOk, OnOk, IfSome, is_some, min, sum_by};
 ghost use Rattle.std.specs.Option.{option_map};
 ghost use Rattle.std.specs.List.{list_all};
 ghost use Rattle.base.specs.Limits.{most_entries};
@@ -12,6 +12,7 @@ use crate::fault::{ReadError, Rule, TextFault};
 use crate::split::Split;
 use base::limits::MOST_ENTRIES;
 use std::alloc::{AllocError, Global};
+use std::mem;
 
 /// The most words of a text, each as often as it is repeated; and the most of those that are counted apart.
 pub(crate) const MOST_WORDS: u64 = MOST_ENTRIES as u64;
@@ -122,6 +123,19 @@ fn read_line<W: Word>(
     Ok(words)
 }
 
+/// Moves words to the end of others. Where there are none yet, these take their place as they are.
+fn gather<W: Word>(words: &mut Vec<W>, more: &mut Vec<W>) -> Result<(), AllocError>
+    ensures items { OnOk result (words.new.items ≡ words.old.items ++ more.old.items) }
+    ensures none { OnOk result (more.new.items ≡ []) }
+{
+    if words.is_empty() {
+        mem::swap(words, more);
+        return Ok(());
+    }
+    words.append(more)?;
+    Ok(())
+}
+
 /// All words of a text. The words of each line are gathered in one list, whose memory serves for all lines.
 pub fn read_words<W: Word>(alloc: Global, text: &[u8], threads: u8) -> Result<Vec<W>, ReadError>
     ensures { Gives (λ v. v.items) result (text_words W.spelled (W.known threads) W.times W.apart text.now) }
@@ -133,7 +147,7 @@ pub fn read_words<W: Word>(alloc: Global, text: &[u8], threads: u8) -> Result<Ve
     for line in Split::new(text, b'\n') {
         number += 1;
         let mut more = read_line::<W>(alloc, empty, line, number, threads, &mut so_far)?;
-        words.append(&mut more)?;
+        gather(&mut words, &mut more)?;
         empty = more;
     }
     Ok(words)

@@ -21,9 +21,9 @@ loop-line-preserved g c =
     let w = g.W.Word in
     let first = c.in_ok-more.more.items in
     record {
-      words = rw (c.in_ok-append.ensures.items, c.in_ok-more.ensures.counted, c.in_ok-more.ensures.counted_apart) (goes_on w.spelled (w.known c.args.threads) w.times w.apart (c.loop-line.number + 1) c.loop-line.so_far.words c.loop-line.so_far.apart c.in-Some.line.now (parts_left c.loop-line.line-iterator) (parts_left c.next.new.self) c.loop-line.words.items
+      words = rw (c.in_ok-gather.ensures.items, c.in_ok-more.ensures.counted, c.in_ok-more.ensures.counted_apart) (goes_on w.spelled (w.known c.args.threads) w.times w.apart (c.loop-line.number + 1) c.loop-line.so_far.words c.loop-line.so_far.apart c.in-Some.line.now (parts_left c.loop-line.line-iterator) (parts_left c.next.new.self) c.loop-line.words.items
           (text_words w.spelled (w.known c.args.threads) w.times w.apart c.args.text.now) c.in-Some.ensures.steps c.loop-line.invariant.words first c.in_ok-more.ensures.words);
-      empty = c.in_ok-append.ensures.other_items;
+      empty = c.in_ok-gather.ensures.none;
       few = c.in_ok-more.ensures.within;
       few_apart = c.in_ok-more.ensures.within_apart;
       number = omega (arith, c.loop-line.invariant.number, ap length c.in-Some.ensures.steps);
