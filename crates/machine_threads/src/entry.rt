@@ -1,6 +1,6 @@
 //! What a call is given, and its slots at its entry.
 
-ghost use Rattle.std.specs.Prelude.{◌≡◌, ℕ, true, ◌-◌, ◌<◌, ◌≤◌, [], length, map, filter_map, slice_get, IfOk, OnOk, OnErr, IsTrue, ◌+◌, vec_capacity};
+ghost use Rattle.std.specs.Prelude.{◌≡◌, ℕ, true, ◌-◌, ◌<◌, ◌≤◌, [], length, map, filter_map, slice_get, IfOk, OnOk, OnErr, IsTrue, ◌+◌, None, replicate, vec_capacity};
 ghost use Rattle.std.specs.List.{list_all};
 ghost use Rattle.base.specs.Limits.{most_names, most_references};
 ghost use Rattle.world_values.specs.Views.{object_value_view};
@@ -18,6 +18,7 @@ use code::stack::Stack;
 use heap::{Addr, Value};
 use machine_scenes::activation::{Activation, Slots};
 use machine_scenes::buffer::Buffer;
+use machine_scenes::handle::Handle;
 use semantics::ObjectId;
 use std::alloc::{AllocError, Global};
 use tables::{Local, Locals, TableFault};
@@ -133,18 +134,8 @@ pub fn begin_again(ended: &mut Activation, code: &Code, loaded: &[Addr], next: &
         &next.arguments,
         slots.numbers as usize,
     );
-    ended.slots.fields.clear();
-    ended
-        .slots
-        .fields
-        .resize(slots.field_ids as usize, None)
-        .unwrap();
-    ended.slots.buffers.clear();
-    ended
-        .slots
-        .buffers
-        .resize(slots.buffers as usize, Buffer::Null)
-        .unwrap();
+    empty_fields(&mut ended.slots.fields, slots.field_ids as usize);
+    empty_buffers(&mut ended.slots.buffers, slots.buffers as usize);
     let given = 1 + count_references(&next.arguments);
     ended.locals.restart(given + MORE_LOCALS);
     fill_references(
@@ -157,7 +148,34 @@ pub fn begin_again(ended: &mut Activation, code: &Code, loaded: &[Addr], next: &
     );
 }
 
+/// `count` slots of field IDs and method IDs, all NULL. Most functions have none.
+#[inline(always)]
+fn empty_fields(slots: &mut Vec<Option<Handle>>, count: usize)
+    requires room { count ≤ vec_capacity slots.old }
+    ensures { slots.new.items ≡ replicate count None }
+{
+    slots.clear();
+    if count == 0 {
+        return;
+    }
+    slots.resize(count, None).unwrap();
+}
+
+/// `count` slots of buffers, all NULL. Most functions have none.
+#[inline(always)]
+fn empty_buffers(slots: &mut Vec<Buffer>, count: usize)
+    requires room { count ≤ vec_capacity slots.old }
+    ensures { slots.new.items ≡ replicate count Buffer.Null }
+{
+    slots.clear();
+    if count == 0 {
+        return;
+    }
+    slots.resize(count, Buffer::Null).unwrap();
+}
+
 /// `count` number slots, of which the first hold the numbers that the call is given.
+#[inline(always)]
 fn fill_numbers(slots: &mut Vec<u32>, arguments: &[Value], count: usize)
     requires given { length (filter_map given_word arguments.now) ≤ count }
     requires room { count ≤ vec_capacity slots.old }
@@ -175,6 +193,7 @@ fn fill_numbers(slots: &mut Vec<u32>, arguments: &[Value], count: usize)
 }
 
 /// How many of the arguments are references but NULL.
+#[inline(always)]
 fn count_references(arguments: &[Value]) -> u32
     requires { length arguments.now ≤ most_names }
     ensures count { result ≡ length (references_in (filter_map given_address arguments.now)) }
@@ -193,6 +212,7 @@ fn count_references(arguments: &[Value]) -> u32
 
 /// Makes references to the class and to what the call is given but NULL, in the first frame, which has none yet. The first of
 /// `count` slots have their keys, in order.
+#[inline(always)]
 fn fill_references(
     locals: &mut Locals,
     keys: &mut Vec<Option<Local>>,

@@ -1,12 +1,9 @@
-use Rattle.std.proofs.Common.{◌≡◌, ◌<◌, ◌+◌, ◌-◌, ◌++◌, List, None, length, filter_map, take, replicate, refl, sym, ap, ◌∙◌, arith}
-use Rattle.std.specs.Prelude.{vec_len}
-use Rattle.std.proofs.lemmas.Grind.{common_steps}
+use Rattle.std.proofs.Common.{◌≡◌, ◌<◌, ◌+◌, List, None, length, filter_map, replicate, refl, sym, ap, ◌∙◌, arith}
 use Rattle.code.specs.declared.slots.SlotCounts.{SlotCounts}
 use Rattle.heap.specs.declared.value.Value.{Value}
 use Rattle.machine_scenes.specs.declared.buffer.Buffer.TheVariants as buffer
 use Rattle.tables.specs.References.{references_in}
 use Rattle.machine_threads.specs.Entry.{first_frame, given_address}
-use Rattle.machine_threads.proofs.EntryTables.{resized}
 use Rattle.machine_threads.proofs.entry.begin_again.Goals as goal
 
 pub fill_references-requires-clause-given : goal.fill_references-requires-clause-given
@@ -23,19 +20,15 @@ fill_references-requires-clause-frame c =
     c.restart.ensures ∙ ap first_frame capacity
 
 pub returns : goal.returns
-returns c =
-    let counts = c.slots-slots.result in
-    let fields : c.resize.new.self.items ≡ take counts.field_ids c.clear-2.new.self.items ++ replicate (counts.field_ids - vec_len c.clear-2.new.self) None = grind (arith, common_steps) in
-    let buffers : c.resize-2.new.self.items ≡ take counts.buffers c.clear-3.new.self.items ++ replicate (counts.buffers - vec_len c.clear-3.new.self) buffer.Null = grind (arith, common_steps) in
-    record {
-      function = refl;
-      place = refl;
-      stack = c.clear.ensures;
-      numbers = rw (sym c.slots-slots.ensures.counts, sym c.deref.ensures.value) c.fill_numbers.ensures;
-      addresses = c.fill_references.ensures.addresses;
-      given = rw (sym c.slots-slots.ensures.counts, sym c.deref-3.ensures.value) c.fill_references.ensures.given;
-      locals = c.fill_references.ensures.made;
-      references = c.fill_references.ensures.held;
-      fields = fields ∙ resized None c.clear-2.new.self.items c.args.code.now.slots.field_ids counts.field_ids (vec_len c.clear-2.new.self) c.clear-2.ensures.items c.clear-2.ensures.len (ap (λ (s : SlotCounts). s.field_ids) c.slots-slots.ensures.counts);
-      buffers = buffers ∙ resized buffer.Null c.clear-3.new.self.items c.args.code.now.slots.buffers counts.buffers (vec_len c.clear-3.new.self) c.clear-3.ensures.items c.clear-3.ensures.len (ap (λ (s : SlotCounts). s.buffers) c.slots-slots.ensures.counts);
-    }
+returns c = record {
+  function = refl;
+  place = refl;
+  stack = c.clear.ensures;
+  numbers = rw (sym c.slots-slots.ensures.counts, sym c.deref.ensures.value) c.fill_numbers.ensures;
+  addresses = c.fill_references.ensures.addresses;
+  given = rw (sym c.slots-slots.ensures.counts, sym c.deref-3.ensures.value) c.fill_references.ensures.given;
+  locals = c.fill_references.ensures.made;
+  references = c.fill_references.ensures.held;
+  fields = c.empty_fields.ensures ∙ ap (λ (s : SlotCounts). replicate s.field_ids None) c.slots-slots.ensures.counts;
+  buffers = c.empty_buffers.ensures ∙ ap (λ (s : SlotCounts). replicate s.buffers buffer.Null) c.slots-slots.ensures.counts;
+}
