@@ -58,6 +58,7 @@ pub(crate) fn take_plainly(
             ready: false,
         },
         Some(activation) => {
+            let activation = activation.get_mut();
             let code = program.code_at(activation.function);
             take_in_code(code, store, activation, stop, journal, k, most)
         }

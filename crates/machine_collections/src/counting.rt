@@ -3,8 +3,8 @@
 ghost use Rattle.std.specs.Prelude.{◌≡◌, ◌+◌, IfOk, flat_map, length};
 ghost use Rattle.machine_collections.specs.Roots.{argument_places, call_places, root_places, slots_of, thread_places};
 
-use machine_scenes::activation::Activation;
 use machine_scenes::store::Store;
+use machine_threads::boxed_activation::BoxedActivation;
 use machine_threads::thread::{Entering, Thread};
 use std::alloc::AllocError;
 
@@ -38,12 +38,12 @@ fn count_thread(thread: &Thread) -> Result<usize, AllocError>
 }
 
 /// The number of the local references of the calls from which others were made.
-fn count_callers(callers: &[Activation]) -> Result<usize, AllocError>
+fn count_callers(callers: &[BoxedActivation]) -> Result<usize, AllocError>
     ensures { IfOk result (λ n. n ≡ length (flat_map call_places callers.now)) }
 {
     let mut count = 0;
     for caller in callers {
-        count = plus(count, caller.locals.len())?;
+        count = plus(count, caller.get().locals.len())?;
     }
     Ok(count)
 }
@@ -59,12 +59,12 @@ fn count_entering(entering: &Option<Entering>) -> usize
 }
 
 /// The number of the local references of a call in progress.
-fn count_call(call: &Option<Activation>) -> usize
+fn count_call(call: &Option<BoxedActivation>) -> usize
     ensures { result ≡ length (slots_of call.now) }
 {
     match call {
         None => 0,
-        Some(activation) => activation.locals.len(),
+        Some(boxed) => boxed.get().locals.len(),
     }
 }
 

@@ -19,9 +19,9 @@ ghost use Rattle.machine_collections.specs.Roots.{AreAddresses, CallIsStacked, C
 use crate::counting::count_roots;
 use compact::Roots;
 use heap::{Addr, Heap, Value};
-use machine_scenes::activation::Activation;
 use machine_scenes::operands::object_there;
 use machine_scenes::store::Store;
+use machine_threads::boxed_activation::BoxedActivation;
 use machine_threads::thread::{Entering, Thread};
 use monitors::Monitors;
 use semantics::ObjectId;
@@ -203,7 +203,7 @@ fn push_thread(places: &mut Vec<Option<Addr>>, thread: &Thread)
 }
 
 /// Adds the local references of the calls from which others were made.
-fn push_callers(places: &mut Vec<Option<Addr>>, callers: &[Activation])
+fn push_callers(places: &mut Vec<Option<Addr>>, callers: &[BoxedActivation])
     requires room { vec_len places.old + length (flat_map call_places callers.now) ≤ vec_capacity places.old }
     ensures places { places.new.items ≡ places.old.items ++ flat_map call_places callers.now }
     ensures len { vec_len places.new ≡ vec_len places.old + length (flat_map call_places callers.now) }
@@ -211,7 +211,7 @@ fn push_callers(places: &mut Vec<Option<Addr>>, callers: &[Activation])
     ensures stacked { CallersAreStacked callers.now }
 {
     for caller in callers {
-        push_locals(places, &caller.locals);
+        push_locals(places, &caller.get().locals);
     }
 }
 
@@ -251,15 +251,15 @@ fn address_of(argument: Value) -> Option<Addr>
 }
 
 /// Adds the local references of a call in progress.
-fn push_call(places: &mut Vec<Option<Addr>>, call: &Option<Activation>)
+fn push_call(places: &mut Vec<Option<Addr>>, call: &Option<BoxedActivation>)
     requires room { vec_len places.old + length (slots_of call.now) ≤ vec_capacity places.old }
     ensures places { places.new.items ≡ places.old.items ++ slots_of call.now }
     ensures len { vec_len places.new ≡ vec_len places.old + length (slots_of call.now) }
     ensures capacity { vec_capacity places.new ≡ vec_capacity places.old }
     ensures stacked { CallIsStacked call.now }
 {
-    if let Some(activation) = call {
-        push_locals(places, &activation.locals);
+    if let Some(boxed) = call {
+        push_locals(places, &boxed.get().locals);
     }
 }
 
@@ -348,7 +348,7 @@ fn put_thread(thread: &mut Thread, roots: &RootPlaces, from: usize) -> usize
 }
 
 /// Puts back the local references of the calls from which others were made, from a place on, and tells the next one.
-fn put_callers(callers: &mut [Activation], roots: &RootPlaces, from: usize) -> usize
+fn put_callers(callers: &mut [BoxedActivation], roots: &RootPlaces, from: usize) -> usize
     requires { (to : ℕ → ℕ) × AreMovedAt to (flat_map call_places callers.old) roots.now.places.items from }
     ensures moved { (to : ℕ → ℕ) → AreMovedAt to (flat_map call_places callers.old) roots.now.places.items from
         → callers.new ≡ map (moved_call to) callers.old }
@@ -362,13 +362,14 @@ fn put_callers(callers: &mut [Activation], roots: &RootPlaces, from: usize) -> u
 }
 
 /// Puts back the local references of a call, from a place on, and tells the next one.
-fn put_caller(call: &mut Activation, roots: &RootPlaces, from: usize) -> usize
+fn put_caller(call: &mut BoxedActivation, roots: &RootPlaces, from: usize) -> usize
     requires { (to : ℕ → ℕ) × AreMovedAt to (call_places call.old) roots.now.places.items from }
     ensures moved { (to : ℕ → ℕ) → AreMovedAt to (call_places call.old) roots.now.places.items from
         → call.new ≡ moved_call to call.old }
     ensures next { result ≡ from + length (call_places call.old) }
 {
-    put_locals(&mut call.locals, roots, from)
+    let activation = call.get_mut();
+    put_locals(&mut activation.locals, roots, from)
 }
 
 /// Puts back what a call is given that isn't entered yet, from a place on, and tells the next one.
@@ -400,7 +401,7 @@ fn put_arguments(arguments: &mut [Value], roots: &RootPlaces, from: usize) -> us
 }
 
 /// Puts back the local references of a call in progress, from a place on, and tells the next one.
-fn put_call(call: &mut Option<Activation>, roots: &RootPlaces, from: usize) -> usize
+fn put_call(call: &mut Option<BoxedActivation>, roots: &RootPlaces, from: usize) -> usize
     requires { (to : ℕ → ℕ) × AreMovedAt to (slots_of call.old) roots.now.places.items from }
     ensures moved { (to : ℕ → ℕ) → AreMovedAt to (slots_of call.old) roots.now.places.items from
         → call.new ≡ option_map (moved_call to) call.old }
@@ -408,7 +409,10 @@ fn put_call(call: &mut Option<Activation>, roots: &RootPlaces, from: usize) -> u
 {
     match call {
         None => from,
-        Some(activation) => put_locals(&mut activation.locals, roots, from),
+        Some(boxed) => {
+            let activation = boxed.get_mut();
+            put_locals(&mut activation.locals, roots, from)
+        }
     }
 }
 

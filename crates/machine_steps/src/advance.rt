@@ -81,7 +81,7 @@ pub fn advance(
             world,
             store,
             &mut thread.pending,
-            activation,
+            activation.get_mut(),
             number,
             owner,
             may_refuse,
@@ -169,6 +169,7 @@ fn resume(program: &Program<'_>, store: &mut Store, thread: &mut Thread, value: 
     thread.call = thread.callers.pop();
     match &mut thread.call {
         Some(caller) => {
+            let caller = caller.get_mut();
             // Here the proof takes up what is known of a table.
             let _ = caller.locals.frames();
             let code = program.code_at(caller.function);

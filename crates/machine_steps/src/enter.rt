@@ -2,6 +2,7 @@
 
 ghost use Rattle.std.specs.Prelude.{◌≡◌, ◌<◌, ◌∷◌, true, false, List, length, map, None, Some, IfOk, OnOk, OnErr, IsTrue};
 ghost use Rattle.std.specs.List.{list_all};
+ghost use Rattle.machine_scenes.specs.declared.activation.Activation.{Activation};
 ghost use Rattle.machine_steps.specs.Pushed.{Enters, IsNext};
 ghost use Rattle.machine_threads.specs.Entry.{Begins, IsReady};
 ghost use Rattle.world_values.specs.CallArguments.{is_argument};
@@ -9,7 +10,7 @@ ghost use Rattle.world_values.specs.Views.{object_value_view};
 
 use code_meaning::Program;
 use heap::{Addr, Value};
-use machine_scenes::activation::Activation;
+use machine_threads::boxed_activation::BoxedActivation;
 use machine_threads::entry::{begin, begin_again, entering_of, serves};
 use machine_threads::thread::{Entering, PendingCall, Thread};
 use std::alloc::{AllocError, Global};
@@ -79,7 +80,7 @@ fn keep_arguments(entering: &mut Option<Entering>, spare: &mut Vec<Value>)
 fn begin_in_spare(
     program: &Program<'_>,
     loaded: &[Addr],
-    spare: &mut Option<Activation>,
+    spare: &mut Option<BoxedActivation>,
     entering: &Entering,
 ) -> bool
     requires { IsReady program.now (length loaded.now) entering.now }
@@ -90,6 +91,7 @@ fn begin_in_spare(
     let code = program.code_at(entering.function);
     match spare {
         Some(ended) => {
+            let ended = ended.get_mut();
             if !serves(ended, code) {
                 return false;
             }
@@ -106,10 +108,12 @@ fn begin_call(
     program: &Program<'_>,
     loaded: &[Addr],
     entering: &Entering,
-) -> Result<Activation, AllocError>
+) -> Result<BoxedActivation, AllocError>
     requires { IsReady program.now (length loaded.now) entering.now }
     ensures { IfOk result (λ activation. Begins program.now loaded.now entering.now activation) }
 {
     let code = program.code_at(entering.function);
-    begin(alloc, code, loaded, entering)
+    let activation = begin(alloc, code, loaded, entering)?;
+    let boxed = BoxedActivation::of(alloc, activation)?;
+    Ok(boxed)
 }

@@ -13,6 +13,7 @@ use machine_scenes::activation::Activation;
 use machine_scenes::operands::{method_in, operand_of};
 use machine_scenes::references::References;
 use machine_scenes::store::Store;
+use machine_threads::boxed_activation::BoxedActivation;
 use machine_threads::thread::{Entering, Thread};
 use std::alloc::{AllocError, Global};
 use std::mem;
@@ -41,7 +42,7 @@ pub(crate) fn push(
             program,
             world,
             store,
-            activation,
+            activation.get(),
             &mut thread.spare_arguments,
             &mut thread.callers,
         )?,
@@ -65,7 +66,7 @@ fn method_called(
     store: &Store,
     activation: &Activation,
     spare: &mut Vec<Value>,
-    callers: &mut Vec<Activation>,
+    callers: &mut Vec<BoxedActivation>,
 ) -> Result<Entering, AllocError>
     requires lowered { IsLowered program.now }
     requires calling { MakesCall program.now world.now store.now activation.now }
@@ -117,7 +118,7 @@ fn memory_for(
     alloc: Global,
     count: usize,
     spare: &mut Vec<Value>,
-    callers: &mut Vec<Activation>,
+    callers: &mut Vec<BoxedActivation>,
 ) -> Result<Vec<Value>, AllocError>
     requires few { length callers.old.items < 63 }
     ensures arguments { IfOk result (λ arguments. count ≤ vec_capacity arguments) }
@@ -136,7 +137,7 @@ fn memory_for(
 }
 
 /// Room for one caller more. Where there is none, the callers move to where there is; an error leaves them where they are.
-fn make_room(alloc: Global, callers: &mut Vec<Activation>) -> Result<(), AllocError>
+fn make_room(alloc: Global, callers: &mut Vec<BoxedActivation>) -> Result<(), AllocError>
     requires few { length callers.old.items < 63 }
     ensures items { callers.new.items ≡ callers.old.items }
     ensures room { OnOk result (vec_len callers.new < vec_capacity callers.new) }

@@ -63,6 +63,7 @@ pub fn waits(
     match &thread.call {
         None => false,
         Some(activation) => {
+            let activation = activation.get();
             let code = program.code_at(activation.function);
             let instr = code.instr_at(activation.place);
             match instr {

@@ -1,3 +1,4 @@
+pub mod Boxed
 pub mod SlotsHold
 pub mod InProgress
 pub mod Callers

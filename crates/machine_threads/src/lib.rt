@@ -2,6 +2,7 @@
 //! call.
 #![tactic(auto)]
 
+pub mod boxed_activation;
 pub mod entry;
 pub mod fault;
 pub mod load;

@@ -1,8 +1,8 @@
 //! Threads, which call functions one after another.
 
+use crate::boxed_activation::BoxedActivation;
 use class_rules::ClassId;
 use heap::{Addr, Value};
-use machine_scenes::activation::Activation;
 use semantics::Ending;
 use std::collections::VecDeque;
 use world_values::ObjectValue;
@@ -13,11 +13,11 @@ pub struct Thread {
     pub calls: VecDeque<PendingCall>,
     /// The call that the last caller has made, before its entry.
     pub entering: Option<Entering>,
-    pub call: Option<Activation>,
+    pub call: Option<BoxedActivation>,
     /// The calls from which the one in progress, or the one before its entry, was made, the last one last. They are 63 at most.
-    pub callers: Vec<Activation>,
+    pub callers: Vec<BoxedActivation>,
     /// A call that has ended, if one is kept.
-    pub spare: Option<Activation>,
+    pub spare: Option<BoxedActivation>,
     /// What a call was given.
     pub spare_arguments: Vec<Value>,
     /// The pending exception.

@@ -1,8 +1,13 @@
-use Rattle.std.proofs.Common.{◌≡◌, true, false, refl, arith}
+use Rattle.std.proofs.Common.{◌≡◌, true, false, Option, Some, refl, sym, ap, ◌∙◌, arith}
+use Rattle.machine_scenes.specs.declared.activation.Activation.{Activation}
 use Rattle.machine_threads.specs.Callers.{beside_callers}
 use Rattle.machine_steps.proofs.Waits.{function_there}
 use Rattle.machine.proofs.FreeSteps.{none_taken, stands_now}
 use Rattle.machine.proofs.plain_steps.take_plainly.Goals as goal
+
+-- what is lent of a call is that call
+running : {o : Option Activation} {a b : Activation} → o ≡ Some a → b ≡ a → o ≡ Some b
+running is same = is ∙ ap (λ (x : Activation). Some x) (sym same)
 
 pub code_at-code-requires : goal.code_at-code-requires
 code_at-code-requires c =
@@ -12,7 +17,7 @@ code_at-code-requires c =
     let journal = c.args.journal.now.entries in
     let t = c.args.thread.now in
     let m = stands_now p a.0 store a.1 a.2 a.3 journal c.args.k t a.4 0 t journal (none_taken p a.0 store a.1 a.2 a.3 journal c.args.k t a.4) in
-    function_there p a.0 store (beside_callers m.0 m.3) c.args.k m.1 m.2 t m.3 c.in-Some.activation m.4.0 m.4.1 c.in-Some.is m.4.2
+    function_there p a.0 store (beside_callers m.0 m.3) c.args.k m.1 m.2 t m.3 c.get_mut-activation.result.now m.4.0 m.4.1 (running c.in-Some.is c.get_mut-activation.ensures.value) m.4.2
 
 pub take_in_code-requires-clause-stands : goal.take_in_code-requires-clause-stands
 take_in_code-requires-clause-stands c =
@@ -25,7 +30,7 @@ take_in_code-requires-clause-stands c =
       c.args.thread.now,
       record {
         goes_on = a.4;
-        in_progress = c.in-Some.is;
+        in_progress = (running c.in-Some.is c.get_mut-activation.ensures.value);
         of_function = c.code_at-code.ensures.code;
       },
     )
@@ -42,7 +47,7 @@ returns-in-Some c = record {
   most = c.take_in_code.ensures.most;
   went = λ w threads index printed h. c.take_in_code.ensures.went c.args.program.now w threads index printed c.args.thread.now (record {
     goes_on = h;
-    in_progress = c.in-Some.is;
+    in_progress = (running c.in-Some.is c.get_mut-activation.ensures.value);
     of_function = c.code_at-code.ensures.code;
   });
   ready = λ is. let h = c.take_in_code.ensures.ready is in (h.0, h.1, refl, h.2);

@@ -1,4 +1,4 @@
-use Rattle.std.proofs.Common.{ℕ, ◌+◌, ◌≤◌, ◌++◌, List, Option, length, drop, refl, sym, ap, ◌∙◌, arith, append_assoc, append-nil}
+use Rattle.std.proofs.Common.{ℕ, ◌+◌, ◌≤◌, ◌++◌, List, Option, length, drop, refl, sym, ap, ◌∙◌, subst, arith, append_assoc, append-nil}
 use Rattle.std.specs.Prelude.{flat_map}
 use Rattle.std.proofs.lemmas.List.Concat.{flat_map-cons}
 use Rattle.std.proofs.lemmas.Option.{slice_get_read}
@@ -17,7 +17,8 @@ push_locals-requires c =
     let i = c.loop-caller.caller-index in
     let x = c.caller-item.result in
     let next = counted_next call_places xs i x (slice_get_read xs (length xs) i x refl c.loop-caller-test.true c.caller-item.is) in
-    omega (arith, next, c.loop-caller.invariant.len, c.loop-caller.invariant.capacity, c.requires)
+    let same = ap (λ (call : Activation). length (call_places call)) c.get.ensures in
+    omega (arith, next, same, c.loop-caller.invariant.len, c.loop-caller.invariant.capacity, c.requires)
 
 pub loop-caller-preserved : goal.loop-caller-preserved
 loop-caller-preserved c =
@@ -29,11 +30,11 @@ loop-caller-preserved c =
     let next = counted_next call_places xs i x at in
     let further = flat_map call_places (drop (i + 1) xs) in
     record {
-      places = ap (λ (l : List (Option ℕ)). l ++ further) c.push_locals.ensures.places ∙ append_assoc places (call_places x) further
+      places = ap (λ (l : List (Option ℕ)). l ++ further) (c.push_locals.ensures.places ∙ ap (λ (call : Activation). places ++ call_places call) c.get.ensures) ∙ append_assoc places (call_places x) further
           ∙ ap (λ (l : List (Option ℕ)). places ++ l) (sym (ap (flat_map call_places) (drop_next xs i x at) ∙ flat_map-cons call_places x (drop (i + 1) xs))) ∙ c.loop-caller.invariant.places;
-      len = omega (arith, next, c.loop-caller.invariant.len, c.push_locals.ensures.len);
+      len = omega (arith, next, ap (λ (call : Activation). length (call_places call)) c.get.ensures, c.loop-caller.invariant.len, c.push_locals.ensures.len);
       capacity = c.push_locals.ensures.capacity ∙ c.loop-caller.invariant.capacity;
-      stacked = holds_more (λ (call : Activation). AreStacked call.locals) xs i x at c.push_locals.ensures.stacked c.loop-caller.invariant.stacked;
+      stacked = holds_more (λ (call : Activation). AreStacked call.locals) xs i x at (subst (λ (call : Activation). AreStacked call.locals) c.get.ensures c.push_locals.ensures.stacked) c.loop-caller.invariant.stacked;
     }
 
 pub returns-clause-places : goal.returns-clause-places

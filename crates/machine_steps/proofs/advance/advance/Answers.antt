@@ -46,6 +46,10 @@ use Rattle.machine_steps.proofs.Waits.{executes, work}
 use Rattle.machine_steps.proofs.advance.advance.Goals as goal
 use Rattle.machine_steps.proofs.advance.advance.Goals.{After-owner_at-owner}
 
+-- what is lent of a call is that call
+running : {o : Option Activation} {a b : Activation} → o ≡ Some a → b ≡ a → o ≡ Some b
+running is same = is ∙ ap (λ (x : Activation). Some x) (sym same)
+
 pub owner_at-owner-requires : goal.owner_at-owner-requires
 owner_at-owner-requires c = let few : length c.args.thread.now.callers.items < 64 = c.requires.agrees.5.few in omega (arith, few, c.len.ensures, c.args.thread.now.callers.ok.0)
 
@@ -56,7 +60,7 @@ execute-requires-clause-stands c =
     let w = c.args.world.now in
     let store = c.args.store.now in
     let others = beside_callers a.0 a.3 in
-    let it = work p w store others c.args.number a.1 a.2 c.args.thread.now a.3 c.in-Some.activation a.4 a.5 c.in-Some.is a.7 in
+    let it = work p w store others c.args.number a.1 a.2 c.args.thread.now a.3 c.get_mut.result.now a.4 a.5 (running c.in-Some.is c.get_mut.ensures.value) a.7 in
     let same = c.owner_at-owner.ensures ∙ copier_is p w.classes store.heap store.elements (length (loaded_objects w)) c.args.number a.1 a.2 c.args.thread.now a.3 a.5 c.len.result (c.len.ensures ∙ c.args.thread.now.callers.ok.0) in (
       others,
       a.1.current,
@@ -64,8 +68,8 @@ execute-requires-clause-stands c =
       a.3,
       it.task,
       it.rest,
-      subst (λ (n : ℕ). IsExecuting p w store c.in-Some.activation c.args.thread.now.pending others c.args.number n a.1.current a.2 a.3 it.task it.rest) (sym same)
-          (executes p w store others c.args.number a.1 a.2 c.args.thread.now a.3 c.in-Some.activation a.4 a.5 c.in-Some.is a.7 a.8),
+      subst (λ (n : ℕ). IsExecuting p w store c.get_mut.result.now c.args.thread.now.pending others c.args.number n a.1.current a.2 a.3 it.task it.rest) (sym same)
+          (executes p w store others c.args.number a.1 a.2 c.args.thread.now a.3 c.get_mut.result.now a.4 a.5 (running c.in-Some.is c.get_mut.ensures.value) a.7 a.8),
     )
 
 -- there is a call to come
@@ -143,23 +147,23 @@ module _ (c : After-owner_at-owner) (others : Acquired) (own : ThreadOwners) (sh
 pub returns-in-Ok-Did-clause-advances : goal.returns-in-Ok-Did-clause-advances
 returns-in-Ok-Did-clause-advances c others own shared s shares h steady free =
     let a = (goal.at.returns-in-Ok-Did-clause-advances c).After-owner_at-owner in
-    let b = it a others own shared s shares h steady c.in-Some.activation c.in-Some.is in
+    let b = it a others own shared s shares h steady c.get_mut.result.now (running c.in-Some.is c.get_mut.ensures.value) in
     did c.args.program.now c.args.world.now c.args.store.now others c.args.number own shared c.args.thread.now s h c.execute.new.store false c.in-Ok-Did.event b.task b.rest b.is c.execute.new.activation c.execute.new.pending
-    (does a others own shared s shares h steady c.in-Some.activation c.in-Some.is c.execute.new.store c.execute.new.activation c.execute.new.pending _ (Did c.in-Ok-Did.event) free c.in-Ok-Did.ensures.done c.in-Ok-Did.field-0-is)
+    (does a others own shared s shares h steady c.get_mut.result.now (running c.in-Some.is c.get_mut.ensures.value) c.execute.new.store c.execute.new.activation c.execute.new.pending _ (Did c.in-Ok-Did.event) free c.in-Ok-Did.ensures.done c.in-Ok-Did.field-0-is)
 
 pub returns-in-Ok-Did-Quiet-clause-advances : goal.returns-in-Ok-Did-Quiet-clause-advances
 returns-in-Ok-Did-Quiet-clause-advances c others own shared s shares h steady free =
     let a = (goal.at.returns-in-Ok-Did-Quiet-clause-advances c).After-owner_at-owner in
-    let b = it a others own shared s shares h steady c.in-Some.activation c.in-Some.is in
+    let b = it a others own shared s shares h steady c.get_mut.result.now (running c.in-Some.is c.get_mut.ensures.value) in
     did c.args.program.now c.args.world.now c.args.store.now others c.args.number own shared c.args.thread.now s h c.execute.new.store false Quiet b.task b.rest b.is c.execute.new.activation c.execute.new.pending
-    (does a others own shared s shares h steady c.in-Some.activation c.in-Some.is c.execute.new.store c.execute.new.activation c.execute.new.pending _ (Did Quiet) free c.in-Ok-Did-Quiet.ensures.done (c.in-Ok-Did-Quiet.field-0-is ∙ ap (λ (x : Event). Did x) c.in-Ok-Did-Quiet.field-0-0-is))
+    (does a others own shared s shares h steady c.get_mut.result.now (running c.in-Some.is c.get_mut.ensures.value) c.execute.new.store c.execute.new.activation c.execute.new.pending _ (Did Quiet) free c.in-Ok-Did-Quiet.ensures.done (c.in-Ok-Did-Quiet.field-0-is ∙ ap (λ (x : Event). Did x) c.in-Ok-Did-Quiet.field-0-0-is))
 
 pub returns-in-Ok-Refused-clause-advances : goal.returns-in-Ok-Refused-clause-advances
 returns-in-Ok-Refused-clause-advances c others own shared s shares h steady free =
     let a = (goal.at.returns-in-Ok-Refused-clause-advances c).After-owner_at-owner in
-    let b = it a others own shared s shares h steady c.in-Some.activation c.in-Some.is in
+    let b = it a others own shared s shares h steady c.get_mut.result.now (running c.in-Some.is c.get_mut.ensures.value) in
     did c.args.program.now c.args.world.now c.args.store.now others c.args.number own shared c.args.thread.now s h c.execute.new.store true Quiet b.task b.rest b.is c.execute.new.activation c.execute.new.pending
-    (does a others own shared s shares h steady c.in-Some.activation c.in-Some.is c.execute.new.store c.execute.new.activation c.execute.new.pending _ Refused free c.in-Ok-Refused.ensures.done c.in-Ok-Refused.field-0-is)
+    (does a others own shared s shares h steady c.get_mut.result.now (running c.in-Some.is c.get_mut.ensures.value) c.execute.new.store c.execute.new.activation c.execute.new.pending _ Refused free c.in-Ok-Refused.ensures.done c.in-Ok-Refused.field-0-is)
 
 -- an address with a name is that of a block
 there_is : (o : Option Block) (n : ℕ) → option_map (λ (b : Block). b.birth) o ≡ Some n → IsSome o
@@ -213,7 +217,7 @@ module _ (c : After-owner_at-owner) (activation : Activation) (is : c.args.threa
 pub push-requires-clause-few : goal.push-requires-clause-few
 push-requires-clause-few c =
     let a = c.requires.agrees in
-    let calling = calls_there (goal.at.push-requires-clause-few c).After-owner_at-owner c.in-Some.activation c.in-Some.is c.execute.new.store c.execute.new.activation c.execute.new.pending _ c.in-Ok-Calls.ensures.done c.in-Ok-Calls.field-0-is in
+    let calling = calls_there (goal.at.push-requires-clause-few c).After-owner_at-owner c.get_mut.result.now (running c.in-Some.is c.get_mut.ensures.value) c.execute.new.store c.execute.new.activation c.execute.new.pending _ c.in-Ok-Calls.ensures.done c.in-Ok-Calls.field-0-is in
     few_callers c.args.program.now c.args.world.now c.args.store.now c.args.number a.1 a.2 c.args.thread.now a.3 a.5 _ calling
 
 pub push-requires-clause-calling : goal.push-requires-clause-calling
@@ -221,12 +225,12 @@ push-requires-clause-calling c =
     let p = c.args.program.now in
     let w = c.args.world.now in
     let o = (goal.at.push-requires-clause-calling c).After-owner_at-owner in
-    let calling = calls_there o c.in-Some.activation c.in-Some.is c.execute.new.store c.execute.new.activation c.execute.new.pending _ c.in-Ok-Calls.ensures.done c.in-Ok-Calls.field-0-is in
+    let calling = calls_there o c.get_mut.result.now (running c.in-Some.is c.get_mut.ensures.value) c.execute.new.store c.execute.new.activation c.execute.new.pending _ c.in-Ok-Calls.ensures.done c.in-Ok-Calls.field-0-is in
     let same = c.in-Ok-Calls.ensures.calls c.in-Ok-Calls.field-0-is in (
       c.execute.new.activation,
       refl,
       subst (λ (store : Store). MakesCall p w store c.execute.new.activation) (sym same.0)
-          (subst (MakesCall p w c.args.store.now) (sym same.2) (makes_call o c.in-Some.activation c.in-Some.is calling)),
+          (subst (MakesCall p w c.args.store.now) (sym same.2) (makes_call o c.get_mut.result.now (running c.in-Some.is c.get_mut.ensures.value) calling)),
     )
 
 pub returns-in_ok-push-in-Ok-Calls-clause-advances : goal.returns-in_ok-push-in-Ok-Calls-clause-advances
@@ -237,14 +241,14 @@ returns-in_ok-push-in-Ok-Calls-clause-advances c others own shared s shares h st
     let t = c.args.thread.now in
     let k = c.args.number in
     let o = (goal.at.returns-in_ok-push-in-Ok-Calls-clause-advances c).After-owner_at-owner in
-    let i = it o others own shared s shares h steady c.in-Some.activation c.in-Some.is in
-    let calling = does o others own shared s shares h steady c.in-Some.activation c.in-Some.is c.execute.new.store c.execute.new.activation c.execute.new.pending _ executed.Calls free c.in-Ok-Calls.ensures.done c.in-Ok-Calls.field-0-is in
+    let i = it o others own shared s shares h steady c.get_mut.result.now (running c.in-Some.is c.get_mut.ensures.value) in
+    let calling = does o others own shared s shares h steady c.get_mut.result.now (running c.in-Some.is c.get_mut.ensures.value) c.execute.new.store c.execute.new.activation c.execute.new.pending _ executed.Calls free c.in-Ok-Calls.ensures.done c.in-Ok-Calls.field-0-is in
     let same = c.in-Ok-Calls.ensures.calls c.in-Ok-Calls.field-0-is in
-    let e = executes p w old (beside_callers others s) k own shared t s c.in-Some.activation shares h c.in-Some.is steady free in
+    let e = executes p w old (beside_callers others s) k own shared t s c.get_mut.result.now shares h (running c.in-Some.is c.get_mut.ensures.value) steady free in
     let d = as_pushed p w c.execute.new.store c.execute.new.activation t c.push.new.thread (Some c.execute.new.activation) c.execute.new.pending same.1 (c.in_ok-push-in-Ok-Calls.ensures.pushes c.execute.new.activation refl) in
-    let pushes = subst (λ (store : Store). Pushes p w store c.in-Some.activation t c.push.new.thread) same.0 (subst (λ (x : Activation). Pushes p w c.execute.new.store x t c.push.new.thread) same.2 d) in
+    let pushes = subst (λ (store : Store). Pushes p w store c.get_mut.result.now t c.push.new.thread) same.0 (subst (λ (x : Activation). Pushes p w c.execute.new.store x t c.push.new.thread) same.2 d) in
     subst (λ (store : Store). Advances p w old store others k own shared s c.push.new.thread false Quiet) (sym same.0)
-    (pushed_on p w old others k own shared t s h shares c.in-Some.activation i.task i.rest e calling c.push.new.thread pushes)
+    (pushed_on p w old others k own shared t s h shares c.get_mut.result.now i.task i.rest e calling c.push.new.thread pushes)
 
 -- an error leaves all as it was
 put_back : (t : Thread) (call : Option Activation) (pending : Option ℕ) → call ≡ t.call → pending ≡ t.pending → (let u : Thread = record t { call = call; pending = pending } in u) ≡ t
@@ -260,9 +264,9 @@ returns-in_err-push-in-Ok-Calls-clause-hindered c =
     let o = (goal.at.returns-in_err-push-in-Ok-Calls-clause-hindered c).After-owner_at-owner in
     let given = err_from_is_err_and c.from_residual-in_err-push-in-Ok-Calls.result c.from_residual-in_err-push-in-Ok-Calls.ensures.1 in
     rw (given.1, given.2) (λ others own shared s shares h steady free.
-    let i = it o others own shared s shares h steady c.in-Some.activation c.in-Some.is in
-    let calling = does o others own shared s shares h steady c.in-Some.activation c.in-Some.is c.execute.new.store c.execute.new.activation c.execute.new.pending _ executed.Calls free c.in-Ok-Calls.ensures.done c.in-Ok-Calls.field-0-is in
-    pushed_cells p w old others k own shared t s h shares c.in-Some.activation i.task i.rest (executes p w old (beside_callers others s) k own shared t s c.in-Some.activation shares h c.in-Some.is steady free) calling)
+    let i = it o others own shared s shares h steady c.get_mut.result.now (running c.in-Some.is c.get_mut.ensures.value) in
+    let calling = does o others own shared s shares h steady c.get_mut.result.now (running c.in-Some.is c.get_mut.ensures.value) c.execute.new.store c.execute.new.activation c.execute.new.pending _ executed.Calls free c.in-Ok-Calls.ensures.done c.in-Ok-Calls.field-0-is in
+    pushed_cells p w old others k own shared t s h shares c.get_mut.result.now i.task i.rest (executes p w old (beside_callers others s) k own shared t s c.get_mut.result.now shares h (running c.in-Some.is c.get_mut.ensures.value) steady free) calling)
 
 pub returns-in_err-push-in-Ok-Calls-clause-store : goal.returns-in_err-push-in-Ok-Calls-clause-store
 returns-in_err-push-in-Ok-Calls-clause-store c =
@@ -274,11 +278,11 @@ returns-in_err-push-in-Ok-Calls-clause-thread c =
     let t = c.args.thread.now in
     let same = c.in-Ok-Calls.ensures.calls c.in-Ok-Calls.field-0-is in
     let given = err_from_is_err_and c.from_residual-in_err-push-in-Ok-Calls.result c.from_residual-in_err-push-in-Ok-Calls.ensures.1 in
-    rw (given.1) (c.in_err-push-in-Ok-Calls.ensures.err ∙ put_back t (Some c.execute.new.activation) c.execute.new.pending (ap (λ (x : Activation). Some x) same.2 ∙ sym c.in-Some.is) same.1)
+    rw (given.1) (c.in_err-push-in-Ok-Calls.ensures.err ∙ put_back t (Some c.execute.new.activation) c.execute.new.pending (ap (λ (x : Activation). Some x) same.2 ∙ sym (running c.in-Some.is c.get_mut.ensures.value)) same.1)
 
 pub leave-requires : goal.leave-requires
 leave-requires c x is =
-    let r = returns_there (goal.at.leave-requires c).After-owner_at-owner c.in-Some.activation c.in-Some.is c.execute.new.store c.execute.new.activation c.execute.new.pending _ c.in-Ok-Returned.value c.in-Ok-Returned.ensures.done c.in-Ok-Returned.field-0-is in
+    let r = returns_there (goal.at.leave-requires c).After-owner_at-owner c.get_mut.result.now (running c.in-Some.is c.get_mut.ensures.value) c.execute.new.store c.execute.new.activation c.execute.new.pending _ c.in-Ok-Returned.value c.in-Ok-Returned.ensures.done c.in-Ok-Returned.field-0-is in
     named c.execute.new.store.heap c.execute.new.pending c.requires.agrees.3.pending x r.3 is
 
 none_by : (n : ℕ) → (n == 0) ≡ true → n ≡ 0
@@ -301,7 +305,7 @@ last_of {A} (x ∷ y ∷ xs) some = let r = last_of (y ∷ xs) (omega arith) in 
 pub resume-requires-clause-called : goal.resume-requires-clause-called
 resume-requires-clause-called c below caller last =
     let a = c.requires.agrees in
-    let r = returns_there (goal.at.resume-requires-clause-called c).After-owner_at-owner c.in-Some.activation c.in-Some.is c.execute.new.store c.execute.new.activation c.execute.new.pending _ c.in-Ok-Returned.value c.in-Ok-Returned.ensures.done c.in-Ok-Returned.field-0-is in
+    let r = returns_there (goal.at.resume-requires-clause-called c).After-owner_at-owner c.get_mut.result.now (running c.in-Some.is c.get_mut.ensures.value) c.execute.new.store c.execute.new.activation c.execute.new.pending _ c.in-Ok-Returned.value c.in-Ok-Returned.ensures.done c.in-Ok-Returned.field-0-is in
     let f = first c.args.program.now c.args.world.now c.args.store.now a.0 c.args.number a.1 a.2 c.args.thread.now a.3 a.5 below caller last in
     subst (λ (store : Store). HasCalled c.args.program.now store caller) (sym r.2)
     (has_called c.args.program.now c.args.world.now c.args.store.now a.0 c.args.number a.1 a.2 c.args.thread.now a.3 a.5 below caller last c.requires.lowered a.4 (a.7.callers f.caller f.below f.is))
@@ -312,8 +316,8 @@ returns-then-is_empty-clause-advances c others own shared s shares h steady free
     let w = c.args.world.now in
     let old = c.args.store.now in
     let a = (goal.at.returns-then-is_empty-clause-advances c).After-owner_at-owner in
-    let b = it a others own shared s shares h steady c.in-Some.activation c.in-Some.is in
-    let left = does a others own shared s shares h steady c.in-Some.activation c.in-Some.is c.execute.new.store c.execute.new.activation c.execute.new.pending _ (Returned c.in-Ok-Returned.value) free c.in-Ok-Returned.ensures.done c.in-Ok-Returned.field-0-is in
+    let b = it a others own shared s shares h steady c.get_mut.result.now (running c.in-Some.is c.get_mut.ensures.value) in
+    let left = does a others own shared s shares h steady c.get_mut.result.now (running c.in-Some.is c.get_mut.ensures.value) c.execute.new.store c.execute.new.activation c.execute.new.pending _ (Returned c.in-Ok-Returned.value) free c.in-Ok-Returned.ensures.done c.in-Ok-Returned.field-0-is in
     let none = no_items c.args.thread.now.callers.items (omega (arith, none_by c.args.thread.now.callers.len (sym c.is_empty.ensures ∙ c.if-is_empty.true), c.args.thread.now.callers.ok.0)) in
     let alone = none_below p w.classes old.heap old.elements c.args.number shared (reverse c.args.thread.now.callers.items) own.callers s.callers h.callers (ap reverse none) in
     returned p w old others c.args.number own shared c.args.thread.now s h c.execute.new.store c.leave.new.store c.execute.new.pending c.leave.new.thread b.task b.rest alone b.is left.1 left.2 (steady.return left.0.0 (ap (next_effect shared s) b.is ∙ left.0.1)) left.3 c.requires.agrees.6 (left.0.0, left.0.1) c.leave.ensures.call c.leave.ensures.entering (ap (λ (v : Vec Activation). v.items) c.leave.ensures.callers ∙ none) c.leave.ensures.pending c.leave.ensures.calls c.leave.ensures.ending c.leave.ensures.monitors
@@ -326,8 +330,8 @@ returns-else-is_empty-clause-advances c others own shared s shares h steady free
     let t = c.args.thread.now in
     let k = c.args.number in
     let a = (goal.at.returns-else-is_empty-clause-advances c).After-owner_at-owner in
-    let b = it a others own shared s shares h steady c.in-Some.activation c.in-Some.is in
-    let left = does a others own shared s shares h steady c.in-Some.activation c.in-Some.is c.execute.new.store c.execute.new.activation c.execute.new.pending _ (Returned c.in-Ok-Returned.value) free c.in-Ok-Returned.ensures.done c.in-Ok-Returned.field-0-is in
+    let b = it a others own shared s shares h steady c.get_mut.result.now (running c.in-Some.is c.get_mut.ensures.value) in
+    let left = does a others own shared s shares h steady c.get_mut.result.now (running c.in-Some.is c.get_mut.ensures.value) c.execute.new.store c.execute.new.activation c.execute.new.pending _ (Returned c.in-Ok-Returned.value) free c.in-Ok-Returned.ensures.done c.in-Ok-Returned.field-0-is in
     let some : 0 < length t.callers.items = omega (arith, some_by t.callers.len (sym c.is_empty.ensures ∙ c.if-is_empty.false), t.callers.ok.0) in
     let e = last_of t.callers.items some in
     let f = first p w old others k own shared t s h e.0 e.1 e.2 in
@@ -342,6 +346,6 @@ returns-in-Err-clause-hindered c others own shared s shares h steady free =
     let w = c.args.world.now in
     let old = c.args.store.now in
     let a = (goal.at.returns-in-Err-clause-hindered c).After-owner_at-owner in
-    let b = it a others own shared s shares h steady c.in-Some.activation c.in-Some.is in
-    let told = c.in-Err.ensures.hindered (beside_callers others s) own.current shared s b.task b.rest (stands_as a others own shared s shares h steady c.in-Some.activation c.in-Some.is free) in
+    let b = it a others own shared s shares h steady c.get_mut.result.now (running c.in-Some.is c.get_mut.ensures.value) in
+    let told = c.in-Err.ensures.hindered (beside_callers others s) own.current shared s b.task b.rest (stands_as a others own shared s shares h steady c.get_mut.result.now (running c.in-Some.is c.get_mut.ensures.value) free) in
     subst (λ (a : source.Advance). IsHindered (left_of old.heap) (cells_made shared a) c.args.may_refuse c.in-Err.fault) (sym (ap (step_within (unit_tree p.unit) w.classes (in_use_with (beside_callers others s) s) c.args.number shared s false) b.is)) told

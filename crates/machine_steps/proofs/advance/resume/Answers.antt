@@ -41,6 +41,10 @@ ends_same {A} (a ∷ xs) (b ∷ ys) x y e =
     let r = ends_same xs ys x y (let rest : xs ++ x ∷ [] ≡ ys ++ y ∷ [] = cc in rest) in
     (ap (λ (z : A). z ∷ xs) first ∙ ap (λ (l : List A). b ∷ l) r.0, r.1)
 
+-- what is lent of a call is that call
+running : {o : Option Activation} {a b : Activation} → o ≡ Some a → b ≡ a → o ≡ Some b
+running is same = is ∙ ap (λ (x : Activation). Some x) (sym same)
+
 -- the caller
 last : (items left : List Activation) (o : Option Activation) (caller : Activation) → items ≡ left ++ option_to_list o → o ≡ Some caller → items ≡ left ++ caller ∷ []
 last items left o caller e is = e ∙ ap (λ (x : Option Activation). left ++ option_to_list x) is
@@ -75,44 +79,44 @@ module _ (p : Lowered) (lowered : IsLowered p) (store : Store) (caller : Activat
       (subst (λ (f : _). HasRoom (prototype f).result caller.locals) (sym it_called.4) (has_room p h.world.classes store h.world h.all h.owner caller h.own h.shared h.source lowered h.shares h.agrees few h.resumable))
 
 pub code_at-code-requires : goal.code_at-code-requires
-code_at-code-requires c = let h = (c.requires.called c.pop.new.self.items c.in-Some.caller (last c.args.thread.now.callers.items c.pop.new.self.items c.pop.result c.in-Some.caller c.pop.ensures.items c.in-Some.is)).agrees.stands in slice_get_within c.args.program.now.codes c.in-Some.caller.function h.code h.of_function
+code_at-code-requires c = let h = (c.requires.called c.pop.new.self.items c.get_mut-caller.result.now (last c.args.thread.now.callers.items c.pop.new.self.items c.pop.result c.get_mut-caller.result.now c.pop.ensures.items (running c.in-Some.is c.get_mut-caller.ensures.value))).agrees.stands in slice_get_within c.args.program.now.codes c.get_mut-caller.result.now.function h.code h.of_function
 
 pub instr_at-requires : goal.instr_at-requires
 instr_at-requires c =
     let few : c.args.store.now.heap.cells ≤ 1048576 = omega (arith, c.cells.ensures.cells, c.cells.ensures.limit) in
-    slice_get_within c.code_at-code.result.now.instrs c.in-Some.caller.place _
-    (call_there c.args.program.now c.requires.lowered c.args.store.now c.in-Some.caller (c.requires.called c.pop.new.self.items c.in-Some.caller (last c.args.thread.now.callers.items c.pop.new.self.items c.pop.result c.in-Some.caller c.pop.ensures.items c.in-Some.is)) few c.code_at-code.result.now c.code_at-code.ensures.code)
+    slice_get_within c.code_at-code.result.now.instrs c.get_mut-caller.result.now.place _
+    (call_there c.args.program.now c.requires.lowered c.args.store.now c.get_mut-caller.result.now (c.requires.called c.pop.new.self.items c.get_mut-caller.result.now (last c.args.thread.now.callers.items c.pop.new.self.items c.pop.result c.get_mut-caller.result.now c.pop.ensures.items (running c.in-Some.is c.get_mut-caller.ensures.value))) few c.code_at-code.result.now c.code_at-code.ensures.code)
 
 pub unreachable-requires : goal.unreachable-requires
 unreachable-requires c =
     let few : c.args.store.now.heap.cells ≤ 1048576 = omega (arith, c.cells.ensures.cells, c.cells.ensures.limit) in
-    let h = c.requires.called c.pop.new.self.items c.in-Some.caller (last c.args.thread.now.callers.items c.pop.new.self.items c.pop.result c.in-Some.caller c.pop.ensures.items c.in-Some.is) in
-    let found = it_called c.args.program.now c.requires.lowered c.args.store.now c.in-Some.caller h few c.code_at-code.result.now c.code_at-code.ensures.code in
-    let there : slice_get c.code_at-code.result.now.instrs c.in-Some.caller.place ≡ Some (instr.Call found.0) = call_there c.args.program.now c.requires.lowered c.args.store.now c.in-Some.caller h few c.code_at-code.result.now c.code_at-code.ensures.code in
+    let h = c.requires.called c.pop.new.self.items c.get_mut-caller.result.now (last c.args.thread.now.callers.items c.pop.new.self.items c.pop.result c.get_mut-caller.result.now c.pop.ensures.items (running c.in-Some.is c.get_mut-caller.ensures.value)) in
+    let found = it_called c.args.program.now c.requires.lowered c.args.store.now c.get_mut-caller.result.now h few c.code_at-code.result.now c.code_at-code.ensures.code in
+    let there : slice_get c.code_at-code.result.now.instrs c.get_mut-caller.result.now.place ≡ Some (instr.Call found.0) = call_there c.args.program.now c.requires.lowered c.args.store.now c.get_mut-caller.result.now h few c.code_at-code.result.now c.code_at-code.ensures.code in
     c.in_default.not-Call found.0 (let both : Some c.instr_at.result.now ≡ Some (instr.Call found.0) = sym c.instr_at.ensures.instr ∙ there in cc)
 
 pub receive-requires-clause-target : goal.receive-requires-clause-target
 receive-requires-clause-target c =
     let few : c.args.store.now.heap.cells ≤ 1048576 = omega (arith, c.cells.ensures.cells, c.cells.ensures.limit) in
-    target_of c.args.program.now c.requires.lowered c.args.store.now c.in-Some.caller (c.requires.called c.pop.new.self.items c.in-Some.caller (last c.args.thread.now.callers.items c.pop.new.self.items c.pop.result c.in-Some.caller c.pop.ensures.items c.in-Some.is)) few c.code_at-code.result.now c.code_at-code.ensures.code (call_view c.call-call.result.now)
+    target_of c.args.program.now c.requires.lowered c.args.store.now c.get_mut-caller.result.now (c.requires.called c.pop.new.self.items c.get_mut-caller.result.now (last c.args.thread.now.callers.items c.pop.new.self.items c.pop.result c.get_mut-caller.result.now c.pop.ensures.items (running c.in-Some.is c.get_mut-caller.ensures.value))) few c.code_at-code.result.now c.code_at-code.ensures.code (call_view c.call-call.result.now)
     (c.instr_at.ensures.instr ∙ ap (λ (i : Instr). Some i) (c.in-Call.is ∙ ap (λ (x : Call). instr.Call x) (sym c.call-call.ensures.view)))
 
 pub receive-requires-clause-static_target : goal.receive-requires-clause-static_target
 receive-requires-clause-static_target c =
     let few : c.args.store.now.heap.cells ≤ 1048576 = omega (arith, c.cells.ensures.cells, c.cells.ensures.limit) in
-    static_of c.args.program.now c.requires.lowered c.args.store.now c.in-Some.caller (c.requires.called c.pop.new.self.items c.in-Some.caller (last c.args.thread.now.callers.items c.pop.new.self.items c.pop.result c.in-Some.caller c.pop.ensures.items c.in-Some.is)) few c.code_at-code.result.now c.code_at-code.ensures.code (call_view c.call-call.result.now)
+    static_of c.args.program.now c.requires.lowered c.args.store.now c.get_mut-caller.result.now (c.requires.called c.pop.new.self.items c.get_mut-caller.result.now (last c.args.thread.now.callers.items c.pop.new.self.items c.pop.result c.get_mut-caller.result.now c.pop.ensures.items (running c.in-Some.is c.get_mut-caller.ensures.value))) few c.code_at-code.result.now c.code_at-code.ensures.code (call_view c.call-call.result.now)
     (c.instr_at.ensures.instr ∙ ap (λ (i : Instr). Some i) (c.in-Call.is ∙ ap (λ (x : Call). instr.Call x) (sym c.call-call.ensures.view))) _
 
 pub receive-requires-clause-room : goal.receive-requires-clause-room
 receive-requires-clause-room c =
     let few : c.args.store.now.heap.cells ≤ 1048576 = omega (arith, c.cells.ensures.cells, c.cells.ensures.limit) in
-    subst (λ (kind : ResultKind). HasRoom kind c.in-Some.caller.locals) (sym c.call-call.ensures.prepared.result)
-    (room_of c.args.program.now c.requires.lowered c.args.store.now c.in-Some.caller (c.requires.called c.pop.new.self.items c.in-Some.caller (last c.args.thread.now.callers.items c.pop.new.self.items c.pop.result c.in-Some.caller c.pop.ensures.items c.in-Some.is)) few c.code_at-code.result.now c.code_at-code.ensures.code (call_view c.call-call.result.now)
+    subst (λ (kind : ResultKind). HasRoom kind c.get_mut-caller.result.now.locals) (sym c.call-call.ensures.prepared.result)
+    (room_of c.args.program.now c.requires.lowered c.args.store.now c.get_mut-caller.result.now (c.requires.called c.pop.new.self.items c.get_mut-caller.result.now (last c.args.thread.now.callers.items c.pop.new.self.items c.pop.result c.get_mut-caller.result.now c.pop.ensures.items (running c.in-Some.is c.get_mut-caller.ensures.value))) few c.code_at-code.result.now c.code_at-code.ensures.code (call_view c.call-call.result.now)
     (c.instr_at.ensures.instr ∙ ap (λ (i : Instr). Some i) (c.in-Call.is ∙ ap (λ (x : Call). instr.Call x) (sym c.call-call.ensures.view))))
 
 pub returns : goal.returns
 returns c below caller is =
-    let same = ends_same c.pop.new.self.items below c.in-Some.caller caller (sym (last c.args.thread.now.callers.items c.pop.new.self.items c.pop.result c.in-Some.caller c.pop.ensures.items c.in-Some.is) ∙ is) in
+    let same = ends_same c.pop.new.self.items below c.get_mut-caller.result.now caller (sym (last c.args.thread.now.callers.items c.pop.new.self.items c.pop.result c.get_mut-caller.result.now c.pop.ensures.items (running c.in-Some.is c.get_mut-caller.ensures.value)) ∙ is) in
     let p = c.args.program.now in
     let old = c.args.store.now in
     let t = c.args.thread.now in
@@ -124,7 +128,7 @@ returns c below caller is =
     let store : Store = record old { statics = statics } in
     let after : Thread = record t { call = Some c.receive.new.activation; callers = c.pop.new.self; spare = c.swap.new.y } in
     subst (λ (x : Activation). Resumes p v x below old store t after) same.1
-    (subst (λ (l : List Activation). Resumes p v c.in-Some.caller l old store t after) same.0 (record {
+    (subst (λ (l : List Activation). Resumes p v c.get_mut-caller.result.now l old store t after) same.0 (record {
       call = c.receive.new.activation;
       callers = c.pop.new.self;
       spare = c.swap.new.y;
@@ -135,8 +139,8 @@ returns c below caller is =
       function = call_view call;
       at = c.instr_at.ensures.instr ∙ ap (λ (i : Instr). Some i) (c.in-Call.is ∙ ap (λ (x : Call). instr.Call x) (sym c.call-call.ensures.view));
       receives =
-          subst (λ (kind : ResultKind). Receives call.target kind None (given_back t.pending kind v) c.in-Some.caller c.receive.new.activation) c.call-call.ensures.prepared.result
-          (subst (λ (g : Given). Receives call.target kind None g c.in-Some.caller c.receive.new.activation) c.given_back-given.ensures c.receive.ensures.activation);
+          subst (λ (kind : ResultKind). Receives call.target kind None (given_back t.pending kind v) c.get_mut-caller.result.now c.receive.new.activation) c.call-call.ensures.prepared.result
+          (subst (λ (g : Given). Receives call.target kind None g c.get_mut-caller.result.now c.receive.new.activation) c.given_back-given.ensures c.receive.ensures.activation);
       statics = statics;
       store_is = refl;
       put =

@@ -8,7 +8,7 @@ pub method_called-requires-clause-calling : goal.method_called-requires-clause-c
 method_called-requires-clause-calling c =
     let m = c.requires.calling in
     let same : m.0 ≡ c.in-Some.activation = let both : Some m.0 ≡ Some c.in-Some.activation = sym m.1 ∙ c.in-Some.is in cc in
-    subst (MakesCall c.args.program.now c.args.world.now c.args.store.now) same m.2
+    subst (MakesCall c.args.program.now c.args.world.now c.args.store.now) (same ∙ sym c.get.ensures) m.2
 
 pub unreachable-requires : goal.unreachable-requires
 unreachable-requires c = absurd (let m = c.requires.calling in let clash : Some m.0 ≡ None = sym m.1 ∙ c.in-None.is in cc)
@@ -25,7 +25,7 @@ returns-clause-pushes c activation is =
     let caller = c.in-Some-take.caller in
     let was : Some caller ≡ t.call = sym c.in-Some-take.is ∙ c.take.ensures.value in
     let same : caller ≡ activation = let both : Some caller ≡ Some activation = was ∙ is in cc in
-    let first : c.in-Some.activation ≡ activation = let both : Some c.in-Some.activation ≡ Some activation = sym c.in-Some.is ∙ is in cc in
+    let first : c.get.result.now ≡ activation = c.get.ensures ∙ (let both : Some c.in-Some.activation ≡ Some activation = sym c.in-Some.is ∙ is in cc) in
     record {
       entering = c.in_ok-entering-in-Some.entering;
       callers = c.push_reserved.new.self;

@@ -1,4 +1,5 @@
-use Rattle.std.proofs.Common.{◌≡◌, ◌≤◌, List, length, Option, sym, ap, ◌∙◌, arith}
+use Rattle.std.proofs.Common.{◌≡◌, ◌≤◌, List, length, Option, Some, sym, ap, ◌∙◌, arith}
+use Rattle.machine_scenes.specs.declared.activation.Activation.{Activation}
 use Rattle.code.specs.Call.{Call, call_view}
 use Rattle.code.specs.declared.instr.Instr.TheVariants as instr
 use Rattle.semantics.specs.CallStep.{waits_with}
@@ -13,8 +14,12 @@ use Rattle.machine_steps.proofs.Waits.{function_there, goes_on, may_wait, none_w
 use Rattle.machine_steps.proofs.wait.waits.Goals as goal
 use Rattle.machine_steps.proofs.wait.waits.Goals.{After-instr_at-instr}
 
+-- what is lent of a call is that call
+running : {o : Option Activation} {a b : Activation} → o ≡ Some a → b ≡ a → o ≡ Some b
+running is same = is ∙ ap (λ (x : Activation). Some x) (sym same)
+
 -- what was fetched
-fetched : (c : After-instr_at-instr) → Fetched c.args.program.now (store_unowned c.args.store.now) c.in-Some.activation c.instr_at-instr.result.now
+fetched : (c : After-instr_at-instr) → Fetched c.args.program.now (store_unowned c.args.store.now) c.get-activation.result.now c.instr_at-instr.result.now
 fetched c = record {
   code = c.code_at-code.result.now;
   lowered = c.requires.lowered;
@@ -31,13 +36,13 @@ returns-then-len-eq0 c others own shared s shares h steady =
 pub code_at-code-requires : goal.code_at-code-requires
 code_at-code-requires c =
     let a = c.requires.agrees in
-    function_there c.args.program.now c.args.world.now c.args.store.now (beside_callers a.0 a.3) c.args.number a.1 a.2 c.args.thread.now a.3 c.in-Some.activation a.4.0 a.4.1 c.in-Some.is a.4.2
+    function_there c.args.program.now c.args.world.now c.args.store.now (beside_callers a.0 a.3) c.args.number a.1 a.2 c.args.thread.now a.3 c.get-activation.result.now a.4.0 a.4.1 (running c.in-Some.is c.get-activation.ensures) a.4.2
 
 pub instr_at-instr-requires : goal.instr_at-instr-requires
 instr_at-instr-requires c =
     let a = c.requires.agrees in
     let few : c.args.store.now.heap.cells ≤ 1048576 = omega (arith, c.cells.ensures.cells, c.cells.ensures.limit) in
-    place_there c.args.program.now c.args.world.now c.args.store.now (beside_callers a.0 a.3) c.args.number a.1 a.2 c.args.thread.now a.3 c.in-Some.activation a.4.0 a.4.1 c.in-Some.is a.4.2 c.code_at-code.result.now c.requires.lowered c.code_at-code.ensures.code few
+    place_there c.args.program.now c.args.world.now c.args.store.now (beside_callers a.0 a.3) c.args.number a.1 a.2 c.args.thread.now a.3 c.get-activation.result.now a.4.0 a.4.1 (running c.in-Some.is c.get-activation.ensures) a.4.2 c.code_at-code.result.now c.requires.lowered c.code_at-code.ensures.code few
 
 pub waits_to_enter-requires-clause-may_wait : goal.waits_to_enter-requires-clause-may_wait
 waits_to_enter-requires-clause-may_wait c =
@@ -45,7 +50,7 @@ waits_to_enter-requires-clause-may_wait c =
     let p = c.args.program.now in
     let w = c.args.world.now in
     let store = c.args.store.now in
-    let it = work p w store (beside_callers a.0 a.3) c.args.number a.1 a.2 c.args.thread.now a.3 c.in-Some.activation a.4.0 a.4.1 c.in-Some.is a.4.2 in
+    let it = work p w store (beside_callers a.0 a.3) c.args.number a.1 a.2 c.args.thread.now a.3 c.get-activation.result.now a.4.0 a.4.1 (running c.in-Some.is c.get-activation.ensures) a.4.2 in
     let f = fetched (goal.at.waits_to_enter-requires-clause-may_wait c).After-instr_at-instr in (
       beside_callers a.0 a.3,
       owner_at c.args.number (length a.3.callers),
@@ -54,7 +59,7 @@ waits_to_enter-requires-clause-may_wait c =
       a.3,
       it.task,
       it.rest,
-      may_wait p w store (beside_callers a.0 a.3) c.args.number a.1 a.2 c.args.thread.now a.3 c.in-Some.activation a.4.0 a.4.1 c.in-Some.is a.4.2 c.instr_at-instr.result.now f c.call-call.result.now (c.in-Call.is ∙ ap (λ (x : Call). instr.Call x) (sym c.call-call.ensures.view)),
+      may_wait p w store (beside_callers a.0 a.3) c.args.number a.1 a.2 c.args.thread.now a.3 c.get-activation.result.now a.4.0 a.4.1 (running c.in-Some.is c.get-activation.ensures) a.4.2 c.instr_at-instr.result.now f c.call-call.result.now (c.in-Call.is ∙ ap (λ (x : Call). instr.Call x) (sym c.call-call.ensures.view)),
     )
 
 pub returns-in-None : goal.returns-in-None
@@ -69,16 +74,16 @@ returns-in-MonitorEnter c others own shared s shares h steady =
     let p = c.args.program.now in
     let w = c.args.world.now in
     let store = c.args.store.now in
-    let it = work p w store (beside_callers others s) c.args.number own shared c.args.thread.now s c.in-Some.activation shares h c.in-Some.is steady in
+    let it = work p w store (beside_callers others s) c.args.number own shared c.args.thread.now s c.get-activation.result.now shares h (running c.in-Some.is c.get-activation.ensures) steady in
     let f = fetched (goal.at.returns-in-MonitorEnter c).After-instr_at-instr in
     c.waits_to_enter.ensures (beside_callers others s) (owner_at c.args.number (length s.callers)) own.current shared s it.task it.rest
-    (may_wait p w store (beside_callers others s) c.args.number own shared c.args.thread.now s c.in-Some.activation shares h c.in-Some.is steady c.instr_at-instr.result.now f c.call-call.result.now (c.in-Call.is ∙ ap (λ (x : Call). instr.Call x) (sym c.call-call.ensures.view)))
-    ∙ waits_by p w store (beside_callers others s) c.args.number own shared c.args.thread.now s c.in-Some.activation shares h c.in-Some.is steady
+    (may_wait p w store (beside_callers others s) c.args.number own shared c.args.thread.now s c.get-activation.result.now shares h (running c.in-Some.is c.get-activation.ensures) steady c.instr_at-instr.result.now f c.call-call.result.now (c.in-Call.is ∙ ap (λ (x : Call). instr.Call x) (sym c.call-call.ensures.view)))
+    ∙ waits_by p w store (beside_callers others s) c.args.number own shared c.args.thread.now s c.get-activation.result.now shares h (running c.in-Some.is c.get-activation.ensures) steady
 
 pub returns-in_default-function : goal.returns-in_default-function
 returns-in_default-function c others own shared s shares h steady =
     let f = fetched (goal.at.returns-in_default-function c).After-instr_at-instr in
-    sym (goes_on c.args.program.now c.args.world.now c.args.store.now (beside_callers others s) c.args.number own shared c.args.thread.now s c.in-Some.activation shares h c.in-Some.is steady c.instr_at-instr.result.now f
+    sym (goes_on c.args.program.now c.args.world.now c.args.store.now (beside_callers others s) c.args.number own shared c.args.thread.now s c.get-activation.result.now shares h (running c.in-Some.is c.get-activation.ensures) steady c.instr_at-instr.result.now f
     (λ (x : Call) is enters.
     let same : call_view c.call-call.result.now ≡ x = let both : instr.Call (call_view c.call-call.result.now) ≡ instr.Call x = sym (c.in-Call.is ∙ ap (λ (y : Call). instr.Call y) (sym c.call-call.ensures.view)) ∙ is in cc in
     c.in_default-function.not-MonitorEnter (value_enters c.call-call.result.now.function (ap (λ (y : Call). y.function) same ∙ enters))))
@@ -86,5 +91,5 @@ returns-in_default-function c others own shared s shares h steady =
 pub returns-in_default : goal.returns-in_default
 returns-in_default c others own shared s shares h steady =
     let f = fetched (goal.at.returns-in_default c).After-instr_at-instr in
-    sym (goes_on c.args.program.now c.args.world.now c.args.store.now (beside_callers others s) c.args.number own shared c.args.thread.now s c.in-Some.activation shares h c.in-Some.is steady c.instr_at-instr.result.now f
+    sym (goes_on c.args.program.now c.args.world.now c.args.store.now (beside_callers others s) c.args.number own shared c.args.thread.now s c.get-activation.result.now shares h (running c.in-Some.is c.get-activation.ensures) steady c.instr_at-instr.result.now f
     (λ (x : Call) is enters. c.in_default.not-Call x is))
