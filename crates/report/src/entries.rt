@@ -1,6 +1,6 @@
 //! The entries of a journal, which are written after a report.
 
-ghost use Rattle.std.specs.Prelude.{◌≡◌, ◌<◌, List, [], ◌∷◌, Some, length, slice_get, take};
+ghost use Rattle.std.specs.Prelude.{◌≡◌, ◌<◌, List, Some, length, slice_get, take};
 ghost use Rattle.semantics.specs.Journal.{Entry as JournalEntry, clearings_in};
 ghost use Rattle.report.specs.RunText.{entry_shown};
 
@@ -13,19 +13,6 @@ pub enum ShownEntry<'a> {
     Step { thread: u8, refused: bool },
     /// The weak global references to these objects were cleared.
     Clearing(&'a [ObjectId]),
-}
-
-impl ShownEntry<'_> {
-    /// How many clearings it is: one or none.
-    #[inline(always)]
-    pub fn clearings(self) -> usize
-        ensures { result ≡ clearings_in (entry_shown self.entry ∷ []) }
-    {
-        match self {
-            ShownEntry::Step { .. } => 0,
-            ShownEntry::Clearing(_) => 1,
-        }
-    }
 }
 
 /// What has the entries of a journal to show, which are asked for one after another.

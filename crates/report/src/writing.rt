@@ -5,7 +5,7 @@ ghost use Rattle.arrayvec.specs.ArrayVec.{array_vec_len};
 ghost use Rattle.sinks.specs.Sink.{CanFail, Writes};
 ghost use Rattle.report.specs.ReportText.{report_text};
 ghost use Rattle.report.specs.Shown.{report_with};
-ghost use Rattle.report.specs.RunText.{entry_shown, further_text, Gathers};
+ghost use Rattle.report.specs.RunText.{further_text, Gathers};
 ghost use Rattle.semantics.specs.JournalText.{entry_text, journal_line};
 ghost use Rattle.semantics.specs.Journal.{Step, Clearing};
 ghost use Rattle.semantics.specs.JournalText.{spelled_entries};
@@ -123,26 +123,6 @@ fn put_after<S: Sink>(
     put_clearing(sink, objects)
 }
 
-/// Puts the word of an entry after a space: a step's is gathered, and a clearing's put after what was gathered.
-#[inline(always)]
-fn put_entry<S: Sink>(
-    sink: &mut S,
-    text: &mut ArrayVec<u8, 4096>,
-    entry: ShownEntry,
-) -> Result<(), SinkFailed>
-    requires can_fail { CanFail (S.written sink.old) }
-    requires room { array_vec_len text.old + 5 ≤ 4096 }
-    ensures { Gathers (S.written sink.old) (S.written sink.new) result text.old.items text.new.items (codes " " ++ entry_text (entry_shown entry.entry)) }
-{
-    match entry {
-        ShownEntry::Step { thread, refused } => {
-            push_step(text, thread, refused);
-            Ok(())
-        }
-        ShownEntry::Clearing(objects) => put_after(sink, text, objects),
-    }
-}
-
 /// Puts the words of the entries, each after a space. Those of steps are gathered, and put 4,096 bytes or a few fewer at a time.
 fn put_entries<S: Sink, E: Entries>(sink: &mut S, entries: &E) -> Result<(), SinkFailed>
     requires { CanFail (S.written sink.old) }
@@ -155,9 +135,13 @@ fn put_entries<S: Sink, E: Entries>(sink: &mut S, entries: &E) -> Result<(), Sin
             put_all(sink, text.as_slice())?;
             text.clear();
         }
-        let shown = entries.entry(place, clearings);
-        put_entry(sink, &mut text, shown)?;
-        clearings += shown.clearings();
+        match entries.entry(place, clearings) {
+            ShownEntry::Step { thread, refused } => push_step(&mut text, thread, refused),
+            ShownEntry::Clearing(objects) => {
+                put_after(sink, &mut text, objects)?;
+                clearings += 1;
+            }
+        }
     }
     put_all(sink, text.as_slice())
 }

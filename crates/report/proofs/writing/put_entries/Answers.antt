@@ -1,17 +1,18 @@
-use Rattle.std.proofs.Common.{◌≡◌, ℕ, ◌+◌, ◌≤◌, List, [], ◌++◌, length, drop, Some, Result, Ok, Err, refl, sym, ap, subst, ◌∙◌, append_assoc, arith}
+use Rattle.std.proofs.Common.{◌≡◌, ℕ, ◌+◌, ◌≤◌, List, [], ◌∷◌, ◌++◌, length, drop, Some, Result, Ok, Err, refl, sym, ap, subst, ◌∙◌, append_assoc, arith}
 use Rattle.std.specs.Prelude.{codes}
 use Rattle.std.specs.Prelude.{slice_get}
 use Rattle.std.proofs.lemmas.Option.{get_or_from_slice_get, slice_get_within}
 use Rattle.std.proofs.lemmas.Result.{err_from_is_err_and}
-use Rattle.semantics.specs.Journal.{Entry}
+use Rattle.semantics.specs.Journal.{Entry, clearings_in}
 use Rattle.semantics.specs.JournalText.{entry_text}
 use Rattle.semantics.specs.JournalText.{spelled_entries}
 use Rattle.report.specs.RunText.{IsGathered, entry_shown}
+use Rattle.report.specs.declared.entries.ShownEntry.{ShownEntry}
 use Rattle.sinks.specs.Sink.{Written, AppendsText, StopsWithin, Writes}
-use Rattle.sinks.proofs.Puts.{PutSoFar, goes_on, is_all, stops, flat_map-at, flat_map-past}
+use Rattle.sinks.proofs.Puts.{AppendsText-nil, PutSoFar, goes_on, is_all, stops, flat_map-at, flat_map-past}
 use Rattle.report.proofs.Clearings.{clearings_so_far, no_more_clearings}
 use Rattle.report.proofs.writing.put_entries.Goals as goal
-use Rattle.report.proofs.writing.put_entries.Goals.{then-remaining_capacity-lt5+in_ok-put_all, else-remaining_capacity-lt5}
+use Rattle.report.proofs.writing.put_entries.Goals.{then-remaining_capacity-lt5+in_ok-put_all, else-remaining_capacity-lt5, in-Step, in-Clearing+in_ok-put_after-in-Clearing}
 
 -- the words from an entry on
 from_here : (entries : List Entry) (i : ℕ) (e : Entry) → slice_get entries i ≡ Some e → spelled_entries (drop i entries) ≡ (codes " " ++ entry_text e) ++ spelled_entries (drop (i + 1) entries)
@@ -57,51 +58,65 @@ returns-in_err-put_all g c =
     let p = err_from_is_err_and c.from_residual.result c.from_residual.ensures.1 in
     rw p.1 (stops _ _ _ _ _ c.loop-place.text.items (spelled_entries (drop c.loop-place.place (g.E.Entries.entries c.args.entries.now))) c.loop-place.invariant.so_far refl (rw c.as_slice.ensures.value at c.in_err-put_all.ensures))
 
--- what was put by then, before the entry
+-- what was put before the entry
 pub loop-place-preserved : goal.loop-place-preserved
 loop-place-preserved g c =
     let w = g.S.Sink.written in
-    let rest : List ℕ = spelled_entries (drop c.loop-place.place (g.E.Entries.entries c.args.entries.now)) in
-    let so_far : PutSoFar (w c.args.sink.now) (w c.if-remaining_capacity-lt5.sink) (spelled_entries (g.E.Entries.entries c.args.entries.now)) (c.if-remaining_capacity-lt5.text.items ++ rest) =
+    let entries = g.E.Entries.entries c.args.entries.now in
+    let e = entry_shown c.entry.result in
+    let text : List ℕ = c.if-remaining_capacity-lt5.text.items in
+    let rest : List ℕ = spelled_entries (drop c.loop-place.place entries) in
+    let so_far : PutSoFar (w c.args.sink.now) (w c.if-remaining_capacity-lt5.sink) (spelled_entries entries) (text ++ rest) =
     elim c.if-remaining_capacity-lt5.branch [
       | then-remaining_capacity-lt5+in_ok-put_all v ↦
-          rw (v.sink-is, v.text-is) (put_on (w c.args.sink.now) (w c.loop-place.sink) (w v.put_all.new.sink) (spelled_entries (g.E.Entries.entries c.args.entries.now)) c.loop-place.text.items rest v.clear.new.self.items
+          rw (v.sink-is, v.text-is) (put_on (w c.args.sink.now) (w c.loop-place.sink) (w v.put_all.new.sink) (spelled_entries entries) c.loop-place.text.items rest v.clear.new.self.items
           c.loop-place.invariant.so_far (rw v.as_slice.ensures.value at v.in_ok-put_all.ensures) v.clear.ensures)
       | else-remaining_capacity-lt5 v ↦ rw (v.sink-is, v.text-is) c.loop-place.invariant.so_far
     ] in
-    let more = clearings_so_far (g.E.Entries.entries c.args.entries.now) c.loop-place.place (entry_shown c.entry-shown.result) c.entry-shown.ensures in
+    let more = clearings_so_far entries c.loop-place.place e c.entry.ensures in
     record {
-      before = omega (arith, more, c.loop-place.invariant.before, c.clearings-clearings.ensures);
-      so_far =
-          gathers (w c.args.sink.now) (w c.if-remaining_capacity-lt5.sink) (w c.put_entry.new.sink) (g.E.Entries.entries c.args.entries.now) c.loop-place.place (entry_shown c.entry-shown.result) c.if-remaining_capacity-lt5.text.items c.put_entry.new.text.items c.entry-shown.ensures so_far c.in_ok-put_entry.ensures;
+      before = elim c.match-entry.branch [
+        | in-Step v ↦
+            let none : clearings_in (e ∷ []) ≡ 0 = ap (λ (x : ShownEntry). clearings_in (entry_shown x ∷ [])) v.in-Step.is in
+            rw v.clearings-is (omega (arith, more, c.loop-place.invariant.before, none))
+        | in-Clearing+in_ok-put_after-in-Clearing v ↦
+            let one : clearings_in (e ∷ []) ≡ 1 = ap (λ (x : ShownEntry). clearings_in (entry_shown x ∷ [])) v.in-Clearing.is in
+            rw v.clearings-is (omega (arith, more, c.loop-place.invariant.before, one))
+      ];
+      so_far = elim c.match-entry.branch [
+        | in-Step v ↦
+            rw (v.sink-is, v.text-is) (gathers (w c.args.sink.now) (w c.if-remaining_capacity-lt5.sink) (w c.if-remaining_capacity-lt5.sink) entries c.loop-place.place e text v.push_step.new.text.items c.entry.ensures so_far (record {
+              part = [];
+              put = AppendsText-nil (w c.if-remaining_capacity-lt5.sink);
+              rest = v.push_step.ensures ∙ ap (λ (x : ShownEntry). text ++ (codes " " ++ entry_text (entry_shown x))) (sym v.in-Step.is);
+            }))
+        | in-Clearing+in_ok-put_after-in-Clearing v ↦
+            rw (v.sink-is, v.text-is) (gathers (w c.args.sink.now) (w c.if-remaining_capacity-lt5.sink) (w v.put_after.new.sink) entries c.loop-place.place e text v.put_after.new.text.items c.entry.ensures so_far
+            (subst (λ (x : ShownEntry). IsGathered (w c.if-remaining_capacity-lt5.sink) (w v.put_after.new.sink) text v.put_after.new.text.items (codes " " ++ entry_text (entry_shown x))) (sym v.in-Clearing.is) v.in_ok-put_after-in-Clearing.ensures))
+      ];
     }
 
-pub returns-in_err-put_entry : goal.returns-in_err-put_entry
-returns-in_err-put_entry g c =
+pub returns-in_err-put_after-in-Clearing : goal.returns-in_err-put_after-in-Clearing
+returns-in_err-put_after-in-Clearing g c =
     let w = g.S.Sink.written in
-    let p = err_from_is_err_and c.from_residual-in_err-put_entry.result c.from_residual-in_err-put_entry.ensures.1 in
-    let rest : List ℕ = spelled_entries (drop c.loop-place.place (g.E.Entries.entries c.args.entries.now)) in
-    let so_far : PutSoFar (w c.args.sink.now) (w c.if-remaining_capacity-lt5.sink) (spelled_entries (g.E.Entries.entries c.args.entries.now)) (c.if-remaining_capacity-lt5.text.items ++ rest) =
+    let entries = g.E.Entries.entries c.args.entries.now in
+    let e = entry_shown c.entry.result in
+    let text : List ℕ = c.if-remaining_capacity-lt5.text.items in
+    let p = err_from_is_err_and c.from_residual-in_err-put_after-in-Clearing.result c.from_residual-in_err-put_after-in-Clearing.ensures.1 in
+    let rest : List ℕ = spelled_entries (drop c.loop-place.place entries) in
+    let so_far : PutSoFar (w c.args.sink.now) (w c.if-remaining_capacity-lt5.sink) (spelled_entries entries) (text ++ rest) =
     elim c.if-remaining_capacity-lt5.branch [
       | then-remaining_capacity-lt5+in_ok-put_all v ↦
-          rw (v.sink-is, v.text-is) (put_on (w c.args.sink.now) (w c.loop-place.sink) (w v.put_all.new.sink) (spelled_entries (g.E.Entries.entries c.args.entries.now)) c.loop-place.text.items rest v.clear.new.self.items
+          rw (v.sink-is, v.text-is) (put_on (w c.args.sink.now) (w c.loop-place.sink) (w v.put_all.new.sink) (spelled_entries entries) c.loop-place.text.items rest v.clear.new.self.items
           c.loop-place.invariant.so_far (rw v.as_slice.ensures.value at v.in_ok-put_all.ensures) v.clear.ensures)
       | else-remaining_capacity-lt5 v ↦ rw (v.sink-is, v.text-is) c.loop-place.invariant.so_far
     ] in
-    rw p.1 (gathers_not (w c.args.sink.now) (w c.if-remaining_capacity-lt5.sink) (w c.put_entry.new.sink) (g.E.Entries.entries c.args.entries.now) c.loop-place.place (entry_shown c.entry-shown.result) c.if-remaining_capacity-lt5.text.items c.entry-shown.ensures so_far c.in_err-put_entry.ensures)
+    rw p.1 (gathers_not (w c.args.sink.now) (w c.if-remaining_capacity-lt5.sink) (w c.put_after.new.sink) entries c.loop-place.place e text c.entry.ensures so_far
+    (subst (λ (x : ShownEntry). StopsWithin (w c.if-remaining_capacity-lt5.sink) (w c.put_after.new.sink) (text ++ (codes " " ++ entry_text (entry_shown x)))) (sym c.in-Clearing.is) c.in_err-put_after-in-Clearing.ensures))
 
 pub overflow_add-clearings : goal.overflow_add-clearings
 overflow_add-clearings g c =
-    let entries = g.E.Entries.entries c.args.entries.now in
-    omega (
-      arith,
-      clearings_so_far entries c.loop-place.place (entry_shown c.entry-shown.result) c.entry-shown.ensures,
-      no_more_clearings entries (c.loop-place.place + 1),
-      c.loop-place.invariant.before,
-      c.clearings-clearings.ensures,
-      c.loop-place-test.true,
-      c.len-place-end.type_inv,
-    )
+    omega (arith, no_more_clearings (g.E.Entries.entries c.args.entries.now) c.loop-place.place, c.loop-place.invariant.before, c.loop-place-test.true, c.len-place-end.type_inv)
 
 pub returns : goal.returns
 returns g c =
