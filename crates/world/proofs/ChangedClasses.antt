@@ -2,11 +2,12 @@
 use Rattle.std.proofs.Common.{◌≡◌, ℕ, zero, suc, ◌+◌, ◌<◌, ◌≤◌, Bool, true, false, cond, [], ◌∷◌, length, map, Some, refl, sym, ap, ◌∙◌, arith, sum_by}
 use Rattle.std.specs.Prelude.{◌==◌, slice_get}
 use Rattle.std.specs.List.{enumerate_from}
+use Rattle.std.proofs.lemmas.Bool.{eqb-true}
 use Rattle.std.proofs.lemmas.List.Sums.{sum_by-cons}
 use Rattle.std.proofs.lemmas.Bool.Decides.{nat_tests}
 use Rattle.class_rules.specs.Additions.{with_changed_class}
 use Rattle.class_rules.specs.Class.{Class, Classes, class_at}
-use Rattle.world_lines.proofs.Tests.{other_number, later_number, same_number}
+use Rattle.world_lines.proofs.Tests.{other_number, later_number}
 
 module _ (change : Class → Class) (number : ℕ) where
   abbrev pub changed : ℕ → Classes → Classes
@@ -44,7 +45,7 @@ module _ (change : Class → Class) (number : ℕ) where
     sum_from more adds n (d ∷ ds) low high = by_test (n == number) refl (λ other. sum_from more adds (n + 1) ds (omega (arith, other)) (omega (arith, high)))
       where
         by_test : (b : Bool) → (n == number) ≡ b → (n < number → sum_by f (changed (n + 1) ds) ≡ sum_by f ds + more) → sum_by f (cond b (change d) d ∷ changed (n + 1) ds) ≡ sum_by f (d ∷ ds) + more
-        by_test true e further = omega (arith, sum_by-cons f (change d) (changed (n + 1) ds), sum_by-cons f d ds, adds d, sum_after (n + 1) ds (omega (arith, same_number n number e)))
+        by_test true e further = omega (arith, sum_by-cons f (change d) (changed (n + 1) ds), sum_by-cons f d ds, adds d, sum_after (n + 1) ds (omega (arith, eqb-true n number e)))
         by_test false e further =
             let other : n < number = grind (arith, nat_tests, e, low) in
             omega (arith, sum_by-cons f d (changed (n + 1) ds), sum_by-cons f d ds, further other)

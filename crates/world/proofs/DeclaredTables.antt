@@ -4,8 +4,10 @@ use Rattle.std.specs.Prelude.{not, ◌&&◌, ◌||◌, ◌==◌, is_some, nat_lt
 use Rattle.std.specs.List.{list_any, list_all, enumerate_from}
 use Rattle.std.specs.Option.{option_map_or}
 use Rattle.std.specs.Str.{bytes_eq}
+use Rattle.std.proofs.lemmas.Bool.{and_parts, or_parts, ltb-true}
 use Rattle.std.proofs.lemmas.Bool.Decides.{nat_tests}
 use Rattle.std.proofs.lemmas.List.Folds.{list_any-append}
+use Rattle.std.proofs.lemmas.Slice.Eq.{bytes_eq-Decides}
 use Rattle.base.specs.Bytes.{Identifier}
 use Rattle.base.specs.Element.{JInt}
 use Rattle.base.specs.Options.{some_passes}
@@ -14,14 +16,16 @@ use Rattle.class_rules.specs.BuiltIns.{built_ins, class_class, string_class, thr
 use Rattle.class_rules.specs.Class.{Field, FieldType, NumberField, ReferenceField, Plain, ArrayOfObjects, Class, Classes, class_at, class_named, class_kind, is_plain, superclass, above, ancestry_within, array_name, array_class_of}
 use Rattle.class_rules.specs.Fields.{FieldId, own_fields, own_statics, signature, field_types, type_of_signature}
 use Rattle.class_rules.specs.Mangling.{is_class_name}
+use Rattle.class_rules.proofs.GrownTables.{get_cases}
 use Rattle.world_values.specs.DeclaredFields.{IsDeclared, DeclaresWell}
 use Rattle.world_values.specs.WorldLines.{WorldLine, MethodsLine, ClassLine, FieldLine, StaticLine, ObjectLine, ObjectsLine, ArrayLine, StringLine, ThreadLine, CallLine}
 use Rattle.world_values.specs.WorldMeaning.{class_number, superclass_number, field_of, table_with}
 use Rattle.world_values.specs.WorldRules.{is_well_formed, is_world_class, is_class_allowed, breaks_class_rule}
-use Rattle.world_lines.proofs.Tests.{both, neither, less, are_same_bytes, bytes_eq-sym}
+use Rattle.world_values.proofs.LoadedWorlds.{passes_at, map_get}
 use Rattle.world.proofs.ChangedClasses.{changed}
 use Rattle.world.proofs.KeptBuiltIns.{KeepsBuiltIns}
 use Rattle.world.proofs.WorldTables.{IsWorldTable, named_kept, named_after, not_named, changed_named}
+use Rattle.classes.proofs.Places.{same_bytes}
 
 -- ---- one class
 
@@ -72,7 +76,7 @@ is_simple d = has_one d.fields && has_none d.statics && (is_plain d.kind || (has
 
 low_type : (t : FieldType) → is_low t ≡ true → (c : ℕ) → t ≡ ReferenceField c → 0 < c
 low_type (NumberField t) h c e = absurd (cc)
-low_type (ReferenceField k) h c e = let same : k ≡ c = cc in subst (λ (n : ℕ). 0 < n) same (less 0 k h)
+low_type (ReferenceField k) h c e = let same : k ≡ c = cc in subst (λ (n : ℕ). 0 < n) same (ltb-true 0 k h)
 
 one_once : (fields : List Field) → has_one fields ≡ true → NamedOnce fields
 one_once [] h i j f g e k q = absurd (cc)
@@ -101,8 +105,8 @@ below_root (Some s) h = ap Some (grind (arith, nat_tests, h))
 
 simple_right : (d : Class) → is_simple d ≡ true → DeclaresRight d
 simple_right d h =
-    let a = both (has_one d.fields && has_none d.statics) (is_plain d.kind || (has_none d.fields && is_below_root d.superclass)) h in
-    let b = both (has_one d.fields) (has_none d.statics) a.0 in
+    let a = and_parts (has_one d.fields && has_none d.statics) (is_plain d.kind || (has_none d.fields && is_below_root d.superclass)) h in
+    let b = and_parts (has_one d.fields) (has_none d.statics) a.0 in
     record {
       fields_once = one_once d.fields b.0;
       statics_once = one_once d.statics (none_one d.statics b.1);
@@ -110,16 +114,11 @@ simple_right d h =
       statics_of_classes = one_of_classes d.statics (none_one d.statics b.1);
       arrays_bare = λ e.
           let c : (has_none d.fields && is_below_root d.superclass) ≡ true = ap (λ (p : Bool). p || (has_none d.fields && is_below_root d.superclass)) (sym e) ∙ a.1 in
-          let k = both (has_none d.fields) (is_below_root d.superclass) c in
+          let k = and_parts (has_none d.fields) (is_below_root d.superclass) c in
           (none_empty d.fields k.0, below_root d.superclass k.1);
     }
 
 -- ---- the built-in classes
-
-all_at : {X : Type 0} (p : X → Bool) (xs : List X) (i : ℕ) (x : X) → list_all p xs ≡ true → slice_get xs i ≡ Some x → p x ≡ true
-all_at p [] i x h e = absurd (cc)
-all_at p (y ∷ ys) zero x h e = let is : y ≡ x = cc in ap p (sym is) ∙ (both (p y) (list_all p ys) h).0
-all_at p (y ∷ ys) (suc i) x h e = all_at p ys i x (both (p y) (list_all p ys) h).1 e
 
 built_ins_simple : list_all is_simple built_ins ≡ true
 unfolding built_ins
@@ -147,14 +146,14 @@ found_at T n [] i d h e = absurd (cc)
 found_at T n (x ∷ ds) zero d h e =
     let is : x ≡ d = cc in
     let number : n ≡ n + 0 = omega arith in
-    ap (λ (y : Class). class_named T y.name) (sym is) ∙ number_is n (class_named T x.name) (both (is_number n (class_named T x.name)) (are_found T (n + 1) ds) h).0 ∙ ap Some number
+    ap (λ (y : Class). class_named T y.name) (sym is) ∙ number_is n (class_named T x.name) (and_parts (is_number n (class_named T x.name)) (are_found T (n + 1) ds) h).0 ∙ ap Some number
 found_at T n (x ∷ ds) (suc i) d h e =
     let number : (n + 1) + i ≡ n + suc i = omega arith in
-    found_at T (n + 1) ds i d (both (is_number n (class_named T x.name)) (are_found T (n + 1) ds) h).1 e ∙ ap Some number
+    found_at T (n + 1) ds i d (and_parts (is_number n (class_named T x.name)) (are_found T (n + 1) ds) h).1 e ∙ ap Some number
 
 built_ins_each : (c : ℕ) (d : Class) → class_at built_ins c ≡ Some d → DeclaresRight d
 built_ins_each zero d e = absurd (cc)
-built_ins_each (suc i) d e = simple_right d (all_at is_simple built_ins i d built_ins_simple e)
+built_ins_each (suc i) d e = simple_right d (passes_at is_simple built_ins i d built_ins_simple e)
 
 built_ins_names : (c : ℕ) (d : Class) → class_at built_ins c ≡ Some d → class_named built_ins d.name ≡ Some c
 built_ins_names zero d e = absurd (cc)
@@ -164,11 +163,6 @@ pub built_ins_declare : Declares built_ins
 built_ins_declare = record { each = built_ins_each; names = built_ins_names }
 
 -- ---- one more class
-
-get_cases : (T X : Classes) (i : ℕ) (d : Class) → slice_get (T ++ X) i ≡ Some d → (slice_get T i ≡ Some d) ⊎ ((j : ℕ) × (slice_get X j ≡ Some d) × (i ≡ length T + j))
-get_cases [] X i d h = inr (i, h, omega arith)
-get_cases (x ∷ T) X zero d h = inl h
-get_cases (x ∷ T) X (suc i) d h = elim (get_cases T X i d h) [ inl e ↦ inl e | inr q ↦ inr (q.0, q.1, omega (arith, q.2)) ]
 
 module _ (T : Classes) (name : Identifier) (s : ℕ) (t : IsWorldTable T) (h : Declares T) (fresh : class_named T name ≡ None) (formed : is_class_name name ≡ true) where
   abbrev new : Class
@@ -188,14 +182,14 @@ module _ (T : Classes) (name : Identifier) (s : ℕ) (t : IsWorldTable T) (h : D
       let number : length T + 1 ≡ suc (length T + 0) = omega arith in
       ap (λ (y : Class). class_named (T ++ added) y.name) (sym is)
       ∙ named_after T name (Some s) t fresh formed name fresh
-      ∙ ap (λ (b : Bool). cond b (Some (length T + 1)) (cond (bytes_eq (array_name name) name) (Some (length T + 2)) None)) (are_same_bytes name name refl)
+      ∙ ap (λ (b : Bool). cond b (Some (length T + 1)) (cond (bytes_eq (array_name name) name) (Some (length T + 2)) None)) ((bytes_eq-Decides name name).1 refl)
       ∙ ap Some number
   added_names (suc zero) d e =
       let is : object_array_class (length T + 1, new) ≡ d = cc in
       let number : length T + 2 ≡ suc (length T + 1) = omega arith in
       ap (λ (y : Class). class_named (T ++ added) y.name) (sym is)
       ∙ named_after T name (Some s) t fresh formed (array_name name) (t.elements name fresh)
-      ∙ (λ i. cond (not_named T name (Some s) t fresh formed name i) (Some (length T + 1)) (cond (are_same_bytes (array_name name) (array_name name) refl i) (Some (length T + 2)) None))
+      ∙ (λ i. cond (not_named T name (Some s) t fresh formed name i) (Some (length T + 1)) (cond ((bytes_eq-Decides (array_name name) (array_name name)).1 refl i) (Some (length T + 2)) None))
       ∙ ap Some number
   added_names (suc (suc j)) d e = absurd (cc)
 
@@ -223,8 +217,8 @@ get_last (z ∷ xs) y x (suc i) h = get_last xs y x i h
 
 none_named : (fields : List Field) (name : Identifier) (i : ℕ) (f : Field) → list_any (λ (f : Field). bytes_eq f.name name) fields ≡ false → slice_get fields i ≡ Some f → bytes_eq f.name name ≡ false
 none_named [] name i f h e = absurd (cc)
-none_named (x ∷ fields) name zero f h e = let is : x ≡ f = cc in ap (λ (y : Field). bytes_eq y.name name) (sym is) ∙ (neither (bytes_eq x.name name) (list_any (λ (f : Field). bytes_eq f.name name) fields) h).0
-none_named (x ∷ fields) name (suc i) f h e = none_named fields name i f (neither (bytes_eq x.name name) (list_any (λ (f : Field). bytes_eq f.name name) fields) h).1 e
+none_named (x ∷ fields) name zero f h e = let is : x ≡ f = cc in ap (λ (y : Field). bytes_eq y.name name) (sym is) ∙ (or_parts (bytes_eq x.name name) (list_any (λ (f : Field). bytes_eq f.name name) fields) h).0
+none_named (x ∷ fields) name (suc i) f h e = none_named fields name i f (or_parts (bytes_eq x.name name) (list_any (λ (f : Field). bytes_eq f.name name) fields) h).1 e
 
 once_more : (fields : List Field) (new : Field) → NamedOnce fields → list_any (λ (f : Field). bytes_eq f.name new.name) fields ≡ false → NamedOnce (fields ++ new ∷ [])
 once_more fields new h none i j f g e k q = elim (get_last fields new f i e) [
@@ -233,7 +227,7 @@ once_more fields new h none i j f g e k q = elim (get_last fields new f i e) [
     | inr b ↦ absurd (let no = none_named fields new.name i f none a in let yes : bytes_eq f.name new.name ≡ true = ap (λ (y : Field). bytes_eq f.name y.name) b ∙ q in let clash : true ≡ false = sym yes ∙ no in cc)
   ]
   | inr a ↦ elim (get_last fields new g j k) [
-    | inl b ↦ absurd (let no = none_named fields new.name j g none b in let yes : bytes_eq g.name new.name ≡ true = bytes_eq-sym g.name new.name ∙ ap (λ (y : Field). bytes_eq y.name g.name) a ∙ q in let clash : true ≡ false = sym yes ∙ no in cc)
+    | inl b ↦ absurd (let no = none_named fields new.name j g none b in let yes : bytes_eq g.name new.name ≡ true = same_bytes g.name new.name ∙ ap (λ (y : Field). bytes_eq y.name g.name) a ∙ q in let clash : true ≡ false = sym yes ∙ no in cc)
     | inr b ↦ sym a ∙ b
   ]
 ]
@@ -244,10 +238,10 @@ of_classes_more fields new h n i f e = elim (get_last fields new f i e) [ inl a 
 -- the type of a signature is of a class
 found_low : (p : FieldType → Bool) (types : List FieldType) (t : FieldType) → list_all is_low types ≡ true → find p types ≡ Some t → is_low t ≡ true
 found_low p [] t h e = absurd (cc)
-found_low p (x ∷ types) t h e = by_test (p x) e (found_low p types t (both (is_low x) (list_all is_low types) h).1)
+found_low p (x ∷ types) t h e = by_test (p x) e (found_low p types t (and_parts (is_low x) (list_all is_low types) h).1)
   where
     by_test : (b : Bool) → cond b (Some x) (find p types) ≡ Some t → (find p types ≡ Some t → is_low t ≡ true) → is_low t ≡ true
-    by_test true e later = let is : x ≡ t = cc in ap is_low (sym is) ∙ (both (is_low x) (list_all is_low types) h).0
+    by_test true e later = let is : x ≡ t = cc in ap is_low (sym is) ∙ (and_parts (is_low x) (list_all is_low types) h).0
     by_test false e later = later e
 
 references_low : (n : ℕ) (T : Classes) → 0 < n → list_all is_low (map (λ (c : ℕ × Class). ReferenceField c.0) (enumerate_from n T)) ≡ true
@@ -303,7 +297,7 @@ plain_there methods T name d h e = by_value (class_named T name) h e
   where
     by_value : (o : Option ℕ) → some_passes (λ c. nat_lt (built_in_count methods) c && is_plain (class_kind T c)) o ≡ true → class_at T (unwrap_or o 0) ≡ Some d → is_plain d.kind ≡ true
     by_value None h e = absurd (cc)
-    by_value (Some c) h e = ap (λ (o : Option Class). is_plain (option_map_or (λ (d : Class). d.kind) o Plain)) (sym e) ∙ (both (nat_lt (built_in_count methods) c) (is_plain (class_kind T c)) h).1
+    by_value (Some c) h e = ap (λ (o : Option Class). is_plain (option_map_or (λ (d : Class). d.kind) o Plain)) (sym e) ∙ (and_parts (nat_lt (built_in_count methods) c) (is_plain (class_kind T c)) h).1
 
 -- no field of a class has the name of a new one
 not_declared : (T : Classes) (class name : Identifier) (d : Class) → list_any (λ (f : Field). bytes_eq f.name name) (declared_fields T (class_named T class)) ≡ false → is_some (class_named T class) ≡ true → class_at T (class_number T class) ≡ Some d
@@ -314,7 +308,7 @@ not_declared T class name d h there e = by_value (class_named T class) h there e
         → (list_any (λ (f : Field). bytes_eq f.name name) d.fields ≡ false) × (list_any (λ (f : Field). bytes_eq f.name name) d.statics ≡ false)
     by_value None h there e = absurd (cc)
     by_value (Some c) h there e =
-        neither (list_any (λ (f : Field). bytes_eq f.name name) d.fields) (list_any (λ (f : Field). bytes_eq f.name name) d.statics)
+        or_parts (list_any (λ (f : Field). bytes_eq f.name name) d.fields) (list_any (λ (f : Field). bytes_eq f.name name) d.statics)
         (sym (list_any-append (λ (f : Field). bytes_eq f.name name) d.fields d.statics)
         ∙ ap (λ (o : Option Class). list_any (λ (f : Field). bytes_eq f.name name) (option_map_or (λ (d : Class). d.fields ++ d.statics) o [])) (sym e) ∙ h)
 
@@ -322,7 +316,7 @@ passes_some : {A : Type 0} (p : A → Bool) (o : Option A) → some_passes p o �
 passes_some p None h = absurd (cc)
 passes_some p (Some x) h = refl
 
-no_value : {A : Type 0} (o : Option A) → is_some o ≡ false → o ≡ None
+pub no_value : {A : Type 0} (o : Option A) → is_some o ≡ false → o ≡ None
 no_value None h = refl
 no_value (Some x) h = absurd (cc)
 
@@ -363,11 +357,6 @@ module _ (T : Classes) (t : IsWorldTable T) (h : Declares T) where
   line_declares methods (CallLine function arguments) rules well allowed = h
 
 -- ---- what it comes to
-
-map_get : {A B : Type 0} (g : A → B) (xs : List A) (i : ℕ) (y : B) → slice_get (map g xs) i ≡ Some y → (x : A) × (slice_get xs i ≡ Some x) × (g x ≡ y)
-map_get g [] i y h = absurd (cc)
-map_get g (x ∷ xs) zero y h = (x, refl, cc)
-map_get g (x ∷ xs) (suc i) y h = map_get g xs i y h
 
 -- the class that declares a field
 record IsIn (T : Classes) (f : FieldId) (fields : Class → List Field) : Type 0 where

@@ -3,7 +3,7 @@ use Rattle.std.proofs.Common.{◌≡◌, ℕ, zero, suc, ◌+◌, ◌<◌, ◌�
 use Rattle.std.specs.Prelude.{not, ◌&&◌, ◌||◌, ◌==◌, nat_lt, nat_le, filter_map, bytes_eq, slice_get, pos, unwrap_or, IsTrue}
 use Rattle.std.specs.Option.{option_map, option_map_or}
 use Rattle.std.specs.List.{cons_option, list_all, enumerate_from, AllZip}
-use Rattle.std.proofs.lemmas.Bool.{and_from}
+use Rattle.std.proofs.lemmas.Bool.{and_from, and_parts, or_parts, not-false, lt-ltb, eqb-true, le-leb, leb-true}
 use Rattle.std.proofs.lemmas.Option.{slice_get_within}
 use Rattle.base.specs.Bytes.{Identifier, ByName, lookup, is_from_to}
 use Rattle.base.specs.Options.{some_passes}
@@ -11,7 +11,7 @@ use Rattle.base.specs.Element.{ElementType, JInt, JShort, JByte, JChar}
 use Rattle.class_rules.specs.BuiltIns.{built_ins, class_class, string_class, out_of_memory_error, number_array}
 use Rattle.class_rules.specs.Class.{FieldType, NumberField, ReferenceField, ClassKind, Plain, ArrayOfNumbers, ArrayOfObjects, Class, Classes, class_kind, class_named, is_plain, array_name, assignable}
 use Rattle.class_rules.specs.Mangling.{is_simple_name}
-use Rattle.classes.proofs.Layouts.{get-front}
+use Rattle.class_rules.proofs.Unescaping.{some_of}
 use Rattle.semantics.proofs.ShownRows.{length-before}
 use Rattle.semantics.specs.Heap.{class_of, is_instance}
 use Rattle.semantics.specs.Object.{ObjectValue, Refers, Object}
@@ -21,12 +21,13 @@ use Rattle.world_values.specs.SoundWorlds.{types_by_kind, value_fits, IsObjectAf
 use Rattle.world_values.specs.WorldLines.{WorldValue, NumberValue, NullValue, NamedObject, NamedClass, WorldLine, MethodsLine, ClassLine, FieldLine, StaticLine, ObjectLine, ObjectsLine, ArrayLine, StringLine, ThreadLine, CallLine, Lines}
 use Rattle.world_values.specs.WorldMeaning.{class_number, table_of, object_defined, objects_defined, class_of_object, value_of, values_of_line, object_of}
 use Rattle.world_values.specs.WorldRules.{is_object_class, layout_types, is_known_value, holds_value, each_holds, value_in_range, each_in_range}
+use Rattle.world_values.proofs.LoadedWorlds.{get_front, map_get}
 use Rattle.world.proofs.GrownClasses.{named_open}
 use Rattle.world.proofs.GrownLines.{objects_of, is_called}
 use Rattle.world.proofs.KeptLines.{IsKept}
 use Rattle.world.proofs.Places.{found, position-found}
-use Rattle.world_lines.proofs.Tests.{both, neither, not_false, there, at_most, at_most_so, less_so, same_number, bytes_eq-sym}
 use Rattle.world.proofs.WorldTables.{IsWorldTable, named, get_seam}
+use Rattle.classes.proofs.Places.{same_bytes}
 
 -- ---- places
 
@@ -42,7 +43,7 @@ pub record IsPlaced (x : Identifier) (os : ByName ℕ) (c : ℕ) : Type 0 where
 
 pub looked_up : (x : Identifier) (os : ByName ℕ) (c : ℕ) → lookup x os ≡ Some c → IsPlaced x os c
 looked_up x [] c h = absurd (cc)
-looked_up x ((y, v) ∷ os) c h = by_test (bytes_eq x y) (sym (bytes_eq-sym x y)) h (looked_up x os c)
+looked_up x ((y, v) ∷ os) c h = by_test (bytes_eq x y) (sym (same_bytes x y)) h (looked_up x os c)
   where
     by_test : (b : Bool) → bytes_eq y x ≡ b → cond b (Some v) (lookup x os) ≡ Some c → (lookup x os ≡ Some c → IsPlaced x os c) → IsPlaced x ((y, v) ∷ os) c
     by_test true e k further = record { place = 0; is = ap (λ b. cond b (Some 0) (option_map (λ (i : ℕ). suc i) (found (is_called x) os))) e; class = k }
@@ -53,14 +54,6 @@ looked_up x ((y, v) ∷ os) c h = by_test (bytes_eq x y) (sym (bytes_eq-sym x y)
           is = ap (λ b. cond b (Some 0) (option_map (λ (i : ℕ). suc i) (found (is_called x) os))) e ∙ ap (option_map (λ (i : ℕ). suc i)) p.is;
           class = p.class;
         }
-
-get_mapped : {A B : Type 0} (f : A → B) (xs : List A) (i : ℕ) (y : B) → slice_get (map f xs) i ≡ Some y → (x : A) × (slice_get xs i ≡ Some x) × (f x ≡ y)
-get_mapped f [] i y h = absurd (cc)
-get_mapped f (x ∷ xs) zero y h = (x, refl, cc)
-get_mapped f (x ∷ xs) (suc i) y h = get_mapped f xs i y h
-
-get_front : {A : Type 0} (xs ys : List A) (i : ℕ) (x : A) → slice_get xs i ≡ Some x → slice_get (xs ++ ys) i ≡ Some x
-get_front xs ys i x h = get-front xs ys i (slice_get_within xs i x h) ∙ h
 
 -- the classes of the objects are those that were said
 pub same_classes : (L lines : Lines) → map (λ (o : Object). o.class) (filter_map (λ (l : ℕ × WorldLine). object_of L l.1) lines) ≡ map (λ (o : Identifier × ℕ). o.1) (filter_map (λ (l : ℕ × WorldLine). object_defined (table_of L) l.1) lines)
@@ -132,7 +125,7 @@ module _ (L : Lines) where
 
   class_of_made : (i c : ℕ) → slice_get (map (λ (o : Identifier × ℕ). o.1) (objects_defined L)) i ≡ Some c → (i < length (objects_of L)) × (class_of made (length T + 2 + i) ≡ c)
   class_of_made i c h =
-      let o = get_mapped (λ (o : Object). o.class) (objects_of L) i c (ap (λ cs. slice_get cs i) (same_classes L L) ∙ h) in
+      let o = map_get (λ (o : Object). o.class) (objects_of L) i c (ap (λ cs. slice_get cs i) (same_classes L L) ∙ h) in
       let number : length T + 2 + i ≡ suc (length (made_before T) + i) = omega (arith, length-before T) in
       (slice_get_within (objects_of L) i o.0 o.1, ap (class_of made) number ∙ ap class_in (get_seam (made_before T) (objects_of L) i ∙ o.1) ∙ o.2)
 
@@ -146,7 +139,7 @@ module _ (L : Lines) where
 
   pub object_refers : (x : Identifier) → is_known_value L (NamedObject x) ≡ true → Refers_to (NamedObject x) (unwrap_or (class_of_object L x) 0)
   object_refers x h =
-      let c = there (class_of_object L x) h in
+      let c = some_of (class_of_object L x) h in
       let p = looked_up x (objects_defined L) c.0 c.1 in
       let of = class_of_made p.place c.0 p.class in
       record {
@@ -159,7 +152,7 @@ module _ (L : Lines) where
 
   pub class_refers : (name : Identifier) → is_known_value L (NamedClass name) ≡ true → Refers_to (NamedClass name) class_class
   class_refers name h =
-      let c = there (class_named T name) h in
+      let c = some_of (class_named T name) h in
       let is = named T name c.0 c.1 in
       record {
         number = c.0;
@@ -172,7 +165,7 @@ module _ (L : Lines) where
   -- ---- arguments
 
   refers_argument : (v : WorldValue) (class : ℕ) → Refers_to v class → is_argument (length made) (value_of L v) ≡ true
-  refers_argument v class r = ap (is_argument (length made)) r.is ∙ and_from (nat_lt 0 r.number) (nat_le r.number (length made)) (less_so 0 r.number r.low) (at_most_so r.number (length made) r.high)
+  refers_argument v class r = ap (is_argument (length made)) r.is ∙ and_from (nat_lt 0 r.number) (nat_le r.number (length made)) (lt-ltb 0 r.number r.low) (le-leb r.number (length made) r.high)
 
   pub is_given : (v : WorldValue) → is_known_value L v ≡ true → value_in_range JInt v ≡ true → is_argument (length made) (value_of L v) ≡ true
   is_given (NumberValue z) h range = range
@@ -183,8 +176,8 @@ module _ (L : Lines) where
   pub are_given : (vs : List WorldValue) → list_all (is_known_value L) vs ≡ true → list_all (value_in_range JInt) vs ≡ true → list_all (is_argument (length made)) (map (value_of L) vs) ≡ true
   are_given [] h range = refl
   are_given (v ∷ vs) h range =
-      let k = both (is_known_value L v) (list_all (is_known_value L) vs) h in
-      let r = both (value_in_range JInt v) (list_all (value_in_range JInt) vs) range in
+      let k = and_parts (is_known_value L v) (list_all (is_known_value L) vs) h in
+      let r = and_parts (value_in_range JInt v) (list_all (value_in_range JInt) vs) range in
       and_from (is_argument (length made) (value_of L v)) (list_all (is_argument (length made)) (map (value_of L) vs)) (is_given v k.0 r.0) (are_given vs k.1 r.1)
 
   -- ---- values
@@ -193,7 +186,7 @@ module _ (L : Lines) where
   refers_fits v class c r h =
       ap (value_fits T made (ReferenceField c)) r.is
       ∙ and_from (nat_lt 0 r.number && nat_le r.number (length made)) (is_instance T made r.number c)
-      (and_from (nat_lt 0 r.number) (nat_le r.number (length made)) (less_so 0 r.number r.low) (at_most_so r.number (length made) r.high))
+      (and_from (nat_lt 0 r.number) (nat_le r.number (length made)) (lt-ltb 0 r.number r.low) (le-leb r.number (length made) r.high))
       (ap (λ k. assignable T k c) r.of_class ∙ h)
 
   -- the range that a type asks of a value
@@ -212,7 +205,7 @@ module _ (L : Lines) where
   value_fitting (ReferenceField c) (NamedClass name) known holds range = refers_fits (NamedClass name) _ c (class_refers name known) holds
 
   first_range : (t : FieldType) (types : List FieldType) (v : WorldValue) (vs : List WorldValue) → each_in_range (t ∷ types) (v ∷ vs) ≡ true → (in_range t v ≡ true) × (each_in_range types vs ≡ true)
-  first_range (NumberField t) types v vs h = both (value_in_range t v) (each_in_range types vs) h
+  first_range (NumberField t) types v vs h = and_parts (value_in_range t v) (each_in_range types vs) h
   first_range (ReferenceField c) types v vs h = (refl, h)
 
   values_fit : (types : List FieldType) (vs : List WorldValue) → length vs ≡ length types → list_all (is_known_value L) vs ≡ true → each_holds L types vs ≡ true → each_in_range types vs ≡ true
@@ -221,8 +214,8 @@ module _ (L : Lines) where
   values_fit [] (v ∷ vs) long known holds range = absurd (omega (arith, long))
   values_fit (t ∷ types) [] long known holds range = absurd (omega (arith, long))
   values_fit (t ∷ types) (v ∷ vs) long known holds range =
-      let k = both (is_known_value L v) (list_all (is_known_value L) vs) known in
-      let h = both (holds_value L t v) (each_holds L types vs) holds in
+      let k = and_parts (is_known_value L v) (list_all (is_known_value L) vs) known in
+      let h = and_parts (holds_value L t v) (each_holds L types vs) holds in
       let r = first_range t types v vs range in
       (value_fitting t v k.0 h.0 r.0, values_fit types vs (omega (arith, long)) k.1 h.1 r.1)
 
@@ -257,19 +250,19 @@ module _ (L : Lines) where
       where
         by_test : (b : Bool) → (c == class_class) ≡ b → b ≡ false
         by_test false e = refl
-        by_test true e = absurd (let no : true ≡ false = sym class_plain ∙ sym (ap is_plain (table.kinds class_class (omega arith))) ∙ ap (λ k. is_plain (class_kind T k)) (sym (same_number c class_class e)) ∙ h in cc)
+        by_test true e = absurd (let no : true ≡ false = sym class_plain ∙ sym (ap is_plain (table.kinds class_class (omega arith))) ∙ ap (λ k. is_plain (class_kind T k)) (sym (eqb-true c class_class e)) ∙ h in cc)
 
     plain_fits : (x class : Identifier) (vs : List WorldValue) → is_object_class T class ≡ true → (not (is_object_class T class) || length vs == length (layout_types T (class_number T class))) ≡ true → list_all (is_known_value L) vs ≡ true
         → each_holds L (layout_types T (class_number T class)) vs ≡ true → each_in_range (layout_types T (class_number T class)) vs ≡ true → IsObjectAfter T made (record { class = class_number T class; values = map (value_of L) vs })
     plain_fits x class vs allowed long known holds range =
         let c = class_number T class in
         let o = named_open T class allowed in
-        let own = neither (not (is_plain (class_kind T c)) || c == string_class) (c == class_class) o.open_class in
-        let string = neither (not (is_plain (class_kind T c))) (c == string_class) own.0 in
+        let own = or_parts (not (is_plain (class_kind T c)) || c == string_class) (c == class_class) o.open_class in
+        let string = or_parts (not (is_plain (class_kind T c))) (c == string_class) own.0 in
         let many : (length vs == length (layout_types T c)) ≡ true = sym (ap (λ b. not b || length vs == length (layout_types T c)) allowed) ∙ long in
-        fits_so c Plain (layout_types T c) (map (value_of L) vs) o.low o.high own.1 (is_plain_so (class_kind T c) (not_false _ string.0))
+        fits_so c Plain (layout_types T c) (map (value_of L) vs) o.low o.high own.1 (is_plain_so (class_kind T c) (not-false _ string.0))
         (ap (λ b. cond b (map (λ v. NumberField JChar) (map (value_of L) vs)) (layout_types T c)) string.1)
-        (values_fit (layout_types T c) vs (same_number (length vs) (length (layout_types T c)) many) known holds range)
+        (values_fit (layout_types T c) vs (eqb-true (length vs) (length (layout_types T c)) many) known holds range)
 
     array_fits : (class : Identifier) (vs : List WorldValue) → some_passes (λ c. is_plain (class_kind T c)) (class_named T class) ≡ true → list_all (is_known_value L) vs ≡ true
         → each_holds L (map (λ v. ReferenceField (class_number T class)) vs) vs ≡ true → each_in_range (map (λ v. ReferenceField (class_number T class)) vs) vs ≡ true
@@ -298,9 +291,9 @@ module _ (L : Lines) where
     text_fits : (text : List ℕ) → list_all (is_from_to 32 126) text ≡ true → AllZip (λ t v. IsTrue (value_fits T made t v)) (map (λ v. NumberField JChar) (map (value_of L) (map (λ b. NumberValue (pos b)) text))) (map (value_of L) (map (λ b. NumberValue (pos b)) text))
     text_fits [] h = tt
     text_fits (b ∷ text) h =
-        let k = both (is_from_to 32 126 b) (list_all (is_from_to 32 126) text) h in
-        let high = at_most b 126 (both (nat_le 32 b) (nat_le b 126) k.0).1 in
-        (at_most_so b 65535 (omega (arith, high)), text_fits text k.1)
+        let k = and_parts (is_from_to 32 126 b) (list_all (is_from_to 32 126) text) h in
+        let high = leb-true b 126 (and_parts (nat_le 32 b) (nat_le b 126) k.0).1 in
+        (le-leb b 65535 (omega (arith, high)), text_fits text k.1)
 
     string_fits : (text : List ℕ) → list_all (is_from_to 32 126) text ≡ true → IsObjectAfter T made (record { class = string_class; values = map (value_of L) (map (λ b. NumberValue (pos b)) text) })
     string_fits text h =
@@ -310,10 +303,10 @@ module _ (L : Lines) where
     -- the object of a line that keeps the rules fits
     pub object_fits : (cells n : ℕ) (line : WorldLine) → IsKept cells L (n, line) → (o : Object) → object_of L line ≡ Some o → IsObjectAfter T made o
     object_fits cells n (ObjectLine x class values) k o h =
-        subst (IsObjectAfter T made) (cc) (plain_fits x class values k.allowed (both (is_simple_name x) _ k.well).1 k.known k.held k.ranged)
+        subst (IsObjectAfter T made) (cc) (plain_fits x class values k.allowed (and_parts (is_simple_name x) _ k.well).1 k.known k.held k.ranged)
     object_fits cells n (ObjectsLine x class values) k o h = subst (IsObjectAfter T made) (cc) (array_fits class values k.allowed k.known k.held k.ranged)
     object_fits cells n (ArrayLine x t values) k o h = subst (IsObjectAfter T made) (cc) (numbers_fit t values k.known k.held k.ranged)
-    object_fits cells n (StringLine x text) k o h = subst (IsObjectAfter T made) (cc) (string_fits text (both (is_simple_name x) (list_all (is_from_to 32 126) text) k.well).1)
+    object_fits cells n (StringLine x text) k o h = subst (IsObjectAfter T made) (cc) (string_fits text (and_parts (is_simple_name x) (list_all (is_from_to 32 126) text) k.well).1)
     object_fits cells n MethodsLine k o h = absurd (cc)
     object_fits cells n (ClassLine name superclass) k o h = absurd (cc)
     object_fits cells n (FieldLine class name signature) k o h = absurd (cc)

@@ -3,7 +3,8 @@ use Rattle.std.proofs.Common.{◌≡◌, ℕ, suc, ◌+◌, ◌≤◌, Bool, tru
 use Rattle.std.specs.Prelude.{not, ◌&&◌, ◌||◌, ◌==◌, nat_le, nat_lt, filter, is_some, pos}
 use Rattle.std.specs.Option.{option_to_list}
 use Rattle.std.specs.List.{list_all}
-use Rattle.std.proofs.lemmas.Bool.{and_from}
+use Rattle.std.proofs.Math.Bool.{and-true}
+use Rattle.std.proofs.lemmas.Bool.{and_from, and_parts, lt-ltb, le-leb, leb-true}
 use Rattle.std.proofs.lemmas.Bool.Decides.{nat_tests}
 use Rattle.std.proofs.lemmas.List.Folds.{list_all-append}
 use Rattle.base.specs.Bytes.{Identifier, ByName, lookup, is_from_to}
@@ -24,7 +25,6 @@ use Rattle.world_values.specs.WorldRules.{part_of, is_in_order, is_formed_value,
 use Rattle.world.proofs.GrownLines.{defined_grow, threads_grow}
 use Rattle.world.proofs.OrderedLines.{AreOrdered, order_told}
 use Rattle.world.proofs.Soundness.{AreSound}
-use Rattle.world_lines.proofs.Tests.{both, at_most, at_most_so, less_so}
 use Rattle.world.proofs.WorldCells.{cells_grow}
 
 -- what is known of lines that keep the rules
@@ -39,10 +39,6 @@ pub record AreGathered (cells part : ℕ) (lines : Lines) : Type 0 where
 de_morgan : (a b : Bool) → (not a || not b) ≡ not (a && b)
 de_morgan true b = refl
 de_morgan false b = refl
-
-and_true : (a : Bool) → (a && true) ≡ a
-and_true true = refl
-and_true false = refl
 
 up_to : (a b : ℕ) → nat_le a b ≡ nat_lt a (b + 1)
 up_to a b = grind (arith, nat_tests)
@@ -117,9 +113,9 @@ written_all p h (CallLine function arguments) = refl
 text_in_range : (text : List ℕ) → list_all (is_from_to 32 126) text ≡ true → list_all (value_in_range JInt) (map (λ b. NumberValue (pos b)) text) ≡ true
 text_in_range [] h = refl
 text_in_range (b ∷ text) h =
-    let first = both (is_from_to 32 126 b) (list_all (is_from_to 32 126) text) h in
-    let low = at_most b 126 (both (nat_le 32 b) (nat_le b 126) first.0).1 in
-    and_from (nat_le b 2147483647) (list_all (value_in_range JInt) (map (λ b. NumberValue (pos b)) text)) (at_most_so b 2147483647 (omega (arith, low))) (text_in_range text first.1)
+    let first = and_parts (is_from_to 32 126 b) (list_all (is_from_to 32 126) text) h in
+    let low = leb-true b 126 (and_parts (nat_le 32 b) (nat_le b 126) first.0).1 in
+    and_from (nat_le b 2147483647) (list_all (value_in_range JInt) (map (λ b. NumberValue (pos b)) text)) (le-leb b 2147483647 (omega (arith, low))) (text_in_range text first.1)
 
 module _ (heap_line cells part : ℕ) (L : Lines) where
   abbrev T : Classes
@@ -192,8 +188,8 @@ module _ (heap_line cells part : ℕ) (L : Lines) where
   ranged_same (ObjectsLine x class values) h = refl
   ranged_same (ArrayLine x t values) h = refl
   ranged_same (StringLine x text) h =
-      let well = both (is_well_formed T (StringLine x text)) true h in
-      sym (text_in_range text (both (is_simple_name x) (list_all (is_from_to 32 126) text) well.0).1)
+      let well = and_parts (is_well_formed T (StringLine x text)) true h in
+      sym (text_in_range text (and_parts (is_simple_name x) (list_all (is_from_to 32 126) text) well.0).1)
   ranged_same (ThreadLine function arguments) h = refl
   ranged_same (CallLine function arguments) h = refl
 
@@ -226,35 +222,35 @@ module _ (heap_line cells part : ℕ) (L : Lines) where
 
   few_with_last : (threads : List (List Invocation)) (c : Invocation) → list_all few threads ≡ true → list_all few (with_last c threads) ≡ nat_lt (length (last_calls threads)) 256
   few_with_last [] c h = refl
-  few_with_last (calls ∷ []) c h = ap (λ m. nat_le m 256 && true) (length-append calls (c ∷ [])) ∙ and_true (nat_le (length calls + 1) 256) ∙ one_more (length calls) 256
+  few_with_last (calls ∷ []) c h = ap (λ m. nat_le m 256 && true) (length-append calls (c ∷ [])) ∙ and-true (nat_le (length calls + 1) 256) ∙ one_more (length calls) 256
   few_with_last (calls ∷ next ∷ threads) c h =
-      let b = both (few calls) (list_all few (next ∷ threads)) h in ap (λ t. t && list_all few (with_last c (next ∷ threads))) b.0 ∙ few_with_last (next ∷ threads) c b.1
+      let b = and_parts (few calls) (list_all few (next ∷ threads)) h in ap (λ t. t && list_all few (with_last c (next ∷ threads))) b.0 ∙ few_with_last (next ∷ threads) c b.1
 
   call_limits : (threads : List (List Invocation)) (c : Invocation) → length threads ≤ 8 → list_all few threads ≡ true → (nat_le (length (with_last c threads)) 8 && list_all few (with_last c threads)) ≡ nat_lt (length (last_calls threads)) 256
   call_limits threads c h k =
       ap (λ m. nat_le m 8 && list_all few (with_last c threads)) (length-with_last c threads)
-      ∙ ap (λ b. b && list_all few (with_last c threads)) (at_most_so (length threads) 8 h)
+      ∙ ap (λ b. b && list_all few (with_last c threads)) (le-leb (length threads) 8 h)
       ∙ few_with_last threads c k
 
   thread_limits : (threads : List (List Invocation)) (c : Invocation) → list_all few threads ≡ true → (nat_le (length (threads ++ (c ∷ []) ∷ [])) 8 && list_all few (threads ++ (c ∷ []) ∷ [])) ≡ nat_lt (length threads) 8
   thread_limits threads c k =
       ap (λ b. nat_le (length (threads ++ (c ∷ []) ∷ [])) 8 && b) (list_all-append few threads ((c ∷ []) ∷ []) ∙ and_from (list_all few threads) true k refl)
-      ∙ and_true (nat_le (length (threads ++ (c ∷ []) ∷ [])) 8)
+      ∙ and-true (nat_le (length (threads ++ (c ∷ []) ∷ [])) 8)
       ∙ ap (λ m. nat_le m 8) (length-append threads ((c ∷ []) ∷ []))
       ∙ one_more (length threads) 8
 
   module _ (s : AreGathered cells part L) where
     few_threads : (nat_le (length (threads_of L)) 8 && list_all few (threads_of L)) ≡ true
-    few_threads = let low = s.sound.few_threads in and_from (nat_le (length (threads_of L)) 8) (list_all few (threads_of L)) (at_most_so (length (threads_of L)) 8 low) s.few_calls
+    few_threads = let low = s.sound.few_threads in and_from (nat_le (length (threads_of L)) 8) (list_all few (threads_of L)) (le-leb (length (threads_of L)) 8 low) s.few_calls
 
     few_names : nat_le (length (N ++ [])) 65536 ≡ true
-    few_names = let low = s.sound.few_objects in ap (λ (ns : ByName ℕ). nat_le (length ns) 65536) (append-nil N) ∙ at_most_so (length N) 65536 low
+    few_names = let low = s.sound.few_objects in ap (λ (ns : ByName ℕ). nat_le (length ns) 65536) (append-nil N) ∙ le-leb (length N) 65536 low
 
     limits_objects : (names : ByName ℕ) (place : Bool) → nat_le (length names) 65536 ≡ place → limits_of names (threads_of L) ≡ place
     limits_objects names place h =
         and_assoc (nat_le (length names) 65536) (nat_le (length (threads_of L)) 8) (list_all few (threads_of L))
         ∙ ap (λ b. nat_le (length names) 65536 && b) few_threads
-        ∙ and_true (nat_le (length names) 65536)
+        ∙ and-true (nat_le (length names) 65536)
         ∙ h
 
     limits_threads : (threads : List (List Invocation)) (place : Bool) → (nat_le (length threads) 8 && list_all few threads) ≡ place → limits_of (N ++ []) threads ≡ place
@@ -267,7 +263,7 @@ module _ (heap_line cells part : ℕ) (L : Lines) where
     one_name x c = limits_objects (N ++ (x, c) ∷ []) (nat_lt (length N + 1) 65537) (ap (λ m. nat_le m 65536) (length-append N ((x, c) ∷ [])) ∙ up_to (length N + 1) 65536)
 
     no_name : limits_of (N ++ []) (threads_of L) ≡ nat_lt (length N + 0) 65537
-    no_name = let low = s.sound.few_objects in limits_objects (N ++ []) (nat_lt (length N + 0) 65537) (few_names ∙ sym (less_so (length N + 0) 65537 (omega (arith, low))))
+    no_name = let low = s.sound.few_objects in limits_objects (N ++ []) (nat_lt (length N + 0) 65537) (few_names ∙ sym (lt-ltb (length N + 0) 65537 (omega (arith, low))))
 
     module _ (n : ℕ) (line : WorldLine) (ordered : is_in_order L line ≡ true) (own : list_all (is_known_value L) (values_of_line line) ≡ true) where
       abbrev next : Lines
@@ -305,7 +301,7 @@ module _ (heap_line cells part : ℕ) (L : Lines) where
 
     -- a line of a thread adds no cells
     room_left : not (nat_le (cells_of L + 0) cells) ≡ false
-    room_left = let low = s.sound.fits in ap not (at_most_so (cells_of L + 0) cells (omega (arith, low)))
+    room_left = let low = s.sound.fits in ap not (le-leb (cells_of L + 0) cells (omega (arith, low)))
 
     last_same : (n : ℕ) (line : WorldLine) (ranged : Bool) → is_in_order L line ≡ true → list_all (is_known_value L) (values_of_line line) ≡ true → is_class_allowed (has_methods L) T line ≡ true → asked_last n line ranged ≡ said_last n line ranged
     last_same n MethodsLine ranged ordered own allowed =
@@ -352,9 +348,9 @@ module _ (heap_line cells part : ℕ) (L : Lines) where
               ≡ cond (not b) (Some WrongName) (said_last n line (each_in_range (types_of_line T line) (values_of_line line)))
           by_names formed false e = refl
           by_names formed true e =
-              let a = both (not (some_passes (λ x. is_some (lookup x N)) (name_given line)) && is_class_allowed (has_methods L) T line && list_all (is_known T N) (written_values line)) (each_can_hold T N (types_of_line T line) (written_values line)) e in
-              let b = both (not (some_passes (λ x. is_some (lookup x N)) (name_given line)) && is_class_allowed (has_methods L) T line) (list_all (is_known T N) (written_values line)) a.0 in
-              let c = both (not (some_passes (λ x. is_some (lookup x N)) (name_given line))) (is_class_allowed (has_methods L) T line) b.0 in
+              let a = and_parts (not (some_passes (λ x. is_some (lookup x N)) (name_given line)) && is_class_allowed (has_methods L) T line && list_all (is_known T N) (written_values line)) (each_can_hold T N (types_of_line T line) (written_values line)) e in
+              let b = and_parts (not (some_passes (λ x. is_some (lookup x N)) (name_given line)) && is_class_allowed (has_methods L) T line) (list_all (is_known T N) (written_values line)) a.0 in
+              let c = and_parts (not (some_passes (λ x. is_some (lookup x N)) (name_given line))) (is_class_allowed (has_methods L) T line) b.0 in
               last_same n line ranged ordered (sym (known_told line) ∙ b.1) c.1 ∙ ap (said_last n line) (ranged_same line formed)
 
           by_form : (b : Bool) → is_formed T line ≡ b → least_broken None (is_formed T line) (is_named (has_methods L) T N line) (ranged && has_place g line) (nat_le (cells_of L + cells_added line) cells) ≡ later_rules breaks

@@ -2,6 +2,7 @@
 use Rattle.std.proofs.Common.{◌≡◌, ℕ, ◌+◌, ◌≤◌, true, false, List, [], ◌∷◌, ◌++◌, length, map, Option, Some, None, refl, sym, ap, ◌∙◌, arith, append-nil, length-append}
 use Rattle.std.specs.Prelude.{not, ◌==◌, nat_le, codes, pos, unwrap_or, bytes_eq}
 use Rattle.std.specs.Option.{option_map, option_to_list}
+use Rattle.std.proofs.lemmas.Bool.{and_parts, not-false}
 use Rattle.std.proofs.lemmas.List.{length-map}
 use Rattle.base.specs.Bytes.{Identifier, ByName}
 use Rattle.base.specs.Options.{some_passes}
@@ -23,7 +24,7 @@ use Rattle.world.proofs.Places.{position-found}
 use Rattle.world.proofs.OrderedLines.{order_told, more_ordered}
 use Rattle.world.proofs.ReadWorlds.{least_none}
 use Rattle.world.proofs.Soundness.{line_sound, methods_stay}
-use Rattle.world_lines.proofs.Tests.{both, later_number, not_false}
+use Rattle.world_lines.proofs.Tests.{later_number}
 use Rattle.world.proofs.WorldCells.{cells_grow}
 
 -- ---- the superclass of a new class
@@ -49,7 +50,7 @@ named_number T name h = by_value (class_named T name) h
 superclass_told : (T : Classes) (name : Identifier) (superclass : Option Identifier) → KeepsBuiltIns T → class_breaks BadSuperclass T name (unwrap_or superclass (codes "java/lang/Object")) ≡ false
     → class_named T (unwrap_or superclass (codes "java/lang/Object")) ≡ Some (superclass_number T superclass)
 superclass_told T name None k h = root_named T (k.each 1 (omega arith) ∙ root_first)
-superclass_told T name (Some above) k h = named_number T above (not_false (some_passes (λ c. not (has_own_making T c)) (class_named T above)) h)
+superclass_told T name (Some above) k h = named_number T above (not-false (some_passes (λ c. not (has_own_making T c)) (class_named T above)) h)
 
 -- ---- one more line
 
@@ -161,7 +162,7 @@ module _ (heap_line cells part : ℕ) (L : Lines) (s : AreGathered cells part L)
         later_number (length (threads_of next)) 0 (omega (arith, many))
     started_next (CallLine f vs) e =
         let told = sym (order_told L part (CallLine f vs) s.ordered) ∙ ap (is_in_order L) e ∙ k.ordered in
-        let begun = (both (nat_le part 2) (part == 2) told).1 in
+        let begun = (and_parts (nat_le part 2) (part == 2) told).1 in
         let c = invocation_of_line L n f vs in
         let many = ap length (threads_next ∙ ap (λ l. threads_with L (threads_of L) (n, l)) (sym e)) ∙ length-with_last c (threads_of L) in
         ap (λ (m : ℕ). m == 0) many ∙ s.started ∙ ap not begun

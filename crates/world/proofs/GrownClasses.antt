@@ -1,6 +1,7 @@
 -- The class table of a world grows from the built-in classes by the rules.
 use Rattle.std.proofs.Common.{◌≡◌, ℕ, ◌<◌, ◌≤◌, true, false, [], ◌∷◌, ◌++◌, length, Option, Some, None, refl, ap, ◌∙◌, arith}
-use Rattle.std.specs.Prelude.{codes, not, ◌||◌, is_some, unwrap_or}
+use Rattle.std.specs.Prelude.{codes, not, ◌||◌, unwrap_or}
+use Rattle.std.proofs.lemmas.Bool.{not-true, not-false}
 use Rattle.base.specs.Bytes.{Identifier}
 use Rattle.base.specs.Options.{some_passes}
 use Rattle.class_rules.specs.Additions.{ClassRule, NameTaken, BadSuperclass, class_breaks}
@@ -10,8 +11,8 @@ use Rattle.class_rules.specs.Grown.{IsGrown, BuiltIns, WithClass, WithField, Wit
 use Rattle.world_values.specs.WorldLines.{WorldLine, MethodsLine, ClassLine, FieldLine, StaticLine, ObjectLine, ObjectsLine, ArrayLine, StringLine, ThreadLine, CallLine}
 use Rattle.world_values.specs.WorldMeaning.{class_number, superclass_number, field_of, table_with}
 use Rattle.world_values.specs.WorldRules.{is_well_formed, breaks_class_rule}
-use Rattle.world_lines.proofs.Tests.{not_false, not_true}
 use Rattle.world.proofs.WorldTables.{IsWorldTable, built_ins_table, class_table, changed_table, named}
+use Rattle.world.proofs.DeclaredTables.{no_value}
 
 pub record IsGrownTable (T : Classes) : Type 0 where
   pub grown : IsGrown T
@@ -19,10 +20,6 @@ pub record IsGrownTable (T : Classes) : Type 0 where
 
 pub built_ins_grown : IsGrownTable built_ins
 built_ins_grown = record { grown = BuiltIns; table = built_ins_table }
-
-no_value : {A : Type 0} (o : Option A) → is_some o ≡ false → o ≡ None
-no_value None h = refl
-no_value (Some x) h = absurd (cc)
 
 -- a class that may have subclasses
 pub record IsOpen (T : Classes) (s : ℕ) : Type 0 where
@@ -36,7 +33,7 @@ named_open T name h = by_value (class_named T name) refl h
   where
     by_value : (o : Option ℕ) → class_named T name ≡ o → some_passes (λ c. not (has_own_making T c)) o ≡ true → IsOpen T (unwrap_or o 0)
     by_value None e k = absurd (cc)
-    by_value (Some c) e k = let is = named T name c e in record { low = is.low; high = is.high; open_class = not_true (has_own_making T c) k }
+    by_value (Some c) e k = let is = named T name c e in record { low = is.low; high = is.high; open_class = not-true (has_own_making T c) k }
 
 root_plain : is_plain (class_kind built_ins 1) ≡ true
 unfolding built_ins
@@ -50,7 +47,7 @@ module _ (T : Classes) (t : IsGrownTable T) where
 
   superclass_open : (name : Identifier) (superclass : Option Identifier) → class_breaks BadSuperclass T name (unwrap_or superclass (codes "java/lang/Object")) ≡ false → IsOpen T (superclass_number T superclass)
   superclass_open name None h = root_open
-  superclass_open name (Some above) h = named_open T above (not_false _ h)
+  superclass_open name (Some above) h = named_open T above (not-false _ h)
 
   -- one more line keeps the rules on classes
   pub line_grows : (line : WorldLine) → ((rule : ClassRule) → breaks_class_rule rule T line ≡ false) → is_well_formed T line ≡ true → IsGrownTable (table_with T line)

@@ -3,20 +3,21 @@ use Rattle.std.proofs.Common.{◌≡◌, ℕ, suc, ◌+◌, ◌<◌, ◌≤◌, 
 use Rattle.std.specs.Prelude.{not, ◌&&◌, ◌||◌, nat_le, filter_map, is_some, position, bytes_eq}
 use Rattle.std.specs.Option.{option_map, option_to_list}
 use Rattle.std.specs.List.{list_all, list_any}
-use Rattle.std.proofs.lemmas.Bool.{and_from}
+use Rattle.std.proofs.lemmas.Bool.{and_from, and_parts, le-leb, leb-true}
 use Rattle.std.proofs.lemmas.List.Elements.{filter_map-append}
 use Rattle.std.proofs.lemmas.List.Folds.{list_all-append}
 use Rattle.std.proofs.lemmas.List.Sums.{fold-append}
 use Rattle.base.specs.Bytes.{Identifier, ByName, lookup}
 use Rattle.class_rules.specs.BuiltIns.{built_ins}
 use Rattle.class_rules.specs.Class.{Classes, class_named}
+use Rattle.class_rules.proofs.Unescaping.{some_of}
 use Rattle.semantics.specs.Object.{Object, Refers}
 use Rattle.semantics.specs.World.{Invocation}
 use Rattle.world_values.specs.WorldLines.{WorldValue, NumberValue, NullValue, NamedObject, NamedClass, WorldLine, MethodsLine, ClassLine, FieldLine, StaticLine, ObjectLine, ObjectsLine, ArrayLine, StringLine, ThreadLine, CallLine, Lines}
 use Rattle.world_values.specs.WorldMeaning.{table_with, table_of, object_defined, objects_defined, class_of_object, object_number, value_of, values_of_line, object_of, with_last, threads_with, threads_of}
 use Rattle.world_values.specs.WorldRules.{part_of, is_thread_line, is_call_line, is_in_order, is_known_value}
 use Rattle.world.proofs.Places.{found, position-found, kept_place}
-use Rattle.world_lines.proofs.Tests.{both, at_most, at_most_so, there, bytes_eq-sym}
+use Rattle.classes.proofs.Places.{same_bytes}
 
 -- the objects that lines make
 abbrev pub objects_of : Lines → List Object
@@ -30,14 +31,14 @@ are_within part lines = list_all (λ (l : ℕ × WorldLine). nat_le (part_of l.1
 
 -- the lines before a line that is in its order
 pub earlier_within : (earlier : Lines) (line : WorldLine) → is_in_order earlier line ≡ true → are_within (part_of line) earlier ≡ true
-earlier_within earlier line h = (both (are_within (part_of line) earlier) (not (is_call_line line) || list_any (λ (l : ℕ × WorldLine). is_thread_line l.1) earlier) h).0
+earlier_within earlier line h = (and_parts (are_within (part_of line) earlier) (not (is_call_line line) || list_any (λ (l : ℕ × WorldLine). is_thread_line l.1) earlier) h).0
 
 within_more : (p q : ℕ) → p ≤ q → (lines : Lines) → are_within p lines ≡ true → are_within q lines ≡ true
 within_more p q le [] h = refl
 within_more p q le (l ∷ lines) h =
-    let b = both (nat_le (part_of l.1) p) (are_within p lines) h in
-    let low = at_most (part_of l.1) p b.0 in
-    and_from (nat_le (part_of l.1) q) (are_within q lines) (at_most_so (part_of l.1) q (omega (arith, low, le))) (within_more p q le lines b.1)
+    let b = and_parts (nat_le (part_of l.1) p) (are_within p lines) h in
+    let low = leb-true (part_of l.1) p b.0 in
+    and_from (nat_le (part_of l.1) q) (are_within q lines) (le-leb (part_of l.1) q (omega (arith, low, le))) (within_more p q le lines b.1)
 
 -- a line of the first part, or of a later one
 pub first_or_later : (line : WorldLine) → (part_of line ≡ 0) ⊎ (0 < part_of line)
@@ -152,20 +153,20 @@ filter_map-both f g x xs h k = by_value (f x) (g x) refl refl h
 pub no_objects_defined : (T : Classes) (lines : Lines) → are_within 0 lines ≡ true → filter_map (λ (l : ℕ × WorldLine). object_defined T l.1) lines ≡ []
 no_objects_defined T [] h = refl
 no_objects_defined T (l ∷ lines) h =
-    let b = both (nat_le (part_of l.1) 0) (are_within 0 lines) h in
+    let b = and_parts (nat_le (part_of l.1) 0) (are_within 0 lines) h in
     filter_map-none (λ (k : ℕ × WorldLine). object_defined T k.1) l lines (no_object T l.1 b.0) ∙ no_objects_defined T lines b.1
 
 pub no_objects_made : (L lines : Lines) → are_within 0 lines ≡ true → filter_map (λ (l : ℕ × WorldLine). object_of L l.1) lines ≡ []
 no_objects_made L [] h = refl
 no_objects_made L (l ∷ lines) h =
-    let b = both (nat_le (part_of l.1) 0) (are_within 0 lines) h in
+    let b = and_parts (nat_le (part_of l.1) 0) (are_within 0 lines) h in
     let made : Identifier × ℕ → Object = λ o. record { class = o.1; values = map (value_of L) (values_of_line l.1) } in
     filter_map-none (λ (k : ℕ × WorldLine). object_of L k.1) l lines (ap (option_map made) (no_object (table_of L) l.1 b.0)) ∙ no_objects_made L lines b.1
 
 pub no_threads_in : (L : Lines) (threads : List (List Invocation)) (lines : Lines) → are_within 1 lines ≡ true → fold (threads_with L) threads lines ≡ threads
 no_threads_in L threads [] h = refl
 no_threads_in L threads ((n, line) ∷ lines) h =
-    let b = both (nat_le (part_of line) 1) (are_within 1 lines) h in
+    let b = and_parts (nat_le (part_of line) 1) (are_within 1 lines) h in
     ap (λ ts. fold (threads_with L) ts lines) (no_thread L threads n line b.0) ∙ no_threads_in L threads lines b.1
 
 -- ---- values that are known
@@ -181,7 +182,7 @@ are_known lines = values_known lines lines
 no_values_known : (L lines : Lines) → are_within 0 lines ≡ true → values_known L lines ≡ true
 no_values_known L [] h = refl
 no_values_known L (l ∷ lines) h =
-    let b = both (nat_le (part_of l.1) 0) (are_within 0 lines) h in
+    let b = and_parts (nat_le (part_of l.1) 0) (are_within 0 lines) h in
     and_from (list_all (is_known_value L) (values_of_line l.1)) (values_known L lines) (ap (list_all (is_known_value L)) (no_value l.1 b.0)) (no_values_known L lines b.1)
 
 -- ---- names of objects
@@ -201,7 +202,7 @@ lookup-append x ((y, v) ∷ os) more c h = by_test (bytes_eq x y) h (lookup-appe
 -- an object that can be looked up has a place
 placed : (x : Identifier) (os : ByName ℕ) → is_some (lookup x os) ≡ true → is_some (found (is_called x) os) ≡ true
 placed x [] h = absurd (cc)
-placed x ((y, v) ∷ os) h = by_test (bytes_eq x y) (sym (bytes_eq-sym x y)) h (placed x os)
+placed x ((y, v) ∷ os) h = by_test (bytes_eq x y) (sym (same_bytes x y)) h (placed x os)
   where
     further : (o : Option ℕ) → is_some o ≡ true → is_some (option_map (λ (i : ℕ). suc i) o) ≡ true
     further None e = e
@@ -214,7 +215,7 @@ placed x ((y, v) ∷ os) h = by_test (bytes_eq x y) (sym (bytes_eq-sym x y)) h (
 
 pub position-kept : (x : Identifier) (os more : ByName ℕ) → is_some (lookup x os) ≡ true → position (is_called x) (os ++ more) ≡ position (is_called x) os
 position-kept x os more h =
-    let i = there (found (is_called x) os) (placed x os h) in
+    let i = some_of (found (is_called x) os) (placed x os h) in
     position-found (is_called x) (os ++ more) ∙ kept_place (is_called x) os more i.0 i.1 ∙ sym i.1 ∙ sym (position-found (is_called x) os)
 
 -- ---- one more line, in its order
@@ -239,7 +240,7 @@ module _ (earlier : Lines) (n : ℕ) (line : WorldLine) where
 
     pub first_lines_next : part_of line ≡ 0 → are_within 0 next ≡ true
     first_lines_next p =
-        let own : nat_le (part_of line) 0 ≡ true = at_most_so (part_of line) 0 (omega (arith, p)) in
+        let own : nat_le (part_of line) 0 ≡ true = le-leb (part_of line) 0 (omega (arith, p)) in
         list_all-append (λ (l : ℕ × WorldLine). nat_le (part_of l.1) 0) earlier ((n, line) ∷ []) ∙ and_from (are_within 0 earlier) (nat_le (part_of line) 0 && true) (first_lines p) (and_from (nat_le (part_of line) 0) true own refl)
 
     -- the objects that are defined, by name
@@ -248,7 +249,7 @@ module _ (earlier : Lines) (n : ℕ) (line : WorldLine) where
       where
         by_part : (part_of line ≡ 0) ⊎ (0 < part_of line) → objects_defined next ≡ objects_defined earlier ++ option_to_list (object_defined (table_of earlier) line)
         by_part (inl p) =
-            let own : nat_le (part_of line) 0 ≡ true = at_most_so (part_of line) 0 (omega (arith, p)) in
+            let own : nat_le (part_of line) 0 ≡ true = le-leb (part_of line) 0 (omega (arith, p)) in
             no_objects_defined (table_of next) next (first_lines_next p)
             ∙ ap (λ o. [] ++ option_to_list o) (sym (no_object (table_of earlier) line own))
             ∙ ap (λ (os : ByName ℕ). os ++ option_to_list (object_defined (table_of earlier) line)) (sym (no_objects_defined (table_of earlier) earlier (first_lines p)))
@@ -271,7 +272,7 @@ module _ (earlier : Lines) (n : ℕ) (line : WorldLine) where
       pub known_kept : (v : WorldValue) → is_known_value earlier v ≡ true → is_known_value next v ≡ true
       known_kept (NumberValue z) h = refl
       known_kept NullValue h = refl
-      known_kept (NamedObject x) h = let c = there (class_of_object earlier x) h in ap is_some (class_kept x c.0 c.1)
+      known_kept (NamedObject x) h = let c = some_of (class_of_object earlier x) h in ap is_some (class_kept x c.0 c.1)
       known_kept (NamedClass name) h = ap (λ (T : Classes). is_some (class_named T name)) (table_stays later) ∙ h
 
       -- a known value keeps its meaning
@@ -284,19 +285,19 @@ module _ (earlier : Lines) (n : ℕ) (line : WorldLine) where
       pub values_kept : (vs : List WorldValue) → list_all (is_known_value earlier) vs ≡ true → map (value_of next) vs ≡ map (value_of earlier) vs
       values_kept [] h = refl
       values_kept (v ∷ vs) h =
-          let b = both (is_known_value earlier v) (list_all (is_known_value earlier) vs) h in
+          let b = and_parts (is_known_value earlier v) (list_all (is_known_value earlier) vs) h in
           (λ i. value_kept v b.0 i ∷ values_kept vs b.1 i)
 
       pub all_known_kept : (vs : List WorldValue) → list_all (is_known_value earlier) vs ≡ true → list_all (is_known_value next) vs ≡ true
       all_known_kept [] h = refl
       all_known_kept (v ∷ vs) h =
-          let b = both (is_known_value earlier v) (list_all (is_known_value earlier) vs) h in
+          let b = and_parts (is_known_value earlier v) (list_all (is_known_value earlier) vs) h in
           and_from (is_known_value next v) (list_all (is_known_value next) vs) (known_kept v b.0) (all_known_kept vs b.1)
 
       lines_known_kept : (lines : Lines) → values_known earlier lines ≡ true → values_known next lines ≡ true
       lines_known_kept [] h = refl
       lines_known_kept (l ∷ lines) h =
-          let b = both (list_all (is_known_value earlier) (values_of_line l.1)) (values_known earlier lines) h in
+          let b = and_parts (list_all (is_known_value earlier) (values_of_line l.1)) (values_known earlier lines) h in
           and_from (list_all (is_known_value next) (values_of_line l.1)) (values_known next lines) (all_known_kept (values_of_line l.1) b.0) (lines_known_kept lines b.1)
 
       -- what a line of known values makes
@@ -308,7 +309,7 @@ module _ (earlier : Lines) (n : ℕ) (line : WorldLine) where
       objects_kept : (lines : Lines) → values_known earlier lines ≡ true → filter_map (λ (l : ℕ × WorldLine). object_of next l.1) lines ≡ filter_map (λ (l : ℕ × WorldLine). object_of earlier l.1) lines
       objects_kept [] h = refl
       objects_kept (l ∷ lines) h =
-          let b = both (list_all (is_known_value earlier) (values_of_line l.1)) (values_known earlier lines) h in
+          let b = and_parts (list_all (is_known_value earlier) (values_of_line l.1)) (values_known earlier lines) h in
           filter_map-both (λ (k : ℕ × WorldLine). object_of next k.1) (λ (k : ℕ × WorldLine). object_of earlier k.1) l lines (object_kept l.1 b.0) (objects_kept lines b.1)
 
       -- what a thread or call line of known values adds
@@ -327,7 +328,7 @@ module _ (earlier : Lines) (n : ℕ) (line : WorldLine) where
       threads_kept : (threads : List (List Invocation)) (lines : Lines) → values_known earlier lines ≡ true → fold (threads_with next) threads lines ≡ fold (threads_with earlier) threads lines
       threads_kept threads [] h = refl
       threads_kept threads ((m, l) ∷ lines) h =
-          let b = both (list_all (is_known_value earlier) (values_of_line l)) (values_known earlier lines) h in
+          let b = and_parts (list_all (is_known_value earlier) (values_of_line l)) (values_known earlier lines) h in
           ap (λ ts. fold (threads_with next) ts lines) (thread_kept threads m l b.0) ∙ threads_kept (threads_with earlier threads (m, l)) lines b.1
 
     module _ (known : are_known earlier ≡ true) (own : list_all (is_known_value earlier) (values_of_line line) ≡ true) where
@@ -348,7 +349,7 @@ module _ (earlier : Lines) (n : ℕ) (line : WorldLine) where
         where
           by_part : (part_of line ≡ 0) ⊎ (0 < part_of line) → objects_of next ≡ objects_of earlier ++ option_to_list (object_of earlier line)
           by_part (inl p) =
-              let none = no_object (table_of earlier) line (at_most_so (part_of line) 0 (omega (arith, p))) in
+              let none = no_object (table_of earlier) line (le-leb (part_of line) 0 (omega (arith, p))) in
               let made : Identifier × ℕ → Object = λ o. record { class = o.1; values = map (value_of earlier) (values_of_line line) } in
               no_objects_made next next (first_lines_next p)
               ∙ ap (λ o. [] ++ option_to_list (option_map made o)) (sym none)
@@ -365,7 +366,7 @@ module _ (earlier : Lines) (n : ℕ) (line : WorldLine) where
           by_part : (part_of line ≤ 1) ⊎ (part_of line ≡ 2) → threads_with next (fold (threads_with next) [] earlier) (n, line) ≡ threads_with earlier (threads_of earlier) (n, line)
           by_part (inl p) =
               let before = within_more (part_of line) 1 p earlier (earlier_within earlier line ordered) in
-              let low = at_most_so (part_of line) 1 p in
+              let low = le-leb (part_of line) 1 p in
               no_thread next _ n line low ∙ no_threads_in next [] earlier before ∙ sym (no_threads_in earlier [] earlier before) ∙ sym (no_thread earlier _ n line low)
           by_part (inr p) =
               let later : 0 < part_of line = omega (arith, p) in

@@ -2,6 +2,7 @@
 use Rattle.std.proofs.Common.{◌≡◌, ℕ, ◌+◌, ◌<◌, ◌≤◌, Bool, true, false, [], ◌∷◌, ◌++◌, length, map, Option, Some, None, refl, ap, ◌∙◌, arith, length-append}
 use Rattle.std.specs.Prelude.{◌&&◌, nat_lt, unwrap_or, codes}
 use Rattle.std.specs.Option.{option_map_or}
+use Rattle.std.proofs.lemmas.Bool.{and_parts, ltb-true}
 use Rattle.base.specs.Bytes.{Identifier}
 use Rattle.base.specs.Options.{some_passes}
 use Rattle.class_rules.specs.Additions.{new_class, with_class, with_changed_class, built_in_count}
@@ -9,21 +10,17 @@ use Rattle.class_rules.specs.BuiltIns.{built_ins, incompatible_class_change_erro
 use Rattle.class_rules.specs.Grown.{HasMethodError}
 use Rattle.class_rules.specs.Class.{Class, Classes, class_at, class_kind, class_named, is_plain, superclass}
 use Rattle.class_rules.specs.Fields.{own_fields}
+use Rattle.class_rules.proofs.FoundClasses.{built_ins_long}
 use Rattle.world_values.specs.WorldLines.{WorldLine, MethodsLine, ClassLine, FieldLine, StaticLine, ObjectLine, ObjectsLine, ArrayLine, StringLine, ThreadLine, CallLine}
 use Rattle.world_values.specs.WorldMeaning.{class_number, superclass_number, field_of, table_with}
 use Rattle.world_values.specs.WorldRules.{is_world_class, is_class_allowed}
 use Rattle.world_values.proofs.MethodErrors.{method_error_within}
 use Rattle.world.proofs.ChangedClasses.{changed-length, unchanged_at}
-use Rattle.world_lines.proofs.Tests.{both, less}
 use Rattle.world.proofs.WorldTables.{at_front, named}
 
 pub record KeepsBuiltIns (T : Classes) : Type 0 where
   pub long : 42 ≤ length T
   pub each : (c : ℕ) → c ≤ 42 → class_at T c ≡ class_at built_ins c
-
-built_ins_long : length built_ins ≡ 42
-unfolding built_ins
-built_ins_long = refl
 
 pub built_ins_kept : KeepsBuiltIns built_ins
 built_ins_kept = record { long = omega (arith, built_ins_long); each = λ c h. refl }
@@ -45,7 +42,7 @@ world_class methods T name h = by_value (class_named T name) refl h
     by_value None e k = absurd (cc)
     by_value (Some c) e k =
         let is = named T name c e in
-        let low = less (built_in_count methods) c (both (nat_lt (built_in_count methods) c) (is_plain (class_kind T c)) k).0 in
+        let low = ltb-true (built_in_count methods) c (and_parts (nat_lt (built_in_count methods) c) (is_plain (class_kind T c)) k).0 in
         record { after_built_ins = omega (arith, low, many methods); after = low; within = is.high }
 
 -- ---- one more line

@@ -2,12 +2,13 @@
 use Rattle.std.proofs.Common.{◌≡◌, ℕ, ◌<◌, ◌≤◌, Bool, true, false, cond, List, [], ◌∷◌, ◌++◌, length, map, refl, sym, ap, ◌∙◌, subst, append_assoc, append-nil}
 use Rattle.std.specs.Prelude.{not, ◌&&◌, ◌||◌, nat_lt, nat_le, filter}
 use Rattle.std.specs.List.{list_all}
+use Rattle.std.proofs.lemmas.Bool.{and_parts, or_parts, not-false, lt-ltb, leb-true, ltb-false}
 use Rattle.class_rules.specs.Additions.{ClassRule, NameTaken, BadSuperclass, BadSignature, TooMany}
 use Rattle.world_schedules.specs.LineRules.{LineRule, OfClass, LineForm, WrongName, OutOfLimit, HeapFull, line_rules}
 use Rattle.world_values.specs.WorldLines.{WorldLine, Lines}
 use Rattle.world_values.specs.WorldMeaning.{table_of, objects_defined, values_of_line, threads_of, has_methods, cells_of}
 use Rattle.world_values.specs.WorldRules.{part_of, is_in_order, is_formed_value, is_well_formed, is_class_allowed, is_name_taken, is_known_value, types_of_line, each_holds, each_in_range, is_within_limits, breaks_class_rule, line_breaks, broken_by_line, broken_after}
-use Rattle.world_lines.proofs.Tests.{both, neither, not_false, filter_none, at_most, not_less, less_so}
+use Rattle.world_lines.proofs.Tests.{filter_none}
 
 -- a line that is in its order, and what each rule asks of it
 pub record IsKept (cells : ℕ) (earlier : Lines) (line : ℕ × WorldLine) : Type 0 where
@@ -59,28 +60,28 @@ module _ (cells : ℕ) (earlier : Lines) (n : ℕ) (line : WorldLine) where
       let T = table_of earlier in
       let vs = values_of_line line in
       let next = earlier ++ (n, line) ∷ [] in
-      let form = neither (not (is_well_formed T line)) (not (list_all is_formed_value vs)) (keeps LineForm) in
-      let held = neither (is_name_taken earlier line || not (is_class_allowed (has_methods earlier) T line) || not (list_all (is_known_value earlier) vs)) (not (each_holds earlier (types_of_line T line) vs)) (keeps WrongName) in
-      let known = neither (is_name_taken earlier line || not (is_class_allowed (has_methods earlier) T line)) (not (list_all (is_known_value earlier) vs)) held.0 in
-      let allowed = neither (is_name_taken earlier line) (not (is_class_allowed (has_methods earlier) T line)) known.0 in
-      let limit = neither (not (each_in_range (types_of_line T line) vs)) (not (is_within_limits next)) (keeps OutOfLimit) in
-      let limits = both (nat_le (length (objects_defined next)) 65536 && nat_le (length (threads_of next)) 8) (list_all (λ calls. nat_le (length calls) 256) (threads_of next)) (not_false (is_within_limits next) limit.1) in
-      let counts = both (nat_le (length (objects_defined next)) 65536) (nat_le (length (threads_of next)) 8) limits.0 in
+      let form = or_parts (not (is_well_formed T line)) (not (list_all is_formed_value vs)) (keeps LineForm) in
+      let held = or_parts (is_name_taken earlier line || not (is_class_allowed (has_methods earlier) T line) || not (list_all (is_known_value earlier) vs)) (not (each_holds earlier (types_of_line T line) vs)) (keeps WrongName) in
+      let known = or_parts (is_name_taken earlier line || not (is_class_allowed (has_methods earlier) T line)) (not (list_all (is_known_value earlier) vs)) held.0 in
+      let allowed = or_parts (is_name_taken earlier line) (not (is_class_allowed (has_methods earlier) T line)) known.0 in
+      let limit = or_parts (not (each_in_range (types_of_line T line) vs)) (not (is_within_limits next)) (keeps OutOfLimit) in
+      let limits = and_parts (nat_le (length (objects_defined next)) 65536 && nat_le (length (threads_of next)) 8) (list_all (λ calls. nat_le (length calls) 256) (threads_of next)) (not-false (is_within_limits next) limit.1) in
+      let counts = and_parts (nat_le (length (objects_defined next)) 65536) (nat_le (length (threads_of next)) 8) limits.0 in
       let full = keeps HeapFull in
       record {
         ordered = ordered;
         class_rules = λ rule. keeps (OfClass rule);
-        well = not_false _ form.0;
-        formed = not_false _ form.1;
+        well = not-false _ form.0;
+        formed = not-false _ form.1;
         new = allowed.0;
-        allowed = not_false _ allowed.1;
-        known = not_false _ known.1;
-        held = not_false _ held.1;
-        ranged = not_false _ limit.0;
-        few_objects = at_most _ _ counts.0;
-        few_threads = at_most _ _ counts.1;
+        allowed = not-false _ allowed.1;
+        known = not-false _ known.1;
+        held = not-false _ held.1;
+        ranged = not-false _ limit.0;
+        few_objects = leb-true _ _ counts.0;
+        few_threads = leb-true _ _ counts.1;
         few_calls = limits.1;
-        room = λ first. not_less cells (cells_of next) (sym (ap (λ b. b && nat_lt cells (cells_of next)) (less_so (part_of line) 2 first)) ∙ full);
+        room = λ first. ltb-false cells (cells_of next) (sym (ap (λ b. b && nat_lt cells (cells_of next)) (lt-ltb (part_of line) 2 first)) ∙ full);
       }
 
   pub kept_line : broken_by_line cells earlier (n, line) ≡ [] → IsKept cells earlier (n, line)

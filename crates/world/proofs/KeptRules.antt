@@ -1,10 +1,10 @@
 -- What is known of a line that breaks no rule, by what the lines before it say.
-use Rattle.std.proofs.Common.{◌≡◌, ℕ, ◌+◌, ◌≤◌, Bool, true, false, cond, List, [], ◌∷◌, Option, Some, None, refl, arith, ℤ, pos, negsuc}
+use Rattle.std.proofs.Common.{◌≡◌, ℕ, ◌+◌, ◌≤◌, Bool, true, false, cond, List, [], ◌∷◌, Option, Some, None, refl}
 use Rattle.std.specs.Prelude.{not, ◌&&◌, nat_le, is_some}
 use Rattle.std.specs.List.{list_all}
-use Rattle.std.proofs.lemmas.Bool.{and_from}
+use Rattle.std.proofs.lemmas.Bool.{and_from, and_parts, not-true, leb-true}
 use Rattle.base.specs.Bytes.{ByName, lookup}
-use Rattle.base.specs.Element.{ElementType, JInt, JShort, JByte, JChar}
+use Rattle.base.specs.Element.{JInt}
 use Rattle.base.specs.Options.{some_passes}
 use Rattle.class_rules.specs.Additions.{ClassRule}
 use Rattle.class_rules.specs.Class.{FieldType, NumberField, ReferenceField, Classes}
@@ -13,8 +13,8 @@ use Rattle.world.specs.Gathered.{Gathered, comes_in_order, is_named, has_place, 
 use Rattle.world_lines.specs.ClassRules.{broken_class_rule, is_formed}
 use Rattle.world_lines.specs.LineContents.{name_given, written_values, cells_added}
 use Rattle.world_values.specs.WorldLines.{WorldValue, NumberValue, NullValue, NamedObject, NamedClass, WorldLine}
-use Rattle.world_values.specs.WorldRules.{is_class_allowed, is_between, is_in_range, types_of_line, value_in_range, each_in_range}
-use Rattle.world_lines.proofs.Tests.{both, not_true, at_most, at_most_so, less, less_so}
+use Rattle.world_values.specs.WorldRules.{is_class_allowed, is_in_range, types_of_line, value_in_range, each_in_range}
+use Rattle.world_values.proofs.LoadedWorlds.{number_in_range}
 
 -- what each rule asks
 pub record Keeps (g : Gathered) (line : WorldLine) : Type 0 where
@@ -62,37 +62,27 @@ keeps g line h = by_order (comes_in_order g line) refl h
         let are = none_is_broken _ _ _ _ _ k in
         let taken = some_passes (λ x. is_some (lookup x g.names)) (name_given line) in
         let known = list_all (is_known g.classes g.names) (written_values line) in
-        let held = both (not taken && is_class_allowed g.methods g.classes line && known) (each_can_hold g.classes g.names (types_of_line g.classes line) (written_values line)) are.named in
-        let rest = both (not taken && is_class_allowed g.methods g.classes line) known held.0 in
-        let first = both (not taken) (is_class_allowed g.methods g.classes line) rest.0 in
-        let limits = both (each_in_range (types_of_line g.classes line) (written_values line)) (has_place g line) are.limited in
+        let held = and_parts (not taken && is_class_allowed g.methods g.classes line && known) (each_can_hold g.classes g.names (types_of_line g.classes line) (written_values line)) are.named in
+        let rest = and_parts (not taken && is_class_allowed g.methods g.classes line) known held.0 in
+        let first = and_parts (not taken) (is_class_allowed g.methods g.classes line) rest.0 in
+        let limits = and_parts (each_in_range (types_of_line g.classes line) (written_values line)) (has_place g line) are.limited in
         record {
           ordered = e;
           class_rules = are.no_rule;
           formed = are.well;
-          new = not_true taken first.0;
+          new = not-true taken first.0;
           allowed = first.1;
           known = rest.1;
           held = held.1;
           ranged = limits.0;
           place = limits.1;
-          room = at_most (g.used + cells_added line) g.cells are.roomy;
+          room = leb-true (g.used + cells_added line) g.cells are.roomy;
         }
 
 -- ---- numbers
 
-within : (low high wide_low wide_high : ℕ) (z : ℤ) → low ≤ wide_low → high ≤ wide_high → is_between low high z ≡ true → is_between wide_low wide_high z ≡ true
-within low high wide_low wide_high (pos n) a b h = let k = at_most n high h in at_most_so n wide_high (omega (arith, k, b))
-within low high wide_low wide_high (negsuc n) a b h = let k = less n low h in less_so n wide_low (omega (arith, k, a))
-
-in_jint : (t : ElementType) (z : ℤ) → is_in_range t z ≡ true → is_in_range JInt z ≡ true
-in_jint JInt z h = h
-in_jint JShort z h = within 32768 32767 2147483648 2147483647 z (omega arith) (omega arith) h
-in_jint JByte z h = within 128 127 2147483648 2147483647 z (omega arith) (omega arith) h
-in_jint JChar z h = within 0 65535 2147483648 2147483647 z (omega arith) (omega arith) h
-
 value_in_jint : (classes : Classes) (names : ByName ℕ) (t : FieldType) (types : List FieldType) (v : WorldValue) (values : List WorldValue) → can_hold classes names t v ≡ true → each_in_range (t ∷ types) (v ∷ values) ≡ true → (value_in_range JInt v ≡ true) × (each_in_range types values ≡ true)
-value_in_jint classes names (NumberField t) types (NumberValue z) values h k = let b = both (is_in_range t z) (each_in_range types values) k in (in_jint t z b.0, b.1)
+value_in_jint classes names (NumberField t) types (NumberValue z) values h k = let b = and_parts (is_in_range t z) (each_in_range types values) k in (number_in_range t z b.0, b.1)
 value_in_jint classes names (NumberField t) types NullValue values h k = (refl, k)
 value_in_jint classes names (NumberField t) types (NamedObject x) values h k = (refl, k)
 value_in_jint classes names (NumberField t) types (NamedClass x) values h k = (refl, k)
@@ -106,6 +96,6 @@ pub all_in_jint : (classes : Classes) (names : ByName ℕ) (types : List FieldTy
 all_in_jint classes names [] values h k = k
 all_in_jint classes names (t ∷ types) [] h k = refl
 all_in_jint classes names (t ∷ types) (v ∷ values) h k =
-    let held = both (can_hold classes names t v) (each_can_hold classes names types values) h in
+    let held = and_parts (can_hold classes names t v) (each_can_hold classes names types values) h in
     let first = value_in_jint classes names t types v values held.0 k in
     and_from (value_in_range JInt v) (list_all (value_in_range JInt) values) first.0 (all_in_jint classes names types values held.1 first.1)

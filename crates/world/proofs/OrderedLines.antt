@@ -2,12 +2,12 @@
 use Rattle.std.proofs.Common.{◌≡◌, ℕ, Bool, true, false, [], ◌∷◌, ◌++◌, refl, sym, ap, ◌∙◌, arith}
 use Rattle.std.specs.Prelude.{not, ◌&&◌, ◌||◌, ◌==◌, nat_le}
 use Rattle.std.specs.List.{list_any}
+use Rattle.std.proofs.lemmas.Bool.{and_parts, le-leb, leb-true}
 use Rattle.std.proofs.lemmas.Bool.Decides.{nat_tests}
 use Rattle.std.proofs.lemmas.List.Folds.{list_all-append, list_any-append}
 use Rattle.world_values.specs.WorldLines.{WorldLine, MethodsLine, ClassLine, FieldLine, StaticLine, ObjectLine, ObjectsLine, ArrayLine, StringLine, ThreadLine, CallLine, Lines}
 use Rattle.world_values.specs.WorldRules.{part_of, is_thread_line, is_call_line, is_in_order}
 use Rattle.world.proofs.GrownLines.{are_within}
-use Rattle.world_lines.proofs.Tests.{both, at_most, at_most_so}
 
 -- what the part of the last line says of lines in their order; of no line it is 0
 pub record AreOrdered (lines : Lines) (part : ℕ) : Type 0 where
@@ -15,7 +15,7 @@ pub record AreOrdered (lines : Lines) (part : ℕ) : Type 0 where
   pub threads : list_any (λ (l : ℕ × WorldLine). is_thread_line l.1) lines ≡ (part == 2)
 
 pub none_ordered : AreOrdered [] 0
-none_ordered = record { within = λ p. sym (at_most_so 0 p (omega arith)); threads = refl }
+none_ordered = record { within = λ p. sym (le-leb 0 p (omega arith)); threads = refl }
 
 -- the next line is in its order by that part alone
 pub order_told : (earlier : Lines) (part : ℕ) (line : WorldLine) → AreOrdered earlier part → is_in_order earlier line ≡ (nat_le part (part_of line) && (not (is_call_line line) || (part == 2)))
@@ -42,24 +42,24 @@ or_none a b h k = (λ i. h i || (k i || false))
 thread_after : (part : ℕ) (line : WorldLine) → nat_le part (part_of line) ≡ true → (not (is_call_line line) || (part == 2)) ≡ true → ((part == 2) || (is_thread_line line || false)) ≡ (part_of line == 2)
 thread_after part (ThreadLine function vs) h k = or_right (part == 2) true refl
 thread_after part (CallLine function vs) h k = or_left (part == 2) false k
-thread_after part MethodsLine h k = let low = at_most part 0 h in or_none (part == 2) false (grind (arith, nat_tests, low)) refl
-thread_after part (ClassLine name superclass) h k = let low = at_most part 0 h in or_none (part == 2) false (grind (arith, nat_tests, low)) refl
-thread_after part (FieldLine class name signature) h k = let low = at_most part 0 h in or_none (part == 2) false (grind (arith, nat_tests, low)) refl
-thread_after part (StaticLine class name signature) h k = let low = at_most part 0 h in or_none (part == 2) false (grind (arith, nat_tests, low)) refl
-thread_after part (ObjectLine x class vs) h k = let low = at_most part 1 h in or_none (part == 2) false (grind (arith, nat_tests, low)) refl
-thread_after part (ObjectsLine x class vs) h k = let low = at_most part 1 h in or_none (part == 2) false (grind (arith, nat_tests, low)) refl
-thread_after part (ArrayLine x t vs) h k = let low = at_most part 1 h in or_none (part == 2) false (grind (arith, nat_tests, low)) refl
-thread_after part (StringLine x text) h k = let low = at_most part 1 h in or_none (part == 2) false (grind (arith, nat_tests, low)) refl
+thread_after part MethodsLine h k = let low = leb-true part 0 h in or_none (part == 2) false (grind (arith, nat_tests, low)) refl
+thread_after part (ClassLine name superclass) h k = let low = leb-true part 0 h in or_none (part == 2) false (grind (arith, nat_tests, low)) refl
+thread_after part (FieldLine class name signature) h k = let low = leb-true part 0 h in or_none (part == 2) false (grind (arith, nat_tests, low)) refl
+thread_after part (StaticLine class name signature) h k = let low = leb-true part 0 h in or_none (part == 2) false (grind (arith, nat_tests, low)) refl
+thread_after part (ObjectLine x class vs) h k = let low = leb-true part 1 h in or_none (part == 2) false (grind (arith, nat_tests, low)) refl
+thread_after part (ObjectsLine x class vs) h k = let low = leb-true part 1 h in or_none (part == 2) false (grind (arith, nat_tests, low)) refl
+thread_after part (ArrayLine x t vs) h k = let low = leb-true part 1 h in or_none (part == 2) false (grind (arith, nat_tests, low)) refl
+thread_after part (StringLine x text) h k = let low = leb-true part 1 h in or_none (part == 2) false (grind (arith, nat_tests, low)) refl
 
 pub more_ordered : (earlier : Lines) (part n : ℕ) (line : WorldLine) → AreOrdered earlier part → is_in_order earlier line ≡ true → AreOrdered (earlier ++ (n, line) ∷ []) (part_of line)
 more_ordered earlier part n line o h =
-    let b = both (nat_le part (part_of line)) (not (is_call_line line) || (part == 2)) (sym (order_told earlier part line o) ∙ h) in
-    let low = at_most part (part_of line) b.0 in
+    let b = and_parts (nat_le part (part_of line)) (not (is_call_line line) || (part == 2)) (sym (order_told earlier part line o) ∙ h) in
+    let low = leb-true part (part_of line) b.0 in
     record {
       within = λ p.
           list_all-append (λ (l : ℕ × WorldLine). nat_le (part_of l.1) p) earlier ((n, line) ∷ [])
           ∙ ap (λ t. t && (nat_le (part_of line) p && true)) (o.within p)
-          ∙ both_so (nat_le part p) (nat_le (part_of line) p) (λ e. let most = at_most (part_of line) p e in at_most_so part p (omega (arith, low, most)));
+          ∙ both_so (nat_le part p) (nat_le (part_of line) p) (λ e. let most = leb-true (part_of line) p e in le-leb part p (omega (arith, low, most)));
       threads =
           list_any-append (λ (l : ℕ × WorldLine). is_thread_line l.1) earlier ((n, line) ∷ [])
           ∙ ap (λ t. t || (is_thread_line line || false)) o.threads

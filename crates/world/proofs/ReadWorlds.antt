@@ -2,7 +2,7 @@
 use Rattle.std.proofs.Common.{◌≡◌, ℕ, ◌≤◌, Bool, true, false, cond, List, [], ◌∷◌, ◌++◌, Option, Some, None, Ok, refl, sym, ap, ◌∙◌, subst, append_assoc, append-nil}
 use Rattle.std.specs.Prelude.{◌&&◌, ◌||◌, nat_le, Result}
 use Rattle.std.specs.List.{list_all, list_any, AllZip}
-use Rattle.std.proofs.lemmas.Bool.{and_from}
+use Rattle.std.proofs.lemmas.Bool.{and_from, and_parts, le-leb, leb-true}
 use Rattle.base.specs.Element.{JInt}
 use Rattle.class_rules.specs.Class.{FieldType, NumberField, ReferenceField}
 use Rattle.semantics.specs.World.{World}
@@ -21,7 +21,6 @@ use Rattle.world_lines.proofs.HeapLines.{heap_is_read, heap_is_written}
 use Rattle.world.proofs.KeptLines.{IsKept, kept_line, each_keeps, none_breaks}
 use Rattle.world_lines.specs.LineContents.{written_values}
 use Rattle.world_lines.proofs.ReadLines.{line_is_read}
-use Rattle.world_lines.proofs.Tests.{both, at_most, at_most_so}
 use Rattle.world_lines.proofs.WrittenLines.{line_is_written}
 use Rattle.world_lines.proofs.WrittenValues.{value_in_jint}
 
@@ -32,13 +31,13 @@ ranged : (L : Lines) (types : List FieldType) (vs : List WorldValue) → each_ho
 ranged L [] vs h r = r
 ranged L (t ∷ types) [] h r = refl
 ranged L (NumberField t ∷ types) (v ∷ vs) h r =
-    let a = both (holds_value L (NumberField t) v) (each_holds L types vs) h in
-    let b = both (value_in_range t v) (each_in_range types vs) r in
+    let a = and_parts (holds_value L (NumberField t) v) (each_holds L types vs) h in
+    let b = and_parts (value_in_range t v) (each_in_range types vs) r in
     and_from (value_in_range JInt v) (list_all (value_in_range JInt) vs) (value_in_jint t v b.0) (ranged L types vs a.1 b.1)
 ranged L (ReferenceField c ∷ types) (NumberValue z ∷ vs) h r = absurd (cc)
-ranged L (ReferenceField c ∷ types) (NullValue ∷ vs) h r = ranged L types vs ((both (holds_value L (ReferenceField c) NullValue) (each_holds L types vs) h).1) r
-ranged L (ReferenceField c ∷ types) (NamedObject x ∷ vs) h r = ranged L types vs ((both (holds_value L (ReferenceField c) (NamedObject x)) (each_holds L types vs) h).1) r
-ranged L (ReferenceField c ∷ types) (NamedClass x ∷ vs) h r = ranged L types vs ((both (holds_value L (ReferenceField c) (NamedClass x)) (each_holds L types vs) h).1) r
+ranged L (ReferenceField c ∷ types) (NullValue ∷ vs) h r = ranged L types vs (and_parts (holds_value L (ReferenceField c) NullValue) (each_holds L types vs) h).1 r
+ranged L (ReferenceField c ∷ types) (NamedObject x ∷ vs) h r = ranged L types vs (and_parts (holds_value L (ReferenceField c) (NamedObject x)) (each_holds L types vs) h).1 r
+ranged L (ReferenceField c ∷ types) (NamedClass x ∷ vs) h r = ranged L types vs (and_parts (holds_value L (ReferenceField c) (NamedClass x)) (each_holds L types vs) h).1 r
 
 pub kept_range : (cells : ℕ) (earlier : Lines) (n : ℕ) (line : WorldLine) → IsKept cells earlier (n, line) → list_all (value_in_range JInt) (written_values line) ≡ true
 kept_range cells earlier n MethodsLine k = refl
@@ -137,14 +136,14 @@ heap_was_read number (Some (c, m)) cells methods h = by_test (nat_le 512 c && na
     by_test true e k =
         let both_are : ◌≡◌ {A = HeapLine} (c, m) (cells, methods) = cc in
         let is : c ≡ cells = ap (λ (x : HeapLine). x.0) both_are in
-        let b = both (nat_le 512 c) (nat_le c 1048576) e in
-        (ap (λ (x : HeapLine). Some x) both_are, subst (λ n. 512 ≤ n) is (at_most 512 c b.0), subst (λ n. n ≤ 1048576) is (at_most c 1048576 b.1))
+        let b = and_parts (nat_le 512 c) (nat_le c 1048576) e in
+        (ap (λ (x : HeapLine). Some x) both_are, subst (λ n. 512 ≤ n) is (leb-true 512 c b.0), subst (λ n. n ≤ 1048576) is (leb-true c 1048576 b.1))
 
 heap_is_taken : (number cells : ℕ) (methods : Bool) → 512 ≤ cells → cells ≤ 1048576 → heap_read number (Some (cells, methods)) ≡ Ok (cells, methods)
 unfolding heap_read
 heap_is_taken number cells methods low high =
     let read : Result HeapLine TextFault = Ok (cells, methods) in
-    (λ i. cond (at_most_so 512 cells low i && at_most_so cells 1048576 high i) read (refused held.Limit number))
+    (λ i. cond (le-leb 512 cells low i && le-leb cells 1048576 high i) read (refused held.Limit number))
 
 world_was_read : (heap_line cells last : ℕ) (lines : Lines) (world : World) → world_read heap_line cells last lines ≡ Ok world → (list_any (λ (l : ℕ × WorldLine). is_thread_line l.1) lines ≡ true) × (world_of heap_line cells lines ≡ world)
 unfolding world_read

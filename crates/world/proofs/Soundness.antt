@@ -3,7 +3,7 @@ use Rattle.std.proofs.Common.{◌≡◌, ℕ, ◌+◌, ◌<◌, ◌≤◌, Bool,
 use Rattle.std.specs.Prelude.{◌&&◌, ◌||◌, codes}
 use Rattle.std.specs.Option.{option_map, option_to_list}
 use Rattle.std.specs.List.{list_all}
-use Rattle.std.proofs.lemmas.Bool.{and_from}
+use Rattle.std.proofs.lemmas.Bool.{and_from, and_parts, le-leb}
 use Rattle.std.proofs.lemmas.List.Folds.{list_all-append, list_any-append}
 use Rattle.std.proofs.lemmas.List.{length-map}
 use Rattle.base.specs.Bytes.{Identifier}
@@ -27,7 +27,6 @@ use Rattle.world.proofs.GrownLines.{objects_of, are_known, table_grows, table_st
 use Rattle.world.proofs.KeptBuiltIns.{KeepsBuiltIns, built_ins_kept, line_kept, error_kept}
 use Rattle.world.proofs.WorldTables.{built_ins_table}
 use Rattle.world.proofs.KeptLines.{IsKept}
-use Rattle.world_lines.proofs.Tests.{both, at_most_so}
 
 -- ---- objects one after another
 
@@ -49,10 +48,10 @@ as_many lines =
 all_with_last : (p : Invocation → Bool) (c : Invocation) (threads : List (List Invocation)) → list_all (list_all p) threads ≡ true → p c ≡ true → list_all (list_all p) (with_last c threads) ≡ true
 all_with_last p c [] h k = refl
 all_with_last p c (calls ∷ []) h k =
-    let b = both (list_all p calls) true h in
+    let b = and_parts (list_all p calls) true h in
     and_from (list_all p (calls ++ c ∷ [])) true (list_all-append p calls (c ∷ []) ∙ and_from (list_all p calls) (p c && true) b.0 (and_from (p c) true k refl)) refl
 all_with_last p c (calls ∷ next ∷ threads) h k =
-    let b = both (list_all p calls) (list_all (list_all p) (next ∷ threads)) h in
+    let b = and_parts (list_all p calls) (list_all (list_all p) (next ∷ threads)) h in
     and_from (list_all p calls) (list_all (list_all p) (with_last c (next ∷ threads))) b.0 (all_with_last p c (next ∷ threads) b.1 k)
 
 has_last : (calls : List Invocation) (c : Invocation) → has_call (calls ++ c ∷ []) ≡ true
@@ -63,7 +62,7 @@ calls_with_last : (c : Invocation) (threads : List (List Invocation)) → list_a
 calls_with_last c [] h = refl
 calls_with_last c (calls ∷ []) h = and_from (has_call (calls ++ c ∷ [])) true (has_last calls c) refl
 calls_with_last c (calls ∷ next ∷ threads) h =
-    let b = both (has_call calls) (list_all has_call (next ∷ threads)) h in
+    let b = and_parts (has_call calls) (list_all has_call (next ∷ threads)) h in
     and_from (has_call calls) (list_all has_call (with_last c (next ∷ threads))) b.0 (calls_with_last c (next ∷ threads) b.1)
 
 -- ---- the step
@@ -243,7 +242,7 @@ module _ (cells : ℕ) (L : Lines) (n : ℕ) (line : WorldLine) (s : AreSound ce
       made = loaded_count (world_of 0 cells L)
 
       by_part : (part_of line ≤ 1) ⊎ (part_of line ≡ 2) → list_all (list_all (are_arguments (loaded_count (world_of 0 cells next)))) (threads_of next) ≡ true
-      by_part (inl p) = ap (list_all (list_all (are_arguments (loaded_count (world_of 0 cells next))))) (threads_next ∙ no_thread L (threads_of L) n line (at_most_so (part_of line) 1 p) ∙ no_threads L n line k.ordered s.known k.known p)
+      by_part (inl p) = ap (list_all (list_all (are_arguments (loaded_count (world_of 0 cells next))))) (threads_next ∙ no_thread L (threads_of L) n line (le-leb (part_of line) 1 p) ∙ no_threads L n line k.ordered s.known k.known p)
       by_part (inr p) =
           ap (λ T. list_all (list_all (are_arguments (length T + 1 + length (objects_of next)))) (threads_of next)) (same_table p)
           ∙ ap (λ os. list_all (list_all (are_arguments (length (table_of L) + 1 + length os))) (threads_of next)) (same_objects p)
@@ -290,7 +289,7 @@ sound_world heap_line cells lines high s =
       methods = s.methods;
       declares = declares_well (table_of lines) s.table.table s.built_ins s.declares;
       cells = high;
-      fits = at_most_so (cells_of lines) cells s.fits;
+      fits = le-leb (cells_of lines) cells s.fits;
       few_objects = few;
       objects = s.objects;
       few_threads = s.few_threads;

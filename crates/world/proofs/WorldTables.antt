@@ -3,6 +3,8 @@ use Rattle.std.proofs.Common.{◌≡◌, ℕ, zero, suc, ◌+◌, ◌<◌, ◌�
 use Rattle.std.specs.Prelude.{not, ◌&&◌, ◌||◌, ◌==◌, is_some, bytes_eq, slice_get}
 use Rattle.std.specs.Option.{option_map, option_map_or}
 use Rattle.std.specs.List.{list_all}
+use Rattle.std.proofs.lemmas.Bool.{and_parts, eqb-true}
+use Rattle.std.proofs.lemmas.Slice.Eq.{bytes_eq-Decides}
 use Rattle.base.specs.Bytes.{Identifier}
 use Rattle.class_rules.specs.Additions.{new_class, with_class, with_changed_class}
 use Rattle.class_rules.specs.BuiltIns.{built_ins, object_array_class}
@@ -10,9 +12,11 @@ use Rattle.class_rules.specs.Class.{ClassKind, Plain, ArrayOfNumbers, ArrayOfObj
 use Rattle.class_rules.specs.Mangling.{is_class_name}
 use Rattle.classes.proofs.Layouts.{get-front}
 use Rattle.class_rules.proofs.MangledNames.{array_name-no_class}
+use Rattle.class_rules.proofs.FoundClasses.{built_ins_long}
 use Rattle.world.proofs.ChangedClasses.{changed, changed-length}
 use Rattle.world.proofs.Places.{found, position-found, found_below, kept_place, later_place}
-use Rattle.world_lines.proofs.Tests.{both, mapped, same_number, same_bytes, are_same_bytes}
+use Rattle.world_lines.proofs.Tests.{mapped}
+use Rattle.world_values.proofs.LoadedWorlds.{passes_at}
 
 -- ---- classes by name and number
 
@@ -50,7 +54,7 @@ named T name c h =
     let at = found_at (is_named name) T i.0 i.1 in
     let below = found_below (is_named name) T i.0 i.1 in
     let number : suc i.0 ≡ c = omega (arith, i.2) in
-    record { class = at.0; is = ap (class_at T) (sym number) ∙ at.1; same = same_bytes at.0.name name at.2; low = omega (arith, number); high = omega (arith, number, below) }
+    record { class = at.0; is = ap (class_at T) (sym number) ∙ at.1; same = (bytes_eq-Decides at.0.name name).0 at.2; low = omega (arith, number); high = omega (arith, number, below) }
 
 pub named_kept : (T X : Classes) (name : Identifier) (c : ℕ) → class_named T name ≡ Some c → class_named (T ++ X) name ≡ Some c
 named_kept T X name c h =
@@ -111,10 +115,6 @@ built_ins_arrays : arrays_there built_ins 1 built_ins ≡ true
 unfolding built_ins
 built_ins_arrays = refl
 
-built_ins_long : length built_ins ≡ 42
-unfolding built_ins
-built_ins_long = refl
-
 -- without the last byte
 abbrev front : List ℕ → List ℕ
 front [] = []
@@ -140,12 +140,6 @@ front-last (c ∷ d ∷ bytes) b = ap (λ (bs : List ℕ). c ∷ bs) (front-last
 element-array : (name : Identifier) → element_of (array_name name) ≡ name
 element-array name = front-last name 59
 
--- what the test of each class says of one of them
-all_at : {X : Type 0} (p : X → Bool) (xs : List X) (i : ℕ) (x : X) → list_all p xs ≡ true → slice_get xs i ≡ Some x → p x ≡ true
-all_at p [] i x h e = absurd (cc)
-all_at p (y ∷ ys) zero x h e = let is : y ≡ x = cc in ap p (sym is) ∙ (both (p y) (list_all p ys) h).0
-all_at p (y ∷ ys) (suc i) x h e = all_at p ys i x (both (p y) (list_all p ys) h).1 e
-
 arrays_at : (T : Classes) (n : ℕ) (ds : Classes) (i : ℕ) (d : Class) → arrays_there T n ds ≡ true → slice_get ds i ≡ Some d → (not (is_plain d.kind) || array_there T (n + i) (class_named T (array_name d.name))) ≡ true
 arrays_at T n [] i d h e = absurd (cc)
 arrays_at T n (x ∷ ds) zero d h e =
@@ -153,11 +147,11 @@ arrays_at T n (x ∷ ds) zero d h e =
     let number : n + 0 ≡ n = omega arith in
     ap (λ m. not (is_plain d.kind) || array_there T m (class_named T (array_name d.name))) number
     ∙ ap (λ (y : Class). not (is_plain y.kind) || array_there T n (class_named T (array_name y.name))) (sym is)
-    ∙ (both (not (is_plain x.kind) || array_there T n (class_named T (array_name x.name))) (arrays_there T (n + 1) ds) h).0
+    ∙ (and_parts (not (is_plain x.kind) || array_there T n (class_named T (array_name x.name))) (arrays_there T (n + 1) ds) h).0
 arrays_at T n (x ∷ ds) (suc i) d h e =
     let number : n + suc i ≡ n + 1 + i = omega arith in
     ap (λ m. not (is_plain d.kind) || array_there T m (class_named T (array_name d.name))) number
-    ∙ arrays_at T (n + 1) ds i d (both (not (is_plain x.kind) || array_there T n (class_named T (array_name x.name))) (arrays_there T (n + 1) ds) h).1 e
+    ∙ arrays_at T (n + 1) ds i d (and_parts (not (is_plain x.kind) || array_there T n (class_named T (array_name x.name))) (arrays_there T (n + 1) ds) h).1 e
 
 right_one : (a b : Bool) → (not a || b) ≡ true → a ≡ true → b ≡ true
 right_one true b h k = h
@@ -166,7 +160,7 @@ right_one false b h k = absurd (cc)
 array_kind : (n : ℕ) (T : Classes) (k : ClassKind) → is_array_of T n k ≡ true → k ≡ ArrayOfObjects n
 array_kind n T Plain h = absurd (let no : false ≡ true = h in cc)
 array_kind n T (ArrayOfNumbers t) h = absurd (let no : false ≡ true = h in cc)
-array_kind n T (ArrayOfObjects m) h = ap ArrayOfObjects (same_number m n h)
+array_kind n T (ArrayOfObjects m) h = ap ArrayOfObjects (eqb-true m n h)
 
 has_array : (T : Classes) (name : Identifier) (n : ℕ) (o : Option ℕ) → class_named T (array_name name) ≡ o → array_there T n o ≡ true → HasArray T name n
 has_array T name n None e h = absurd (let no : false ≡ true = h in cc)
@@ -198,8 +192,8 @@ built_ins_table = record { long = omega (arith, built_ins_long); kinds = λ c h.
             let d = named built_ins (array_name name) k e in
             let i = at_place built_ins k d.class d.is in
             let element : element_of d.class.name ≡ name = ap element_of d.same ∙ element-array name in
-            let same : bytes_eq (array_name (element_of d.class.name)) d.class.name ≡ true = are_same_bytes _ _ (ap array_name element ∙ sym d.same) in
-            let test = right_one (bytes_eq (array_name (element_of d.class.name)) d.class.name) (is_some (class_named built_ins (element_of d.class.name))) (all_at (element_there built_ins) built_ins i.0 d.class built_ins_elements i.2) same in
+            let same : bytes_eq (array_name (element_of d.class.name)) d.class.name ≡ true = (bytes_eq-Decides _ _).1 (ap array_name element ∙ sym d.same) in
+            let test = right_one (bytes_eq (array_name (element_of d.class.name)) d.class.name) (is_some (class_named built_ins (element_of d.class.name))) (passes_at (element_there built_ins) built_ins i.0 d.class built_ins_elements i.2) same in
             absurd (let no : false ≡ true = sym (ap is_some h) ∙ ap (λ x. is_some (class_named built_ins x)) (sym element) ∙ test in cc)
 
 -- ---- one more class, and its class of arrays
@@ -234,7 +228,7 @@ module _ (T : Classes) (name : Identifier) (s : Option ℕ) (t : IsWorldTable T)
     where
       by_test : (b : Bool) → bytes_eq name (array_name m) ≡ b → b ≡ false
       by_test false e = refl
-      by_test true e = absurd (let no : true ≡ false = sym formed ∙ ap is_class_name (same_bytes name (array_name m) e) ∙ array_name-no_class m in cc)
+      by_test true e = absurd (let no : true ≡ false = sym formed ∙ ap is_class_name ((bytes_eq-Decides name (array_name m)).0 e) ∙ array_name-no_class m in cc)
 
   element_name : (a b : Identifier) → array_name a ≡ array_name b → a ≡ b
   element_name a b e = sym (element-array a) ∙ ap element_of e ∙ element-array b
@@ -254,10 +248,10 @@ module _ (T : Classes) (name : Identifier) (s : Option ℕ) (t : IsWorldTable T)
           by_tests : (a b : Bool) → bytes_eq name m ≡ a → bytes_eq (array_name name) m ≡ b → by_names a b ≡ Some c → HasArray (T ++ added) m c
           by_tests true b p q k =
               let number : length T + 1 ≡ c = cc in
-              let is : name ≡ m = same_bytes name m p in
+              let is : name ≡ m = (bytes_eq-Decides name m).0 p in
               record {
                 number = length T + 2;
-                is = named_after (array_name m) (t.elements m e) ∙ (λ i. by_names (not_named m i) (are_same_bytes (array_name name) (array_name m) (ap array_name is) i));
+                is = named_after (array_name m) (t.elements m e) ∙ (λ i. by_names (not_named m i) ((bytes_eq-Decides (array_name name) (array_name m)).1 (ap array_name is) i));
                 kind = array_at ∙ ap ArrayOfObjects number;
               }
           by_tests false true p q k =
@@ -275,7 +269,7 @@ module _ (T : Classes) (name : Identifier) (s : Option ℕ) (t : IsWorldTable T)
           by_tests : (a b : Bool) → bytes_eq name m ≡ a → bytes_eq (array_name name) (array_name m) ≡ b → by_names a (bytes_eq (array_name name) m) ≡ None → class_named (T ++ added) (array_name m) ≡ None
           by_tests true b p q k = absurd (cc)
           by_tests false true p q k =
-              absurd (let no : false ≡ true = sym p ∙ are_same_bytes name m (element_name name m (same_bytes (array_name name) (array_name m) q)) in cc)
+              absurd (let no : false ≡ true = sym p ∙ (bytes_eq-Decides name m).1 (element_name name m ((bytes_eq-Decides (array_name name) (array_name m)).0 q)) in cc)
           by_tests false false p q k = named_after (array_name m) (t.elements m e) ∙ (λ i. by_names (not_named m i) (q i))
 
   pub class_table : IsWorldTable (with_class T new)

@@ -2,8 +2,9 @@
 use Rattle.std.proofs.Common.{◌≡◌, ℕ, ◌-◌, ◌^◌, ◌<◌, ◌≤◌, Bool, true, false, cond, List, [], ◌∷◌, get_or, min, Option, Some, None, refl, sym, ap, ◌∙◌, arith}
 use Rattle.std.specs.Prelude.{codes, decimal, ◌==◌, bytes_eq}
 use Rattle.std.specs.Option.{option_map}
-use Rattle.std.proofs.lemmas.Bool.{and_from}
+use Rattle.std.proofs.lemmas.Bool.{and_from, and_parts}
 use Rattle.std.proofs.lemmas.Fmt.{first_decimal}
+use Rattle.std.proofs.lemmas.Slice.Eq.{bytes_eq-Decides}
 use Rattle.world_schedules.specs.Numbers.{natural_of}
 use Rattle.world_schedules.specs.Split.{parts_of}
 use Rattle.world_lines.specs.ReadingLines.{HeapLine, below_zero, cells_named, heap_named, heap_by_words, heap_of_line}
@@ -14,7 +15,7 @@ use Rattle.world_schedules.proofs.MeantSchedules.{natural_of-decimal}
 use Rattle.world_schedules.proofs.ScheduleLaws.{decimal-natural_of}
 use Rattle.world_lines.proofs.LineWords.{spaced_parts, parts_spaced}
 use Rattle.world_lines.proofs.ReadValues.{decimal_word}
-use Rattle.world_lines.proofs.Tests.{both, mapped, same_bytes, later_number}
+use Rattle.world_lines.proofs.Tests.{mapped, later_number}
 
 -- the line of a heap of this number of cells
 abbrev pub heap_text : (cells : ℕ) (methods : Bool) → List ℕ
@@ -37,7 +38,7 @@ unfolding heap_of_line
 heap_is_read cells methods low high = by_methods methods
   where
     word : (is_some_byte (decimal cells) ≡ true) × (has_no_space (decimal cells) ≡ true)
-    word = both (is_some_byte (decimal cells)) (has_no_space (decimal cells)) (decimal_word cells (omega (arith, high)))
+    word = and_parts (is_some_byte (decimal cells)) (has_no_space (decimal cells)) (decimal_word cells (omega (arith, high)))
 
     are : cells_named (decimal cells) ≡ Some cells
     are = cells_are (decimal cells) cells (first_decimal cells (omega (arith, low)) (omega (arith, high))) (natural_of-decimal cells (omega (arith, low)) (omega (arith, high))) high
@@ -79,7 +80,7 @@ named_written more word number cells methods k low high = by_test (bytes_eq word
     by_test true e j =
         let n = mapped (told more) (cells_named number) (cells, methods) j in
         let same : n.0 ≡ cells = ap (λ (h : ℕ × Bool). h.0) n.2 in
-        (same_bytes word (codes "heap") e, cells_written number cells (n.1 ∙ ap Some same) low high, ap (λ (h : ℕ × Bool). h.1) n.2)
+        ((bytes_eq-Decides word (codes "heap")).0 e, cells_written number cells (n.1 ∙ ap Some same) low high, ap (λ (h : ℕ × Bool). h.1) n.2)
 
 pub heap_is_written : (bytes : List ℕ) (cells : ℕ) (methods : Bool) → heap_of_line bytes ≡ Some (cells, methods) → 512 ≤ cells → cells ≤ 1048576 → bytes ≡ heap_text cells methods
 unfolding heap_of_line
@@ -97,5 +98,5 @@ heap_is_written bytes cells methods h low high = sym (parts_spaced bytes) ∙ by
         by_more false e j = absurd (cc)
         by_more true e j =
             let n = named_written true word number cells methods j low high in
-            (λ i. spaced (n.0 i ∷ n.1 i ∷ same_bytes more (codes "methods") e i ∷ [])) ∙ ap (heap_text cells) n.2
+            (λ i. spaced (n.0 i ∷ n.1 i ∷ (bytes_eq-Decides more (codes "methods")).0 e i ∷ [])) ∙ ap (heap_text cells) n.2
     by_parts (word ∷ number ∷ more ∷ next ∷ words) k = absurd (cc)

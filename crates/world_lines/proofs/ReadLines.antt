@@ -3,7 +3,7 @@ use Rattle.std.proofs.Common.{◌≡◌, ℕ, true, false, cond, List, [], ◌�
 use Rattle.std.specs.Prelude.{codes, ◌&&◌, bytes_eq}
 use Rattle.std.specs.Option.{option_map}
 use Rattle.std.specs.List.{list_all}
-use Rattle.std.proofs.lemmas.Bool.{and_from}
+use Rattle.std.proofs.lemmas.Bool.{and_from, and_parts}
 use Rattle.base.specs.Bytes.{is_some_byte}
 use Rattle.base.specs.Element.{JInt}
 use Rattle.world_schedules.specs.Split.{parts_of}
@@ -13,7 +13,6 @@ use Rattle.world_values.specs.WorldLines.{WorldValue, WorldLine, MethodsLine, Cl
 use Rattle.world_values.specs.WorldRules.{value_in_range}
 use Rattle.world_lines.proofs.LineWords.{first_part, spaced_parts, parts_spaced, words_some, words_free}
 use Rattle.world_lines.proofs.ReadValues.{value_words, values_read, element_read, element_word}
-use Rattle.world_lines.proofs.Tests.{both}
 
 by_words : (bytes : List ℕ) (words : List (List ℕ)) → parts_of 32 bytes ≡ words → line_of bytes ≡ line_by_words words
 unfolding line_of
@@ -37,33 +36,33 @@ text_read : (line : WorldLine) → has_words line ≡ true → list_all (value_i
 text_read MethodsLine words range = absurd (cc)
 text_read (ClassLine name None) words range = by_kind (codes "class") (name ∷ []) refl refl (and_from (is_line_word name) true words refl)
 text_read (ClassLine name (Some superclass)) words range =
-    let b = both (is_line_word name) (is_line_word superclass) words in
+    let b = and_parts (is_line_word name) (is_line_word superclass) words in
     by_kind (codes "class") (name ∷ codes "extends" ∷ superclass ∷ []) refl refl (and_from (is_line_word name) (is_line_word superclass && true) b.0 (and_from (is_line_word superclass) true b.1 refl))
 text_read (FieldLine class name signature) words range = by_kind (codes "field") (class ∷ name ∷ signature ∷ []) refl refl words
 text_read (StaticLine class name signature) words range = by_kind (codes "static") (class ∷ name ∷ signature ∷ []) refl refl words
 text_read (ObjectLine x class vs) words range =
-    let b = both (has_no_space x && is_line_word class) (list_all is_value_word vs) words in
-    let c = both (has_no_space x) (is_line_word class) b.0 in
+    let b = and_parts (has_no_space x && is_line_word class) (list_all is_value_word vs) words in
+    let c = and_parts (has_no_space x) (is_line_word class) b.0 in
     by_kind (codes "object") (at_name x ∷ class ∷ map value_text vs) refl refl (object_words x class vs c.0 c.1 b.1 range)
     ∙ ap (object_line (λ name. ObjectLine name class) (Some x)) (values_read vs range)
 text_read (ObjectsLine x class vs) words range =
-    let b = both (has_no_space x && is_line_word class) (list_all is_value_word vs) words in
-    let c = both (has_no_space x) (is_line_word class) b.0 in
+    let b = and_parts (has_no_space x && is_line_word class) (list_all is_value_word vs) words in
+    let c = and_parts (has_no_space x) (is_line_word class) b.0 in
     by_kind (codes "objects") (at_name x ∷ class ∷ map value_text vs) refl refl (object_words x class vs c.0 c.1 b.1 range)
     ∙ ap (object_line (λ name. ObjectsLine name class) (Some x)) (values_read vs range)
 text_read (ArrayLine x t vs) words range =
-    let b = both (has_no_space x) (list_all is_value_word vs) words in
+    let b = and_parts (has_no_space x) (list_all is_value_word vs) words in
     by_kind (codes "array") (at_name x ∷ element_letter t ∷ map value_text vs) refl refl (object_words x (element_letter t) vs b.0 (element_word t) b.1 range)
     ∙ (λ i. array_line (Some x) (element_read t i) (values_read vs range i))
 text_read (StringLine x text) words range =
     let parts = first_part (codes "string") (spaced (at_name x ∷ text ∷ [])) refl ∙ ap (λ (ps : List (List ℕ)). codes "string" ∷ ps) (first_part (at_name x) text words) in
     by_words (spaced (codes "string" ∷ at_name x ∷ text ∷ [])) (codes "string" ∷ at_name x ∷ parts_of 32 text) parts ∙ ap (λ t. Some (StringLine x t)) (parts_spaced text)
 text_read (ThreadLine function vs) words range =
-    let b = both (is_line_word function) (list_all is_value_word vs) words in
+    let b = and_parts (is_line_word function) (list_all is_value_word vs) words in
     by_kind (codes "thread") (function ∷ map value_text vs) refl refl (call_words function vs b.0 b.1 range)
     ∙ ap (λ o. option_map (ThreadLine function) o) (values_read vs range)
 text_read (CallLine function vs) words range =
-    let b = both (is_line_word function) (list_all is_value_word vs) words in
+    let b = and_parts (is_line_word function) (list_all is_value_word vs) words in
     by_kind (codes "call") (function ∷ map value_text vs) refl refl (call_words function vs b.0 b.1 range)
     ∙ ap (λ o. option_map (CallLine function) o) (values_read vs range)
 

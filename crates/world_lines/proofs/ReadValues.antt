@@ -5,7 +5,7 @@ use Rattle.std.specs.Fmt.{signed_decimal}
 use Rattle.std.specs.Char.{is_ascii_digit}
 use Rattle.std.specs.List.{list_all}
 use Rattle.std.specs.Str.{all_ascii_digits}
-use Rattle.std.proofs.lemmas.Bool.{and_from}
+use Rattle.std.proofs.lemmas.Bool.{and_from, and_parts, leb-true, ltb-true}
 use Rattle.std.proofs.lemmas.Bool.Decides.{nat_tests}
 use Rattle.std.proofs.lemmas.Fmt.{decimal_nonempty, digits_decimal}
 use Rattle.std.proofs.lemmas.Str.Parse.{numerals_by_value, tells_all_ascii_digits}
@@ -18,7 +18,6 @@ use Rattle.world_values.specs.WorldLines.{WorldValue, NumberValue, NullValue, Na
 use Rattle.world_values.specs.WorldRules.{is_in_range, value_in_range}
 use Rattle.world_schedules.proofs.MeantSchedules.{natural_of-decimal}
 use Rattle.world_schedules.proofs.ScheduleLaws.{decimal-natural_of}
-use Rattle.world_lines.proofs.Tests.{both, at_most, less}
 
 -- ---- numbers
 
@@ -38,8 +37,8 @@ record BeginsWithDigit (bytes : List ℕ) : Type 0 where
 begins : (bytes : List ℕ) → 0 < length bytes → all_ascii_digits bytes ≡ true → BeginsWithDigit bytes
 begins [] some h = absurd (omega arith)
 begins (d ∷ ds) some h =
-    let a = both (is_ascii_digit d) (all_ascii_digits ds) h in
-    let b = both (nat_le 48 d) (nat_le d 57) a.0 in
+    let a = and_parts (is_ascii_digit d) (all_ascii_digits ds) h in
+    let b = and_parts (nat_le 48 d) (nat_le d 57) a.0 in
     let low : 48 ≤ d = grind (arith, nat_tests, b.0) in
     let high : d ≤ 57 = grind (arith, nat_tests, b.1) in
     record { digit = d; rest = ds; is = refl; low = low; high = high }
@@ -80,7 +79,7 @@ number_read (negsuc m) range =
 digits_word : (ds : List ℕ) → all_ascii_digits ds ≡ true → has_no_space ds ≡ true
 digits_word [] h = refl
 digits_word (d ∷ ds) h =
-    let b = both (is_ascii_digit d) (all_ascii_digits ds) h in
+    let b = and_parts (is_ascii_digit d) (all_ascii_digits ds) h in
     and_from (not (d == 32)) (has_no_space ds) (by_test (d == 32) refl b.0) (digits_word ds b.1)
   where
     by_test : (t : Bool) → (d == 32) ≡ t → is_ascii_digit d ≡ true → not t ≡ true
@@ -96,10 +95,10 @@ decimal_word n small =
     (digits_word (decimal n) (digits_decimal (numerals_by_value (λ ds. all_ascii_digits ds ≡ true) tells_all_ascii_digits) n small))
 
 number_word : (z : ℤ) → is_in_range JInt z ≡ true → is_line_word (signed_decimal z) ≡ true
-number_word (pos n) range = let low = at_most n 2147483647 range in decimal_word n (omega (arith, low))
+number_word (pos n) range = let low = leb-true n 2147483647 range in decimal_word n (omega (arith, low))
 number_word (negsuc m) range =
-    let low = less m 2147483648 range in
-    (both (is_some_byte (decimal (suc m))) (has_no_space (decimal (suc m))) (decimal_word (suc m) (omega (arith, low)))).1
+    let low = ltb-true m 2147483648 range in
+    (and_parts (is_some_byte (decimal (suc m))) (has_no_space (decimal (suc m))) (decimal_word (suc m) (omega (arith, low)))).1
 
 -- the words of values
 pub value_word : (v : WorldValue) → is_value_word v ≡ true → value_in_range JInt v ≡ true → is_line_word (value_text v) ≡ true
@@ -111,8 +110,8 @@ value_word (NamedClass name) h range = h
 pub value_words : (vs : List WorldValue) → list_all is_value_word vs ≡ true → list_all (value_in_range JInt) vs ≡ true → list_all is_line_word (map value_text vs) ≡ true
 value_words [] h range = refl
 value_words (v ∷ vs) h range =
-    let w = both (is_value_word v) (list_all is_value_word vs) h in
-    let r = both (value_in_range JInt v) (list_all (value_in_range JInt) vs) range in
+    let w = and_parts (is_value_word v) (list_all is_value_word vs) h in
+    let r = and_parts (value_in_range JInt v) (list_all (value_in_range JInt) vs) range in
     and_from (is_line_word (value_text v)) (list_all is_line_word (map value_text vs)) (value_word v w.0 r.0) (value_words vs w.1 r.1)
 
 -- ---- values
@@ -127,7 +126,7 @@ value_read (NamedClass name) range = refl
 pub values_read : (vs : List WorldValue) → list_all (value_in_range JInt) vs ≡ true → values_named (map value_text vs) ≡ Some vs
 values_read [] range = refl
 values_read (v ∷ vs) range =
-    let r = both (value_in_range JInt v) (list_all (value_in_range JInt) vs) range in
+    let r = and_parts (value_in_range JInt v) (list_all (value_in_range JInt) vs) range in
     ap (λ o. with_word o (values_named (map value_text vs))) (value_read v r.0) ∙ ap (with_word (Some v)) (values_read vs r.1)
 
 -- ---- the letter of a type

@@ -2,7 +2,8 @@
 use Rattle.std.proofs.Common.{◌≡◌, ℕ, Bool, true, false, cond, List, [], ◌∷◌, map, Option, Some, None, refl, sym, ap, ◌∙◌, subst, ◌⊎◌, inl, inr}
 use Rattle.std.specs.Prelude.{codes, ◌&&◌, bytes_eq}
 use Rattle.std.specs.List.{list_all}
-use Rattle.std.proofs.lemmas.Bool.{and_from}
+use Rattle.std.proofs.lemmas.Bool.{and_from, and_parts}
+use Rattle.std.proofs.lemmas.Slice.Eq.{bytes_eq-Decides}
 use Rattle.base.specs.Bytes.{Identifier, is_some_byte}
 use Rattle.base.specs.Element.{ElementType, JInt}
 use Rattle.world_schedules.specs.Split.{parts_of}
@@ -12,7 +13,7 @@ use Rattle.world_values.specs.WorldLines.{WorldValue, WorldLine, ClassLine, Fiel
 use Rattle.world_values.specs.WorldRules.{value_in_range}
 use Rattle.world_lines.proofs.LineWords.{parts_spaced, parts_free, are_words}
 use Rattle.world_lines.specs.LineContents.{written_values}
-use Rattle.world_lines.proofs.Tests.{both, mapped, same_bytes}
+use Rattle.world_lines.proofs.Tests.{mapped}
 use Rattle.world_lines.proofs.WrittenValues.{object_written, values_written, element_written}
 
 -- a line of a first word and others, none of them empty
@@ -25,7 +26,7 @@ class_written : (bytes : List ℕ) (line : WorldLine) (words : List (List ℕ)) 
 class_written bytes line [] w h = absurd (cc)
 class_written bytes line (name ∷ []) w h =
     let is : ClassLine name None ≡ line = cc in
-    subst (IsLineText bytes) is ((both (is_line_word name) true w.are_words).0, inl w.is)
+    subst (IsLineText bytes) is ((and_parts (is_line_word name) true w.are_words).0, inl w.is)
 class_written bytes line (name ∷ extends ∷ []) w h = absurd (cc)
 class_written bytes line (name ∷ extends ∷ superclass ∷ []) w h = by_test (bytes_eq extends (codes "extends")) refl h
   where
@@ -33,10 +34,10 @@ class_written bytes line (name ∷ extends ∷ superclass ∷ []) w h = by_test 
     by_test false e k = absurd (cc)
     by_test true e k =
         let is : ClassLine name (Some superclass) ≡ line = cc in
-        let a = both (is_line_word name) (list_all is_line_word (extends ∷ superclass ∷ [])) w.are_words in
-        let b = both (is_line_word extends) (list_all is_line_word (superclass ∷ [])) a.1 in
-        let c = both (is_line_word superclass) true b.1 in
-        subst (IsLineText bytes) is (and_from (is_line_word name) (is_line_word superclass) a.0 c.0, inl (w.is ∙ ap (λ word. spaced (codes "class" ∷ name ∷ word ∷ superclass ∷ [])) (same_bytes extends (codes "extends") e)))
+        let a = and_parts (is_line_word name) (list_all is_line_word (extends ∷ superclass ∷ [])) w.are_words in
+        let b = and_parts (is_line_word extends) (list_all is_line_word (superclass ∷ [])) a.1 in
+        let c = and_parts (is_line_word superclass) true b.1 in
+        subst (IsLineText bytes) is (and_from (is_line_word name) (is_line_word superclass) a.0 c.0, inl (w.is ∙ ap (λ word. spaced (codes "class" ∷ name ∷ word ∷ superclass ∷ [])) ((bytes_eq-Decides extends (codes "extends")).0 e)))
 class_written bytes line (name ∷ extends ∷ superclass ∷ more ∷ words) w h = absurd (cc)
 
 -- ---- fields
@@ -90,14 +91,14 @@ record AreObjectWords (first word : List ℕ) (words : List (List ℕ)) (x : Ide
 object_words : (first word : List ℕ) (words : List (List ℕ)) (x : Identifier) (vs : List WorldValue) → list_all is_line_word (first ∷ word ∷ words) ≡ true → list_all has_no_space (first ∷ word ∷ words) ≡ true → object_named first ≡ Some x → values_named words ≡ Some vs
     → list_all (value_in_range JInt) vs ≡ true → AreObjectWords first word words x vs
 object_words first word words x vs are free named valued range =
-    let a = both (is_line_word first) (list_all is_line_word (word ∷ words)) are in
-    let f = both (has_no_space first) (list_all has_no_space (word ∷ words)) free in
-    let v = values_written words vs (both (has_no_space word) (list_all has_no_space words) f.1).1 valued range in
+    let a = and_parts (is_line_word first) (list_all is_line_word (word ∷ words)) are in
+    let f = and_parts (has_no_space first) (list_all has_no_space (word ∷ words)) free in
+    let v = values_written words vs (and_parts (has_no_space word) (list_all has_no_space words) f.1).1 valued range in
     let text = object_written first x named in
     record {
       texts = ap (λ w. w ∷ word ∷ words) text ∙ ap (λ ws. at_name x ∷ word ∷ ws) v.texts;
       name_word = ap has_no_space (sym text) ∙ f.0;
-      second_word = (both (is_line_word word) (list_all is_line_word words) a.1).0;
+      second_word = (and_parts (is_line_word word) (list_all is_line_word words) a.1).0;
       value_words = v.are_words;
     }
 
@@ -138,7 +139,7 @@ string_is bytes line [] e free h = absurd (cc)
 string_is bytes line (first ∷ words) e free h =
     let x = mapped (λ name. StringLine name (spaced words)) (object_named first) line h in
     let text = object_written first x.0 x.1 in
-    let f = both (has_no_space first) (list_all has_no_space words) free in
+    let f = and_parts (has_no_space first) (list_all has_no_space words) free in
     subst (IsLineText bytes) x.2 (ap has_no_space (sym text) ∙ f.0, by_words x.0 words (e ∙ ap (λ w. spaced (codes "string" ∷ w ∷ words)) text))
   where
     by_words : (x : Identifier) (ws : List (List ℕ)) → bytes ≡ spaced (codes "string" ∷ at_name x ∷ ws) → (bytes ≡ line_text (StringLine x (spaced ws))) ⊎ IsBareString (StringLine x (spaced ws)) bytes
@@ -160,8 +161,8 @@ call_said : (made : Identifier → List WorldValue → WorldLine) (words : List 
 call_said made [] line are free h range = absurd (cc)
 call_said made (function ∷ words) line are free h range =
     let vs = mapped (made function) (values_named words) line h in
-    let a = both (is_line_word function) (list_all is_line_word words) are in
-    let f = both (has_no_space function) (list_all has_no_space words) free in
+    let a = and_parts (is_line_word function) (list_all is_line_word words) are in
+    let f = and_parts (has_no_space function) (list_all has_no_space words) free in
     let v = values_written words vs.0 f.1 vs.1 (range function vs.0 vs.2) in
     record { function = function; vs = vs.0; is = vs.2; texts = ap (λ ws. function ∷ ws) v.texts; word = a.0; value_words = v.are_words }
 
@@ -179,7 +180,7 @@ call_is bytes line words w h range =
 
 module _ (bytes : List ℕ) (line : WorldLine) (range : list_all (value_in_range JInt) (written_values line) ≡ true) (kind : List ℕ) (words : List (List ℕ)) (w : AreWords bytes kind words) where
   begun : (first : List ℕ) → bytes_eq kind first ≡ true → AreWords bytes first words
-  begun first e = record { is = w.is ∙ ap (λ k. spaced (k ∷ words)) (same_bytes kind first e); are_words = w.are_words; free = w.free }
+  begun first e = record { is = w.is ∙ ap (λ k. spaced (k ∷ words)) ((bytes_eq-Decides kind first).0 e); are_words = w.are_words; free = w.free }
 
   kind_written : words_by_kind kind words ≡ Some line → IsLineText bytes line
   kind_written h = by_kind (bytes_eq kind (codes "class")) (bytes_eq kind (codes "field")) (bytes_eq kind (codes "static")) (bytes_eq kind (codes "object")) (bytes_eq kind (codes "objects")) (bytes_eq kind (codes "array")) (bytes_eq kind (codes "thread"))
@@ -209,9 +210,9 @@ line_is_written bytes line h range = by_parts (parts_of 32 bytes) (sym (parts_sp
     by_parts (kind ∷ words) e free k = by_tests (bytes_eq kind (codes "string")) (list_all is_some_byte words) refl refl k
       where
         free_words : list_all has_no_space words ≡ true
-        free_words = (both (has_no_space kind) (list_all has_no_space words) free).1
+        free_words = (and_parts (has_no_space kind) (list_all has_no_space words) free).1
 
         by_tests : (a b : Bool) → bytes_eq kind (codes "string") ≡ a → list_all is_some_byte words ≡ b → cond a (string_by_words words) (cond b (words_by_kind kind words) None) ≡ Some line → IsLineText bytes line
-        by_tests true b p q j = string_is bytes line words (e ∙ ap (λ first. spaced (first ∷ words)) (same_bytes kind (codes "string") p)) free_words j
+        by_tests true b p q j = string_is bytes line words (e ∙ ap (λ first. spaced (first ∷ words)) ((bytes_eq-Decides kind (codes "string")).0 p)) free_words j
         by_tests false false p q j = absurd (cc)
         by_tests false true p q j = kind_written bytes line range kind words (record { is = e; are_words = are_words words q free_words; free = free_words }) j

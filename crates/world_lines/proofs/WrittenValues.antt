@@ -5,17 +5,20 @@ use Rattle.std.specs.Fmt.{signed_decimal}
 use Rattle.std.specs.Option.{option_map}
 use Rattle.std.specs.List.{list_all}
 use Rattle.std.specs.Str.{bytes_eq}
-use Rattle.std.proofs.lemmas.Bool.{and_from}
+use Rattle.std.proofs.lemmas.Bool.{and_from, and_parts, eqb-true}
 use Rattle.std.proofs.lemmas.Bool.Decides.{nat_tests}
 use Rattle.std.proofs.lemmas.List.{take-append-drop}
+use Rattle.std.proofs.lemmas.Option.{cond_some}
+use Rattle.std.proofs.lemmas.Slice.Eq.{bytes_eq-Decides}
 use Rattle.base.specs.Bytes.{Identifier}
 use Rattle.base.specs.Element.{ElementType, JInt, JShort, JByte, JChar}
 use Rattle.world_schedules.specs.Numbers.{natural_of, negated, number_named}
 use Rattle.world_lines.specs.ReadingValues.{object_named, plain_value, value_named, values_named, element_named}
 use Rattle.world_values.specs.WorldLines.{WorldValue, NumberValue, NullValue, NamedObject, NamedClass, has_no_space, is_value_word, at_name, value_text, element_letter}
 use Rattle.world_values.specs.WorldRules.{is_in_range, value_in_range}
-use Rattle.world_schedules.proofs.ScheduleLaws.{guarded, some_with, decimal-natural_of}
-use Rattle.world_lines.proofs.Tests.{both, mapped, same_number, same_bytes}
+use Rattle.world_values.proofs.LoadedWorlds.{number_in_range}
+use Rattle.world_schedules.proofs.ScheduleLaws.{some_with, decimal-natural_of}
+use Rattle.world_lines.proofs.Tests.{mapped}
 
 -- ---- numbers
 
@@ -63,14 +66,14 @@ number_written (sign ∷ digits) z h range = by_sign (sign == 45) refl h
 pub object_written : (word : List ℕ) (x : Identifier) → object_named word ≡ Some x → word ≡ at_name x
 object_written [] x h = absurd (cc)
 object_written (c ∷ y) x h =
-    let g = guarded (c == 64) y x h in
-    ap (λ s. s ∷ y) (same_number c 64 g.0) ∙ ap (λ (n : Identifier). 64 ∷ n) g.1
+    let g = cond_some (c == 64) y x h in
+    ap (λ s. s ∷ y) (eqb-true c 64 g.0) ∙ ap (λ (n : Identifier). 64 ∷ n) g.1
 
 plain_written : (word : List ℕ) (v : WorldValue) → plain_value word ≡ Some v → value_in_range JInt v ≡ true → word ≡ value_text v
 plain_written word v h range = by_test (bytes_eq word (codes "null")) refl h
   where
     by_test : (b : Bool) → bytes_eq word (codes "null") ≡ b → cond b (Some NullValue) (option_map NumberValue (number_named word)) ≡ Some v → word ≡ value_text v
-    by_test true t h = let is : NullValue ≡ v = cc in same_bytes word (codes "null") t ∙ ap value_text is
+    by_test true t h = let is : NullValue ≡ v = cc in (bytes_eq-Decides word (codes "null")).0 t ∙ ap value_text is
     by_test false t h =
         let z = mapped NumberValue (number_named word) v h in
         sym (number_written word z.0 z.1 (ap (value_in_range JInt) z.2 ∙ range)) ∙ ap value_text z.2
@@ -87,7 +90,7 @@ value_written (c ∷ rest) v h range = by_sign (c == 64) (bytes_eq (take 6 (c �
         object_written (c ∷ rest) x.0 x.1 ∙ ap value_text x.2
     by_sign false true t h =
         let is : NamedClass (drop 6 (c ∷ rest)) ≡ v = cc in
-        sym (take-append-drop 6 (c ∷ rest)) ∙ ap (λ (front : List ℕ). front ++ drop 6 (c ∷ rest)) (same_bytes (take 6 (c ∷ rest)) (codes "class:") t) ∙ ap value_text is
+        sym (take-append-drop 6 (c ∷ rest)) ∙ ap (λ (front : List ℕ). front ++ drop 6 (c ∷ rest)) ((bytes_eq-Decides (take 6 (c ∷ rest)) (codes "class:")).0 t) ∙ ap value_text is
     by_sign false false t h = plain_written (c ∷ rest) v h range
 
 -- what is written as a word is one
@@ -106,8 +109,8 @@ pub values_written : (words : List (List ℕ)) (vs : List WorldValue) → list_a
 values_written [] vs free h range = let none : [] ≡ vs = cc in subst (AreWritten []) none (record { texts = refl; are_words = refl })
 values_written (word ∷ words) vs free h range =
     let w = some_with (value_named word) (values_named words) vs h in
-    let f = both (has_no_space word) (list_all has_no_space words) free in
-    let r = both (value_in_range JInt w.0) (list_all (value_in_range JInt) w.1) (ap (list_all (value_in_range JInt)) (sym w.4) ∙ range) in
+    let f = and_parts (has_no_space word) (list_all has_no_space words) free in
+    let r = and_parts (value_in_range JInt w.0) (list_all (value_in_range JInt) w.1) (ap (list_all (value_in_range JInt)) (sym w.4) ∙ range) in
     let first = value_written word w.0 w.2 r.0 in
     let others = values_written words w.1 f.1 w.3 r.1 in
     subst (AreWritten (word ∷ words)) (sym w.4) (record {
@@ -117,18 +120,8 @@ values_written (word ∷ words) vs free h range =
 
 -- ---- ranges
 
--- each range is within that of jint
-in_jint : (t : ElementType) (z : ℤ) → is_in_range t z ≡ true → is_in_range JInt z ≡ true
-in_jint JInt z h = h
-in_jint JShort (pos n) h = grind (arith, nat_tests, h)
-in_jint JShort (negsuc n) h = grind (arith, nat_tests, h)
-in_jint JByte (pos n) h = grind (arith, nat_tests, h)
-in_jint JByte (negsuc n) h = grind (arith, nat_tests, h)
-in_jint JChar (pos n) h = grind (arith, nat_tests, h)
-in_jint JChar (negsuc n) h = grind (arith, nat_tests, h)
-
 pub value_in_jint : (t : ElementType) (v : WorldValue) → value_in_range t v ≡ true → value_in_range JInt v ≡ true
-value_in_jint t (NumberValue z) h = in_jint t z h
+value_in_jint t (NumberValue z) h = number_in_range t z h
 value_in_jint t NullValue h = refl
 value_in_jint t (NamedObject x) h = refl
 value_in_jint t (NamedClass x) h = refl
@@ -136,7 +129,7 @@ value_in_jint t (NamedClass x) h = refl
 pub values_in_jint : (t : ElementType) (vs : List WorldValue) → list_all (value_in_range t) vs ≡ true → list_all (value_in_range JInt) vs ≡ true
 values_in_jint t [] h = refl
 values_in_jint t (v ∷ vs) h =
-    let b = both (value_in_range t v) (list_all (value_in_range t) vs) h in
+    let b = and_parts (value_in_range t v) (list_all (value_in_range t) vs) h in
     and_from (value_in_range JInt v) (list_all (value_in_range JInt) vs) (value_in_jint t v b.0) (values_in_jint t vs b.1)
 
 -- ---- the letter of a type
@@ -146,8 +139,8 @@ element_written word t h = by_letter (bytes_eq word (codes "I")) (bytes_eq word 
   where
     by_letter : (i s b c : Bool) → bytes_eq word (codes "I") ≡ i → bytes_eq word (codes "S") ≡ s → bytes_eq word (codes "B") ≡ b → bytes_eq word (codes "C") ≡ c
         → cond i (Some JInt) (cond s (Some JShort) (cond b (Some JByte) (cond c (Some JChar) None))) ≡ Some t → word ≡ element_letter t
-    by_letter true s b c p q r u h = let is : JInt ≡ t = cc in same_bytes word (codes "I") p ∙ ap element_letter is
-    by_letter false true b c p q r u h = let is : JShort ≡ t = cc in same_bytes word (codes "S") q ∙ ap element_letter is
-    by_letter false false true c p q r u h = let is : JByte ≡ t = cc in same_bytes word (codes "B") r ∙ ap element_letter is
-    by_letter false false false true p q r u h = let is : JChar ≡ t = cc in same_bytes word (codes "C") u ∙ ap element_letter is
+    by_letter true s b c p q r u h = let is : JInt ≡ t = cc in (bytes_eq-Decides word (codes "I")).0 p ∙ ap element_letter is
+    by_letter false true b c p q r u h = let is : JShort ≡ t = cc in (bytes_eq-Decides word (codes "S")).0 q ∙ ap element_letter is
+    by_letter false false true c p q r u h = let is : JByte ≡ t = cc in (bytes_eq-Decides word (codes "B")).0 r ∙ ap element_letter is
+    by_letter false false false true p q r u h = let is : JChar ≡ t = cc in (bytes_eq-Decides word (codes "C")).0 u ∙ ap element_letter is
     by_letter false false false false p q r u h = absurd (cc)
