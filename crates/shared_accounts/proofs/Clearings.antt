@@ -60,7 +60,7 @@ led_before r new k b a = by_which a.which
 
 -- ---- collections
 
-fate_in : (r : Run) (s : State) → replay_of r ≡ Some s → fate_of r ≡ fate_at r s
+pub fate_in : (r : Run) (s : State) → replay_of r ≡ Some s → fate_of r ≡ fate_at r s
 fate_in r s h = ap (λ o. option_map_or (fate_at r) o none) h
 
 module _ (old new : Run) (s : State) (names : List ℕ) (slices : Option ℕ)

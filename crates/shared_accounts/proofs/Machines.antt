@@ -1,12 +1,12 @@
 -- What a turn changes of what is known of a machine.
 use Rattle.std.proofs.Common.{◌≡◌, ◌≢◌, ℕ, zero, suc, ◌+◌, ◌<◌, ◌==◌, List, [], ◌∷◌, ◌++◌, length, map, Option, Some, None, Result, Ok, Err, IfOk, OnErr, true, false, refl, sym, ap, ◌∙◌, subst, ⊎_elim, arith, eq-eqb, length-append}
-use Rattle.std.specs.Prelude.{slice_get, nat_le, ℤ, Bool, IsSome, is_some, not, ◌||◌}
+use Rattle.std.specs.Prelude.{slice_get, ℤ, Bool, IsSome, is_some, not, ◌||◌}
 use Rattle.std.specs.List.{filter, list_all, enumerate_from}
 use Rattle.std.specs.Option.{option_map, option_map_or, option_and_then}
-use Rattle.std.proofs.lemmas.Bool.{false≢true, le-leb, and_left, and_right}
+use Rattle.std.proofs.lemmas.Bool.{false≢true, le-leb, and_left, and_right, both_ways, lt-leb}
 use Rattle.std.proofs.lemmas.List.Elements.{filter-append, filter_more}
 use Rattle.std.proofs.lemmas.List.{map-append}
-use Rattle.std.proofs.lemmas.Option.{slice_get_past}
+use Rattle.std.proofs.lemmas.Option.{slice_get_past, same_Some}
 use Rattle.std.proofs.Common.{take, cond, if◌then◌else◌, get_or}
 use Rattle.syntax.specs.Views.{unit_tree}
 use Rattle.class_rules.specs.Class.{Classes}
@@ -29,7 +29,7 @@ use Rattle.machine.proofs.Steps.{can_parts}
 use Rattle.shared_passes.specs.declared.view.Fate.{Fate}
 use Rattle.shared_passes.specs.Tokens.{nothing, none, IsWithin}
 use Rattle.shared_accounts.specs.Accounts.{account_of, account_view, ending_view, taken, is_over, EndsSo, fate_of, fate_at, all_wait, kept_after, numbers_of, more_of, number_at}
-use Rattle.shared_accounts.proofs.Clearings.{account_cleared, before_step, entries_cleared, last_entry, led_before}
+use Rattle.shared_accounts.proofs.Clearings.{account_cleared, before_step, entries_cleared, last_entry, led_before, fate_in}
 
 -- ---- the entry of a step
 
@@ -105,29 +105,20 @@ not_all classes s k h = go k (can_parts classes s k h)
             let e : 1 + i ≡ suc i = omega arith in
             one_not (λ (t : ℕ × Thread). not (is_unfinished t.1.ending) || is_blocked classes s t.0) s.threads 1 i t is (rw live (ap (is_blocked classes s) e ∙ p.2))
 
-over : (n m : ℕ) → n < m → nat_le m n ≡ false
-over n m h = grind arith
-
-false_true : (b : Bool) → b ≡ false → b ≡ true → ⊥
-false_true b f t = false≢true (sym f ∙ t)
-
 -- where a step is taken, nothing was kept that held
 none_kept : (r : Run) (k : ℕ) → CouldStep r k → (kept : Fate) → IsWithin kept (fate_of r) → (any : Fate) → IsWithin kept any
 none_kept r k could kept w any =
     let s = could.1.0 in
     let fate : fate_of r ≡ fate_at r s = ap (λ o. option_map_or (fate_at r) o none) could.1.1 in
     let w' = subst (IsWithin kept) fate w in (
-      (λ h. absurd (false_true _ (can_parts r.world.classes s k could.1.2).0 (w'.0 h))),
-      (λ h. absurd (false_true _ (not_all r.world.classes s k could.1.2) (w'.1 h))),
-      (λ h. absurd (false_true _ (over (steps_in r.journal) 1000000 could.0) (w'.2 h))),
+      (λ h. absurd (both_ways _ (can_parts r.world.classes s k could.1.2).0 (w'.0 h))),
+      (λ h. absurd (both_ways _ (not_all r.world.classes s k could.1.2) (w'.1 h))),
+      (λ h. absurd (both_ways _ (lt-leb 1000000 (steps_in r.journal) could.0) (w'.2 h))),
     )
 
 pub kept_on : (old new : Run) (k : ℕ) → Change old k new → (kept : Fate) → IsWithin kept (fate_of old) → IsWithin kept (fate_of new)
 kept_on old new k (Same e) kept w = subst (λ (r : Run). IsWithin kept (fate_of r)) (sym e) w
 kept_on old new k (More b a could) kept w = none_kept old k could kept w (fate_of new)
-
-fate_in : (r : Run) (s : State) → replay_of r ≡ Some s → fate_of r ≡ fate_at r s
-fate_in r s h = ap (λ o. option_map_or (fate_at r) o none) h
 
 -- what a seat keeps of the answer holds
 pub kept_now : {E : Type 0} (old new : Run) (k : ℕ) (result : Result Turn E) → IfOk result (TurnHolds old k new) → OnErr result ((new ≡ old) × CouldStep old k) → (kept : Fate) → IsWithin kept (fate_of old) → IsWithin (kept_after kept result) (fate_of new)
@@ -164,9 +155,6 @@ after_step r new k b s s' h h' =
     one None e = absurd (cc)
     one (Some x) e = e
 
-same_state : (a b : State) → Some a ≡ Some b → a ≡ b
-same_state a b e = cc
-
 number_there : (xs : List Printed) (p : Printed) → slice_get (xs ++ p ∷ []) (length xs) ≡ Some p
 number_there [] p = refl
 number_there (x ∷ xs) p = number_there xs p
@@ -197,10 +185,10 @@ step_prints old new k b a s' h' =
 printed_more : (old new : Run) (k : ℕ) → Change old k new → (s s' : State) → replay_of old ≡ Some s → replay_of new ≡ Some s'
     → numbers_of s'.printed k ≡ more_of (numbers_of s.printed k) (number_at s'.printed (length s.printed))
 printed_more old new k (Same e) s s' h h' =
-    let same : s' ≡ s = same_state s' s (sym h' ∙ ap replay_of e ∙ h) in
+    let same : s' ≡ s = same_Some s' s (sym h' ∙ ap replay_of e ∙ h) in
     ap (λ (x : State). numbers_of x.printed k) same ∙ ap (λ o. more_of (numbers_of s.printed k) (option_map (λ (p : Printed). p.number) o)) (sym (ap (λ (x : State). slice_get x.printed (length s.printed)) same ∙ slice_get_past s.printed (length s.printed) (omega arith)))
 printed_more old new k (More b a could) s s' h h' =
-    let same : a.state ≡ s = same_state a.state s (sym a.replays ∙ h) in
+    let same : a.state ≡ s = same_Some a.state s (sym a.replays ∙ h) in
     lines_after s s' k (subst (λ (x : State). Prints x k s') same (step_prints old new k b a s' h'))
 
 -- what a thread has printed, by its account
