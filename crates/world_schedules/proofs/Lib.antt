@@ -11,3 +11,4 @@ pub mod JournalLaws
 pub mod MeantJournals
 pub mod FirstSchedules
 pub mod FirstJournals
+pub mod SingleTurns

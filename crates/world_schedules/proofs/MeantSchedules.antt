@@ -58,7 +58,8 @@ abbrev pub repetition_for : ScheduleWord × Option ℕ → Repetition
 repetition_for (word, None) = record { word = word; times = 1 }
 repetition_for (word, Some n) = record { word = word; times = n }
 
-once_read : (name : ℕ) (word : ScheduleWord) → named_word name ≡ Some word → repetition_of (name ∷ []) ≡ Some (record { word = word; times = 1 })
+-- the word of one byte
+pub once_read : (name : ℕ) (word : ScheduleWord) → named_word name ≡ Some word → repetition_of (name ∷ []) ≡ Some (record { word = word; times = 1 })
 once_read name word is = ap (option_and_then (repetition 1)) is
 
 often_read : (name : ℕ) (word : ScheduleWord) (n : ℕ) → named_word name ≡ Some word → nat_le 1 n && nat_le n 1000000 ≡ true → repetition_of (name ∷ 42 ∷ decimal n) ≡ Some (record { word = word; times = n })
@@ -137,7 +138,7 @@ words_are_read threads (w ∷ ws) most c =
     }
 
 -- none is counted apart
-none_apart : (rs : List Repetition) → 0 + sum_by (λ (r : Repetition). 0) rs ≤ 1000000
+pub none_apart : (rs : List Repetition) → 0 + sum_by (λ (r : Repetition). 0) rs ≤ 1000000
 none_apart rs = let zero : sum_by (λ (r : Repetition). 0) rs ≡ 0 = no_sum rs in omega (arith, zero)
   where
     no_sum : (qs : List Repetition) → sum_by (λ (r : Repetition). 0) qs ≡ 0

@@ -10,4 +10,5 @@ pub mod ReadingWords
 pub mod ReadingSchedules
 pub mod ReadingJournals
 pub mod FirstFaults
+pub mod SingleTurns
 pub mod ReadingLaws

@@ -1,10 +1,13 @@
 //! In which order the threads step.
 
-ghost use Rattle.std.specs.Prelude.{◌≡◌, List, IfOk, option_and_then};
+ghost use Rattle.std.specs.Prelude.{◌≡◌, ◌≤◌, List, Some, IfOk, IfSome, length, option_and_then};
+ghost use Rattle.std.specs.Option.{option_map};
+ghost use Rattle.base.specs.Limits.{most_entries};
 ghost use Rattle.world_schedules.specs.Numbers.{natural_of};
 ghost use Rattle.world_schedules.specs.ScheduleText.{IsScheduleText};
 ghost use Rattle.world_schedules.specs.ReadingLaws.{SchedulesAreRead, SchedulesAreRefused, SchedulesAreAccepted};
 ghost use Rattle.world_schedules.specs.Reading.{Gives};
+ghost use Rattle.world_schedules.specs.SingleTurns.{single_turn, first_turn, single_turns, with_turns};
 ghost use Rattle.world_schedules.specs.ReadingSchedules.{named_word, repetition, repetition_of, schedule_of};
 
 use crate::fault::ReadError;
@@ -126,6 +129,75 @@ fn counted(name: u8, digits: &[u8]) -> Option<Repetition>
     repeated(word_of(name)?, natural(digits)?)
 }
 
+/// The turn that a byte names, of a thread that is there, where a space or a line feed comes after it.
+#[inline(always)]
+fn single_turn(name: u8, end: u8, threads: u8) -> Option<Repetition>
+    ensures { result ≡ single_turn threads name end }
+{
+    if name < b'1' || name > b'8' || name - b'0' > threads || (end != b' ' && end != b'\n') {
+        return None;
+    }
+    Some(Repetition {
+        word: ScheduleWord::Turn(name - b'0'),
+        times: 1,
+    })
+}
+
+/// The turn that a text begins with, and what comes after the byte that ends it.
+#[inline(always)]
+fn first_turn(text: &[u8], threads: u8) -> Option<(Repetition, &[u8])>
+    ensures { option_map (λ t. (t.0, t.1.now)) result ≡ first_turn threads text.entry.now }
+{
+    match text {
+        [name, end, after @ ..] => Some((single_turn(*name, *end, threads)?, after)),
+        _ => None,
+    }
+}
+
+/// The turns so far, and the last one, after which a text has no byte.
+#[inline(always)]
+fn with_last(
+    turns: Vec<Repetition>,
+    rest: &[u8],
+    threads: u8,
+) -> Result<Option<Vec<Repetition>>, AllocError>
+    ensures { IfOk result (λ all. IfSome all (λ v. with_turns threads turns.items rest.now ≡ Some v.items)) }
+{
+    let mut turns = turns;
+    match rest {
+        [] => Ok(Some(turns)),
+        [name] => match single_turn(*name, b'\n', threads) {
+            Some(turn) => {
+                turns.push(turn)?;
+                Ok(Some(turns))
+            }
+            None => Ok(None),
+        },
+        _ => Ok(None),
+    }
+}
+
+/// The words of a text that are all turns of threads that are there, each taken once and with one byte after it, as in most
+/// long schedules. None where the text has another word, or too many.
+fn single_turns(
+    alloc: Global,
+    text: &[u8],
+    threads: u8,
+) -> Result<Option<Vec<Repetition>>, AllocError>
+    ensures { IfOk result (λ all. IfSome all (λ v. (single_turns threads text.now ≡ Some v.items) × (length v.items ≤ most_entries))) }
+{
+    let mut turns = Vec::new(alloc);
+    let mut rest = text;
+    while let Some((turn, after)) = first_turn(rest, threads) {
+        turns.push(turn)?;
+        rest = after;
+    }
+    match with_last(turns, rest, threads)? {
+        Some(all) if all.len() as u64 <= MOST_WORDS => Ok(Some(all)),
+        _ => Ok(None),
+    }
+}
+
 /// The schedule that the text means, for a world of this number of threads.
 ///
 /// Fault 81: a word has no form. 82: a turn of a thread that the world lacks. 83: more than 1,000,000 words, each
@@ -134,6 +206,9 @@ pub fn read_schedule(alloc: Global, text: &[u8], threads: u8) -> Result<Schedule
     ensures read { Gives (λ words. words) result (schedule_of text.now threads) }
     ensures means { IfOk result (IsScheduleText threads text.now) }
 {
+    if let Some(turns) = single_turns(alloc, text, threads)? {
+        return Ok(Schedule { repetitions: turns });
+    }
     let repetitions = read_words::<Repetition>(alloc, text, threads)?;
     Ok(Schedule { repetitions })
 }
