@@ -54,21 +54,31 @@ fn push_digit(text: &mut ArrayVec<u8, 4096>, number: u8)
     }
 }
 
+/// Appends the word of a step whose allocation was refused, or of a thread whose number has more digits, after a space. It
+/// stands apart, since few steps are such.
+#[inline(never)]
+fn push_rare_step(text: &mut ArrayVec<u8, 4096>, thread: u8, refused: bool)
+    requires { array_vec_len text.old + 5 ≤ 4096 }
+    ensures { text.new.items ≡ text.old.items ++ (codes " " ++ entry_text (Step thread refused)) }
+{
+    text.push(b' ');
+    push_number(text, thread);
+    if refused {
+        text.push(b'!');
+    }
+}
+
 /// Appends the word of a step, after a space.
 #[inline(always)]
 fn push_step(text: &mut ArrayVec<u8, 4096>, thread: u8, refused: bool)
     requires { array_vec_len text.old + 5 ≤ 4096 }
     ensures { text.new.items ≡ text.old.items ++ (codes " " ++ entry_text (Step thread refused)) }
 {
-    if thread < 10 {
-        push_digit(text, thread);
-    } else {
-        text.push(b' ');
-        push_number(text, thread);
+    if refused || thread > 9 {
+        push_rare_step(text, thread, refused);
+        return;
     }
-    if refused {
-        text.push(b'!');
-    }
+    push_digit(text, thread);
 }
 
 /// Puts the number of a name after these bytes.
