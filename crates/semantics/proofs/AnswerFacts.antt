@@ -10,10 +10,10 @@ use Rattle.jni.specs.JniFunction.{JniFunction, GetStaticMethodID, parameters_for
 use Rattle.jni.specs.Prototype.{ParameterKind, ArrayVariable, ClassObject, FieldID, NumberArray, ObjectArray, StringObject, TextBytes, ResultKind, NewLocal, NewWeak, GivesFlag, GivesInt, GivesField, GivesMethod, GivesNothing}
 use Rattle.semantics.specs.Answer.{Region}
 use Rattle.semantics.specs.AnswerTable.{fits}
+use Rattle.semantics.specs.CallSight.{CallSight, name_of_first, name_of_second}
+use Rattle.semantics.specs.Checks.{fits_field, has_field, has_static}
 use Rattle.semantics.specs.Arguments.{ReleaseMode, CopyBackAndFree, CopyBack, FreeUncopied}
 use Rattle.semantics.specs.CallEffects.{CallResult, NoResult, ScalarResult, ReferenceResult, WeakResult, FieldResult, MethodResult, string_object}
-use Rattle.semantics.specs.CallSight.{CallSight, name_of_first, name_of_second}
-use Rattle.semantics.specs.CallTraps.{fits_field, has_field, has_static}
 use Rattle.semantics.specs.Heap.{holds_number, place_in, static_place}
 use Rattle.semantics.specs.Method.{MethodId, find_method}
 use Rattle.semantics.specs.Object.{Object, ObjectValue, Number, Reference, Refers}

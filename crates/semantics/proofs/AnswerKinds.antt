@@ -15,10 +15,10 @@ use Rattle.jni.specs.JniFunction.{JniFunction, calls_method, parameters_for, pro
 use Rattle.jni.specs.Prototype.{ResultKind, NewLocal, NewGlobal, GivesInt, GivesField, GivesMethod, GivesNothing, GivesBuffer, ParameterKind, ClassObject, FieldID, IntNumber, TextBytes, ArrayVariable, NumberArray, StringObject}
 use Rattle.semantics.specs.Answer.{Answer, Calls, Copies, CopiesBack, DeletesGlobal, DeletesLocal, DeletesWeak, Disowns, Ensures, Frees, GetsRegion, Gives, Halts, Makes, MakesGlobal, Owns, Pends, Pops, Pushes, Raises, RaisesWith, RefusesFrames, Region, SetsRegion, Views, Writes}
 use Rattle.semantics.specs.AnswerTable.{call_answer, element_given, element_set, ensured, found_class, found_field, found_method, fits, global_deleted, local_deleted, method_called, monitor_entered, monitor_left, new_array, pushed, region, region_with, region_within, released, weak_deleted}
+use Rattle.semantics.specs.CallSight.{CallSight, name_of_first, name_of_second, sight_of_call}
+use Rattle.semantics.specs.Checks.{go_together, has_field, has_static}
 use Rattle.semantics.specs.Arguments.{Actual, ReleaseMode, CopyBackAndFree, CopyBack, FreeUncopied}
 use Rattle.semantics.specs.CallEffects.{CallResult, NoResult}
-use Rattle.semantics.specs.CallSight.{CallSight, name_of_first, name_of_second, sight_of_call}
-use Rattle.semantics.specs.CallTraps.{go_together, has_field, has_static}
 use Rattle.semantics.specs.Heap.{place_in, static_place}
 use Rattle.semantics.specs.Method.{MethodId, find_method}
 use Rattle.semantics.specs.Object.{Object, ObjectValue, Reference, Refers}
@@ -51,7 +51,7 @@ call_kind f = Quiet
 
 -- the arguments of the call go together
 abbrev pub IsChecked : Classes → CallSight → JniFunction → Type 0
-IsChecked classes sight f = go_together classes sight f ≡ true
+IsChecked classes sight f = (element : ElementType) × (go_together classes sight element f ≡ true)
 
 -- the answers of functions of a kind, by what they give; any call may stop the run
 pub data AnswersAs (unit : SourceUnit) (classes : Classes) (sight : CallSight) (f : JniFunction) : CallKind → ResultKind → Answer → Type 0 where
@@ -238,7 +238,7 @@ module _ (unit : SourceUnit) (classes : Classes) (k : ℕ) (sight : CallSight) w
   answers_as jni.GetObjectClass = Giving (OfReference _)
   answers_as jni.IsInstanceOf = Giving (OfFlag _)
   answers_as jni.IsAssignableFrom = Giving (OfFlag _)
-  answers_as jni.AllocObject = Making _ (λ checked. OfClass (λ n. refl) (not-true _ checked))
+  answers_as jni.AllocObject = Making _ (λ checked. OfClass (λ n. refl) (not-true _ checked.1))
   answers_as jni.NewLocalRef = Giving (OfReference _)
   answers_as jni.NewGlobalRef = MakingGlobal _
   answers_as jni.NewWeakGlobalRef = Giving (OfWeak _)
@@ -255,16 +255,16 @@ module _ (unit : SourceUnit) (classes : Classes) (k : ℕ) (sight : CallSight) w
   answers_as jni.GetStaticFieldID =
       field_as unit classes sight jni.GetStaticFieldID _
       (λ f is. AsStatic (name_of_first sight) sight.second.text sight.third.text is)
-  answers_as (jni.SetField T) = Writing _ _ _ (λ checked. to_field (jni.SetField T) (λ n. refl) _ _ (λ fits. AsNumber T _ fits) checked)
+  answers_as (jni.SetField T) = Writing _ _ _ (λ checked. to_field (jni.SetField T) (λ n. refl) _ _ (λ fits. AsNumber T _ fits) checked.1)
   answers_as jni.GetObjectField = Giving (OfReference _)
-  answers_as jni.SetObjectField = Writing _ _ _ (λ checked. to_field jni.SetObjectField (λ n. refl) _ _ (λ fits. AsReference fits) checked)
-  answers_as (jni.SetStaticField T) = Writing _ _ _ (λ checked. to_static (jni.SetStaticField T) (λ n. refl) _ _ (λ fits. AsNumber T _ fits) checked)
+  answers_as jni.SetObjectField = Writing _ _ _ (λ checked. to_field jni.SetObjectField (λ n. refl) _ _ (λ fits. AsReference fits) checked.1)
+  answers_as (jni.SetStaticField T) = Writing _ _ _ (λ checked. to_static (jni.SetStaticField T) (λ n. refl) _ _ (λ fits. AsNumber T _ fits) checked.1)
   answers_as jni.GetStaticObjectField = Giving (OfReference _)
-  answers_as jni.SetStaticObjectField = Writing _ _ _ (λ checked. to_static jni.SetStaticObjectField (λ n. refl) _ _ (λ fits. AsReference fits) checked)
+  answers_as jni.SetStaticObjectField = Writing _ _ _ (λ checked. to_static jni.SetStaticObjectField (λ n. refl) _ _ (λ fits. AsReference fits) checked.1)
   answers_as (jni.NewArray T) = array_as unit classes sight (jni.NewArray T) _ sight.first.number _ (λ n checked. OfNumbers T n)
   answers_as jni.NewObjectArray =
       array_as unit classes sight jni.NewObjectArray _ sight.first.number _ (λ n checked.
-      let both = and_parts (is_plain (class_kind classes (name_of_second sight))) (fits classes sight.third (name_of_second sight)) checked in
+      let both = and_parts (is_plain (class_kind classes (name_of_second sight))) (fits classes sight.third (name_of_second sight)) checked.1 in
       OfReferences n (λ n. refl) both.0 both.1)
   answers_as jni.GetObjectArrayElement = element_as unit classes sight jni.GetObjectArrayElement _ _
   answers_as jni.SetObjectArrayElement = set_as unit classes sight jni.SetObjectArrayElement _ _ _ _ (λ fits i. ToElement i (λ n. refl) fits)
@@ -284,7 +284,7 @@ module _ (unit : SourceUnit) (classes : Classes) (k : ℕ) (sight : CallSight) w
   answers_as (jni.ReleaseBuffer CharsView) = freed_as unit classes sight (jni.ReleaseBuffer CharsView) CharsView (λ T is. cc)
   answers_as jni.NewStringUTF = Making _ (λ checked. OfText (λ n. refl))
   answers_as jni.Throw = Pending _ (OfInt _)
-  answers_as jni.ThrowNew = RaisingWith (λ n. refl) (λ n. refl) (λ checked. checked)
+  answers_as jni.ThrowNew = RaisingWith (λ n. refl) (λ n. refl) (λ checked. checked.1)
   answers_as jni.ExceptionOccurred = Giving (OfReference _)
   answers_as jni.ExceptionCheck = Giving (OfFlag _)
   answers_as jni.ExceptionClear = Pending None OfNothing
@@ -377,12 +377,12 @@ module _ (unit : SourceUnit) (classes : Classes) (k : ℕ) where
   weak_leaves sight f is = absurd (cc)
 
   -- where only statics differ, the answers are the same, or both leave the heap as it was
-  pub by_statics : (s : Shared) (statics : Statics) (t : Thread) (element : ElementType) (args : List Actual) (f : JniFunction)
-      → let now = call_answer unit classes k (sight_of_call s t element f args) f in
-      let other = call_answer unit classes k (sight_of_call (record s { statics = statics }) t element f args) f in
+  pub by_statics : (s : Shared) (statics : Statics) (t : Thread) (args : List Actual) (f : JniFunction)
+      → let now = call_answer unit classes k (sight_of_call s t f args) f in
+      let other = call_answer unit classes k (sight_of_call (record s { statics = statics }) t f args) f in
       (other ≡ now) ⊎ (LeavesHeap other × LeavesHeap now)
-  by_statics s statics t element args jni.DeleteGlobalRef =
+  by_statics s statics t args jni.DeleteGlobalRef =
       inr (static_leaves (answers_as unit classes k _ jni.DeleteGlobalRef), static_leaves (answers_as unit classes k _ jni.DeleteGlobalRef))
-  by_statics s statics t element args jni.DeleteWeakGlobalRef =
+  by_statics s statics t args jni.DeleteWeakGlobalRef =
       inr (static_leaves (answers_as unit classes k _ jni.DeleteWeakGlobalRef), static_leaves (answers_as unit classes k _ jni.DeleteWeakGlobalRef))
-  by_statics s statics t element args f = inl refl
+  by_statics s statics t args f = inl refl

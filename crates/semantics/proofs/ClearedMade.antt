@@ -4,7 +4,6 @@ use Rattle.std.proofs.Common.{ap, ◌∙◌, sym, inl, inr}
 use Rattle.std.proofs.lemmas.Bool.{false≢true}
 use Rattle.std.proofs.lemmas.List.{append-nil}
 use Rattle.base.specs.Bytes.{Identifier, lookup}
-use Rattle.base.specs.Element.{JInt}
 use Rattle.base.specs.Limits.{most_references}
 use Rattle.class_rules.specs.Class.{Classes}
 use Rattle.jni.specs.JniFunction as jni
@@ -13,12 +12,11 @@ use Rattle.syntax.specs.Tree.{SourceUnit}
 use Rattle.semantics.specs.Activation.{enter, entry_advance}
 use Rattle.semantics.specs.Answer.{Answer, DeletesGlobal, DeletesWeak, Ensures, MakesGlobal, Pushes}
 use Rattle.semantics.specs.Answer as answer
-use Rattle.semantics.specs.AnswerTable.{call_answer}
+use Rattle.semantics.specs.AnswerTable.{call_answer, call_effect}
+use Rattle.semantics.specs.CallSight.{CallSight, sight_of_call}
 use Rattle.semantics.specs.Arguments.{Actual, actuals}
 use Rattle.semantics.specs.CallEffects.{CallEffect, CallResult, Throws, Halts, Leaves, frames_effect, with_capacity, Enters}
-use Rattle.semantics.specs.CallSight.{sight_of_call}
-use Rattle.semantics.specs.CallStep.{put, put_assigned, checked, after_call, trap_of_call, waits_with}
-use Rattle.semantics.specs.CallTable.{call_effect}
+use Rattle.semantics.specs.CallStep.{put, put_assigned, checked, target_element, after_call, trap_of_call, waits_with}
 use Rattle.semantics.specs.Effect.{Effect, Becomes, Sets, SetsNull, SetsElement, MakesArray, Prints, Calls, Returns, TrapsAt, NoEffect, effect_of, goes_on, is_ready, reduce_first, returned_name}
 use Rattle.semantics.specs.Heap.{Heap}
 use Rattle.semantics.specs.Object.{Object}
@@ -36,8 +34,8 @@ use Rattle.semantics.specs.Variable.{Variable, Scalar, LocalRef, FieldHandle, Me
 use Rattle.semantics.specs.WeakReferences.{cleared_statics, with_cleared}
 use Rattle.semantics.specs.World.{World, fresh_object}
 use Rattle.semantics.specs.WeakArguments.{takes_weak, WeakAreTaken}
-use Rattle.semantics.proofs.Answers.{effect_is}
 use Rattle.semantics.proofs.AnswerKinds.{LeavesHeap, by_statics}
+use Rattle.semantics.proofs.CheckLaws.{trap_without}
 use Rattle.semantics.proofs.ClearedEffects.{HasSameArguments, effect_stays}
 use Rattle.semantics.proofs.ClearedSteps.{all_looked, makes_same}
 
@@ -105,19 +103,26 @@ module _ (classes : Classes) (s : Shared) (statics : Statics) where
     effect_left : (args : List Actual) (f : JniFunction)
         → left (call_effect unit classes in_use k other t args f) ≡ left (call_effect unit classes in_use k s t args f)
     effect_left args f =
-        let now : Answer = call_answer unit classes k (sight_of_call s t JInt f args) f in
-        let then' : Answer = call_answer unit classes k (sight_of_call other t JInt f args) f in
+        let now : Answer = call_answer unit classes k (sight_of_call s t f args) f in
+        let then' : Answer = call_answer unit classes k (sight_of_call other t f args) f in
         let same : left (answer.effect_of classes in_use k s t args then') ≡ left (answer.effect_of classes in_use k s t args now) =
-        elim (by_statics unit classes k s statics t JInt args f) [
+        elim (by_statics unit classes k s statics t args f) [
           | inl is ↦ ap (λ (a : Answer). left (answer.effect_of classes in_use k s t args a)) is
           | inr none ↦ none_left args then' none.0 ∙ sym (none_left args now none.1)
         ] in
-        ap left (effect_is unit classes in_use k other t args JInt f) ∙ answer_left args then' ∙ same
-        ∙ sym (ap left (effect_is unit classes in_use k s t args JInt f))
+        answer_left args then' ∙ same
 
-    checked_left : (o : Option Trap) (e e' : CallEffect) → left e' ≡ left e → left (checked o e') ≡ left (checked o e)
-    checked_left None e e' h = h
-    checked_left (Some trap) e e' h = refl
+    -- the checks find the same
+    same_trap : (target : Target) (f : JniFunction) (args : List Actual) → trap_of_call classes other t target f args ≡ trap_of_call classes s t target f args
+    same_trap target f args =
+        let then' : CallSight = sight_of_call other t f args in
+        trap_without classes (sight_of_call s t f args) then'.monitor then'.held (target_element t.variables target) f
+
+    checked_left : (o o' : Option Trap) (e e' : CallEffect) → o' ≡ o → left e' ≡ left e → left (checked o' e') ≡ left (checked o e)
+    checked_left None None e e' found h = h
+    checked_left None (Some trap) e e' found h = absurd (cc)
+    checked_left (Some trap) None e e' found h = absurd (cc)
+    checked_left (Some trap) (Some trap') e e' found h = refl
 
     -- a call's own step leaves what its effect leaves
     after_left : (given : Shared) (line : ℕ) (target : Target) (f : JniFunction) (args : List Actual) (rest : List Task) (e : CallEffect)
@@ -156,7 +161,7 @@ module _ (classes : Classes) (s : Shared) (statics : Statics) where
     effect_heap rest (Prints z) = refl
     effect_heap rest (Calls line target f args) =
         after_left other line target f args rest _
-        ∙ ap Some (checked_left (trap_of_call classes s t target f args) _ _ (effect_left args f))
+        ∙ ap Some (checked_left (trap_of_call classes s t target f args) _ _ _ (same_trap target f args) (effect_left args f))
         ∙ sym (after_left s line target f args rest _)
     effect_heap rest (Returns given) = return_heap given t.callers
     effect_heap rest (TrapsAt trap line) = refl

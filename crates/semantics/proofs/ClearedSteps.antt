@@ -2,11 +2,10 @@
 -- a clearing.
 use Rattle.std.specs.Prelude.{◌≡◌, ◌≢◌, ℕ, Bool, true, false, cond, List, [], ◌∷◌, ◌++◌, map, zip, length, drop, Option, Some, None, refl}
 use Rattle.std.specs.List.{AllByRecursion}
-use Rattle.std.proofs.Common.{ap, ◌∙◌, inl, inr, subst, sym}
+use Rattle.std.proofs.Common.{ap, ◌∙◌, inl, inr}
 use Rattle.std.proofs.Math.Seq.{drop-length}
 use Rattle.std.proofs.lemmas.List.{append-nil}
 use Rattle.base.specs.Bytes.{Identifier, lookup}
-use Rattle.base.specs.Element.{JInt}
 use Rattle.class_rules.specs.Class.{Classes}
 use Rattle.jni.specs.JniFunction.{JniFunction, parameters_for}
 use Rattle.jni.specs.Prototype.{ParameterKind, FieldID, MethodID, ArrayVariable, BufferVariable, Mode, IsCopy}
@@ -14,12 +13,11 @@ use Rattle.syntax.specs.Tree as tree
 use Rattle.syntax.specs.Tree.{SourceUnit, AddressOf}
 use Rattle.semantics.specs.Answer.{Answer, DeletesGlobal, DeletesWeak, MakesGlobal}
 use Rattle.semantics.specs.Answer as answer
-use Rattle.semantics.specs.AnswerTable.{call_answer}
+use Rattle.semantics.specs.AnswerTable.{call_answer, call_effect}
+use Rattle.semantics.specs.CallSight.{sight_of_call}
 use Rattle.semantics.specs.Arguments.{Actual, ReferenceActual, look_up, actuals}
 use Rattle.semantics.specs.CallEffects.{CallEffect, CallResult, ReferenceResult, Throws, Halts, Leaves, Enters}
-use Rattle.semantics.specs.CallSight.{sight_of_call}
 use Rattle.semantics.specs.CallStep.{put, put_assigned, received, checked, after_call, trap_of_call}
-use Rattle.semantics.specs.CallTable.{call_effect}
 use Rattle.semantics.specs.Effect.{Effect, Calls, effect_of, goes_on, is_ready, reduce_first, returned_name}
 use Rattle.semantics.specs.Heap.{Heap}
 use Rattle.semantics.specs.Object.{Object}
@@ -37,7 +35,6 @@ use Rattle.semantics.specs.Variable.{Variable, Variables, StaticReference, Stati
 use Rattle.semantics.specs.WeakArguments.{takes_weak, NamesNoWeak, WeakAreTaken}
 use Rattle.semantics.specs.WeakReferences.{cleared_statics, with_cleared}
 use Rattle.semantics.specs.World.{World}
-use Rattle.semantics.proofs.Answers.{effect_is}
 use Rattle.semantics.proofs.AnswerKinds.{LeavesHeap, weak_leaves}
 use Rattle.semantics.proofs.ClearedEffects.{HasSameArguments, ReturnsSame, reference_stays, effect_stays}
 
@@ -102,8 +99,7 @@ module _ (unit : SourceUnit) (classes : Classes) (in_use : BuffersInUse) (k : �
 
   call_none : (f : JniFunction) (args : List Actual) → takes_weak f ≡ true → MakesNone s.heap (call_effect unit classes in_use k s t args f)
   call_none f args h =
-      subst (MakesNone s.heap) (sym (effect_is unit classes in_use k s t args JInt f))
-      (answer_none args (call_answer unit classes k (sight_of_call s t JInt f args) f) (weak_leaves unit classes k (sight_of_call s t JInt f args) f h))
+      answer_none args (call_answer unit classes k (sight_of_call s t f args) f) (weak_leaves unit classes k (sight_of_call s t f args) f h)
 
   checked_none : (o : Option Trap) (e : CallEffect) → MakesNone s.heap e → MakesNone s.heap (checked o e)
   checked_none None e h = h

@@ -1,24 +1,20 @@
 -- No call takes an object out of the heap: each leaves as many as there were, beside those that it makes.
-use Rattle.std.specs.Prelude.{◌≡◌, ℕ, ◌-◌, nat_le, List, [], ◌∷◌, length, refl}
-use Rattle.std.proofs.Common.{sym, subst}
+use Rattle.std.specs.Prelude.{◌≡◌, ℕ, nat_le, List, [], ◌∷◌, length, refl, zero, suc}
 use Rattle.std.proofs.lemmas.Bool.{cond_both}
 use lib.ListN.{length-set}
-use Rattle.base.specs.Element.{JInt}
 use Rattle.base.specs.Limits.{most_references}
 use Rattle.syntax.specs.Tree.{SourceUnit}
 use Rattle.class_rules.specs.Class.{Classes}
 use Rattle.jni.specs.JniFunction.{JniFunction}
 use Rattle.semantics.specs.Answer.{Answer, Calls, Copies, CopiesBack, DeletesGlobal, DeletesLocal, DeletesWeak, Disowns, Ensures, Frees, GetsRegion, Gives, Makes, MakesGlobal, Owns, Pends, Pops, Pushes, Raises, RaisesWith, RefusesFrames, SetsRegion, Views, Writes, effect_of}
 use Rattle.semantics.specs.Answer as answer
-use Rattle.semantics.specs.AnswerTable.{call_answer}
+use Rattle.semantics.specs.AnswerTable.{call_answer, call_effect}
+use Rattle.semantics.specs.CallSight.{sight_of_call}
 use Rattle.semantics.specs.Arguments.{Actual}
 use Rattle.semantics.specs.CallEffects.{CallEffect, Throws, Halts, Leaves, Enters, frames_effect, refuses_frames, with_capacity}
-use Rattle.semantics.specs.CallSight.{sight_of_call}
-use Rattle.semantics.specs.CallTable.{call_effect}
 use Rattle.semantics.specs.Heap.{Heap, class_of, with_values}
 use Rattle.semantics.specs.Object.{ObjectValue}
 use Rattle.semantics.specs.Thread.{Shared, Thread, BuffersInUse, Frame, capacities}
-use Rattle.semantics.proofs.Answers.{effect_is}
 
 -- the effect leaves as many objects as the state has
 abbrev Keeps : Shared → CallEffect → Type 0
@@ -27,8 +23,9 @@ Keeps s (Halts trap) = Unit {0}
 Keeps s (Enters function arguments) = Unit {0}
 Keeps s (Leaves made s' t' r) = length s'.heap ≡ length s.heap
 
-with_values_keeps : (heap : Heap) (n : ℕ) (vs : List ObjectValue) → length (with_values heap n vs) ≡ length heap
-with_values_keeps heap n vs = length-set heap (n - 1) (record { class = class_of heap n; values = vs })
+pub with_values_keeps : (heap : Heap) (n : ℕ) (vs : List ObjectValue) → length (with_values heap n vs) ≡ length heap
+with_values_keeps heap zero vs = refl
+with_values_keeps heap (suc i) vs = length-set heap i (record { class = class_of heap (suc i); values = vs })
 
 module _ (unit : SourceUnit) (classes : Classes) (in_use : BuffersInUse) (k : ℕ) (s : Shared) (t : Thread) (args : List Actual) where
   frames_keep : (frames : List Frame) → Keeps s (frames_effect classes s t frames)
@@ -48,4 +45,4 @@ module _ (unit : SourceUnit) (classes : Classes) (in_use : BuffersInUse) (k : �
   answer_keeps a = refl
 
   pub effect_keeps : (f : JniFunction) → Keeps s (call_effect unit classes in_use k s t args f)
-  effect_keeps f = subst (Keeps s) (sym (effect_is unit classes in_use k s t args JInt f)) (answer_keeps (call_answer unit classes k (sight_of_call s t JInt f args) f))
+  effect_keeps f = answer_keeps (call_answer unit classes k (sight_of_call s t f args) f)

@@ -1,8 +1,6 @@
 pub mod AccountLaws
-pub mod Answers
 pub mod AnswerFacts
 pub mod AnswerKinds
-pub mod CallTraps
 pub mod HeapGrows
 pub mod NoObjects
 pub mod NullTerms
@@ -16,4 +14,5 @@ pub mod StaticCounts
 pub mod WeakLaws
 pub mod ClearedEffects
 pub mod ClearedSteps
+pub mod CheckLaws
 pub mod ClearedMade

@@ -1,5 +1,5 @@
 -- The reachable objects take no more cells than all objects together.
-use Rattle.std.specs.Prelude.{◌-◌, slice_set, ◌≡◌, ℕ, zero, suc, ◌+◌, ◌<◌, ◌≤◌, Bool, List, [], ◌∷◌, ◌++◌, length, filter, sum_by, slice_get, take, drop, Some, refl}
+use Rattle.std.specs.Prelude.{slice_set, ◌≡◌, ℕ, zero, suc, ◌+◌, ◌<◌, ◌≤◌, Bool, List, [], ◌∷◌, ◌++◌, length, filter, sum_by, slice_get, take, drop, Some, refl}
 use Rattle.std.proofs.Common.{◌∙◌, ap, arith}
 use Rattle.std.proofs.lemmas.Bool.{cond_both}
 use lib.ListN.{length-set}
@@ -76,7 +76,6 @@ pub written_sizes : (heap : Heap) (n i : ℕ) (v : ObjectValue) (o : Object) →
 written_sizes heap zero i v o at = absurd (cc)
 written_sizes heap (suc n) i v o at =
     let new : Object = record { class = class_of heap (suc n); values = slice_set (values_of heap (suc n)) i v } in
-    let place : suc n - 1 ≡ n = omega arith in
     let held : values_of heap (suc n) ≡ o.values = rw at refl in
     let same : size new ≡ size o = ap (λ (l : ℕ). 3 + l) (length-set (values_of heap (suc n)) i v ∙ ap (λ (vs : List ObjectValue). length vs) held) in
-    ap (λ (m : ℕ). sizes (slice_set heap m new)) place ∙ same_sizes heap n o new at same
+    same_sizes heap n o new at same

@@ -5,17 +5,15 @@ use Rattle.std.specs.Str.{bytes_eq}
 use Rattle.std.proofs.Common.{arith, sym, ap, ◌∙◌, subst, le_refl, le-add_right}
 use Rattle.std.proofs.lemmas.Bool.{cond_both}
 use Rattle.base.specs.Bytes.{Identifier, lookup}
-use Rattle.base.specs.Element.{JInt}
 use Rattle.base.specs.Limits.{most_references}
 use Rattle.class_rules.specs.Class.{Classes}
 use Rattle.jni.specs.JniFunction.{JniFunction}
 use Rattle.semantics.specs.Answer.{Answer, DeletesGlobal, DeletesWeak, Ensures, Pushes, Raises}
 use Rattle.semantics.specs.Answer as answer
-use Rattle.semantics.specs.AnswerTable.{call_answer}
-use Rattle.semantics.specs.Arguments.{Actual}
-use Rattle.semantics.specs.CallTable.{call_effect}
-use Rattle.semantics.specs.CallEffects.{CallEffect, Throws, Halts, Leaves, frames_effect, refuses_frames, with_capacity, Enters}
+use Rattle.semantics.specs.AnswerTable.{call_answer, call_effect}
 use Rattle.semantics.specs.CallSight.{sight_of_call}
+use Rattle.semantics.specs.Arguments.{Actual}
+use Rattle.semantics.specs.CallEffects.{CallEffect, Throws, Halts, Leaves, frames_effect, refuses_frames, with_capacity, Enters}
 use Rattle.semantics.specs.Thread.{Shared, Thread, BuffersInUse, Frame, capacities}
 use Rattle.semantics.specs.Activation.{entry_advance, enter}
 use Rattle.semantics.specs.CallEffects.{CallResult}
@@ -32,7 +30,6 @@ use Rattle.semantics.specs.Value.{Trap}
 use Rattle.semantics.specs.Variable.{Variable, Scalar, LocalRef, FieldHandle, MethodHandle, Elements, LocalArray, NoBuffer, Copy, View, StaticReference, Empty, Live, Weakly, Cleared, Deleted, Statics, assign}
 use Rattle.semantics.specs.WeakReferences.{weak_object, weakly_held}
 use Rattle.syntax.specs.Tree.{SourceUnit}
-use Rattle.semantics.proofs.Answers.{effect_is}
 
 -- ---- how many there are
 
@@ -107,7 +104,7 @@ module _ (unit : SourceUnit) (classes : Classes) (in_use : BuffersInUse) (k : �
   answer_keeps a = le_refl (held s.statics)
 
   effect_keeps : (f : JniFunction) → Keeps s (call_effect unit classes in_use k s t args f)
-  effect_keeps f = subst (Keeps s) (sym (effect_is unit classes in_use k s t args JInt f)) (answer_keeps (call_answer unit classes k (sight_of_call s t JInt f args) f))
+  effect_keeps f = answer_keeps (call_answer unit classes k (sight_of_call s t f args) f)
 
 -- ---- a step
 

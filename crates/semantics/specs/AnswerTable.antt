@@ -1,4 +1,4 @@
--- What each JNI function answers, all checks being passed, by what its call asks (JNI Specification, chapter 4).
+-- What each JNI function answers, all checks being passed, by what its call asks (JNI Specification, chapter 4), and what that does.
 use Rattle.std.specs.Prelude.{ℕ, ◌+◌, ◌-◌, ◌==◌, nat_le, nat_lt, if◌then◌else◌, Bool, true, false, ℤ, pos, negsuc, List, length, replicate, slice_get, is_some, Option, Some, None}
 use Rattle.std.specs.Option.{option_map_or}
 use Rattle.base.specs.Limits.{most_monitor_entries}
@@ -8,14 +8,14 @@ use Rattle.class_rules.specs.Class.{Classes, array_class_of, assignable, class_k
 use Rattle.class_rules.specs.Fields.{FieldId, find_field, find_static, layout}
 use Rattle.jni.specs.Access.{ElementsCopy, ArrayView, CharsCopy, CharsView}
 use Rattle.jni.specs.JniFunction.{JniFunction, FindClass, GetSuperclass, GetObjectClass, IsInstanceOf, IsAssignableFrom, AllocObject, NewLocalRef, NewGlobalRef, NewWeakGlobalRef, DeleteLocalRef, DeleteGlobalRef, DeleteWeakGlobalRef, IsSameObject, EnsureLocalCapacity, PushLocalFrame, PopLocalFrame, GetFieldID, GetStaticFieldID, GetField, SetField, GetStaticField, SetStaticField, GetObjectField, SetObjectField, GetStaticObjectField, SetStaticObjectField, GetArrayLength, NewObjectArray, GetObjectArrayElement, SetObjectArrayElement, NewArray, GetArrayRegion, SetArrayRegion, NewStringUTF, GetStringLength, GetStringRegion, Throw, ThrowNew, ExceptionOccurred, ExceptionCheck, ExceptionClear, FatalError, MonitorEnter, MonitorExit, GetBuffer, ReleaseBuffer, GetStaticMethodID, CallStaticVoidMethod, CallStaticIntMethod, CallStaticObjectMethod}
-use Rattle.semantics.specs.Answer.{Answer, Calls, Copies, CopiesBack, DeletesGlobal, DeletesLocal, DeletesWeak, Disowns, Ensures, Frees, GetsRegion, Gives, Halts, Makes, MakesGlobal, Owns, Pends, Pops, Pushes, Raises, RaisesWith, RefusesFrames, Region, SetsRegion, Views, Writes}
-use Rattle.semantics.specs.Arguments.{ReleaseMode, CopyBackAndFree, CopyBack, FreeUncopied}
-use Rattle.semantics.specs.CallEffects.{NoResult, ScalarResult, ReferenceResult, WeakResult, FieldResult, MethodResult, same_reference, string_object}
-use Rattle.semantics.specs.CallSight.{ArgumentSight, CallSight, name_of_first, name_of_second}
+use Rattle.semantics.specs.Answer.{Answer, Calls, Copies, CopiesBack, DeletesGlobal, DeletesLocal, DeletesWeak, Disowns, Ensures, Frees, GetsRegion, Gives, Halts, Makes, MakesGlobal, Owns, Pends, Pops, Pushes, Raises, RaisesWith, RefusesFrames, Region, SetsRegion, Views, Writes, effect_of}
+use Rattle.semantics.specs.Arguments.{Actual, ReleaseMode, CopyBackAndFree, CopyBack, FreeUncopied}
+use Rattle.semantics.specs.CallEffects.{CallEffect, NoResult, ScalarResult, ReferenceResult, WeakResult, FieldResult, MethodResult, same_reference, string_object}
+use Rattle.semantics.specs.CallSight.{ArgumentSight, CallSight, name_of_first, name_of_second, sight_of_call}
 use Rattle.semantics.specs.Heap.{number_in, place_in, reference_in, static_place, value_or_zero}
 use Rattle.semantics.specs.Method.{MethodId, find_method}
 use Rattle.semantics.specs.Object.{Number, Object, ObjectValue, Reference, Refers}
-use Rattle.semantics.specs.Thread.{Monitor}
+use Rattle.semantics.specs.Thread.{BuffersInUse, Monitor, Shared, Thread}
 use Rattle.semantics.specs.Value.{Fatal, Flag, Int, NullReference, OutOfRange, convert}
 use Rattle.semantics.specs.Variable.{StaticReference, Live, Weakly, Cleared}
 use Rattle.semantics.specs.World.{fresh_object}
@@ -239,3 +239,9 @@ module _ (unit : SourceUnit) (classes : Classes) (k : ℕ) (sight : CallSight) w
   call_answer CallStaticVoidMethod = method_called sight.second.method
   call_answer CallStaticIntMethod = method_called sight.second.method
   call_answer CallStaticObjectMethod = method_called sight.second.method
+
+-- thread k calls a function of a unit with these arguments, all checks being passed
+module _ (unit : SourceUnit) (classes : Classes) (in_use : BuffersInUse) (k : ℕ) (s : Shared) (t : Thread) (args : List Actual) where
+  -- what that does
+  abbrev pub call_effect : JniFunction → CallEffect
+  call_effect f = effect_of classes in_use k s t args (call_answer unit classes k (sight_of_call s t f args) f)

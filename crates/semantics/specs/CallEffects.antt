@@ -1,18 +1,17 @@
 -- What calls do to frames, fields, arrays, buffers and monitors, all checks being passed.
-use Rattle.std.specs.Prelude.{ℕ, ◌+◌, ◌-◌, max, Bool, true, false, ◌==◌, nat_lt, nat_le, if◌then◌else◌, ℤ, pos, negsuc, List, [], ◌∷◌, ◌++◌, map, length, take, drop, replicate, slice_get, slice_set, Option, Some, None}
-use Rattle.base.specs.Limits.{most_copied, most_monitor_entries, most_references, most_views}
-use Rattle.base.specs.Bytes.{Identifier, lookup}
-use Rattle.class_rules.specs.BuiltIns.{negative_array_size, array_store_exception, illegal_monitor_state, string_class}
+use Rattle.std.specs.Prelude.{ℕ, ◌+◌, ◌-◌, max, Bool, true, false, ◌==◌, nat_lt, nat_le, if◌then◌else◌, ℤ, pos, negsuc, List, [], ◌∷◌, ◌++◌, map, length, take, drop, slice_get, slice_set, Option, Some, None}
+use Rattle.base.specs.Limits.{most_copied, most_references, most_views}
+use Rattle.base.specs.Bytes.{Identifier}
+use Rattle.class_rules.specs.BuiltIns.{string_class}
 use Rattle.class_rules.specs.Class.{Classes}
 use Rattle.class_rules.specs.Fields.{FieldId}
 use Rattle.semantics.specs.Method.{MethodId}
 use Rattle.semantics.specs.Object.{Object, ObjectValue, Number, Refers, Reference}
 use Rattle.semantics.specs.World.{fresh_object}
-use Rattle.semantics.specs.Arguments.{ReleaseMode, CopyBackAndFree, CopyBack, FreeUncopied}
-use Rattle.semantics.specs.Heap.{Heap, next_name, numbers_of, with_numbers, with_value_at}
-use Rattle.semantics.specs.Thread.{Shared, Thread, Frame, Monitor, BuffersInUse, capacities, without_monitor}
-use Rattle.semantics.specs.Value.{Value, Int, Trap, OutOfRange, NullReference}
-use Rattle.semantics.specs.Variable.{Variable, LocalRef, Elements, LocalArray, Buffer, NoBuffer, Copy, View, assign, change, StaticReference, Live, Weakly, Cleared, Deleted}
+use Rattle.semantics.specs.Heap.{Heap, next_name}
+use Rattle.semantics.specs.Thread.{Shared, Thread, Frame, Monitor, BuffersInUse, capacities}
+use Rattle.semantics.specs.Value.{Value, Int, Trap}
+use Rattle.semantics.specs.Variable.{Variable, LocalRef, Elements, LocalArray, Buffer, NoBuffer, Copy, View, change}
 
 -- what a call gives
 pub data CallResult : Type 0 where
@@ -79,37 +78,11 @@ frames_effect classes s t frames =
     if nat_le (capacities frames) most_references then Leaves [] s (record t { frames = frames }) (ScalarResult (Int (pos 0)))
     else refuses_frames classes s t
 
--- room for n more references in the current frame
-abbrev pub ensure_effect : Classes → Shared → Thread → ℤ → CallEffect
-ensure_effect classes s t (pos n) = frames_effect classes s t (with_capacity n t.frames)
-ensure_effect classes s t (negsuc n) = refuses_frames classes s t
-
--- a new frame
-abbrev pub push_effect : Classes → Shared → Thread → ℤ → CallEffect
-push_effect classes s t (pos n) = frames_effect classes s t (record { capacity = n; references = [] } ∷ t.frames)
-push_effect classes s t (negsuc n) = refuses_frames classes s t
-
 -- both NULL, or one object
 abbrev pub same_reference : Reference → Reference → Bool
 same_reference None None = true
 same_reference (Some n) (Some m) = n == m
 same_reference r q = false
-
--- NULL: nothing; else one reference less in the frame where the variable was declared
-abbrev pub delete_local_effect : Shared → Thread → Option Variable → Reference → CallEffect
-delete_local_effect s t v None = Leaves [] s t NoResult
-delete_local_effect s t v (Some n) = Leaves [] s (record t { frames = without_local (level_of v) n t.frames }) NoResult
-
--- where the static holds a global reference, it is one less, and the static is marked
-abbrev pub delete_global_effect : Shared → Thread → Identifier → Option StaticReference → CallEffect
-delete_global_effect s t x (Some (Live n)) = Leaves [] (record s { globals = without_one n s.globals; statics = assign x Deleted s.statics }) t NoResult
-delete_global_effect s t x r = Leaves [] s t NoResult
-
--- where the static holds a weak global reference, cleared or not, it is marked
-abbrev pub delete_weak_effect : Shared → Thread → Identifier → Option StaticReference → CallEffect
-delete_weak_effect s t x (Some (Weakly n)) = Leaves [] (record s { statics = assign x Deleted s.statics }) t NoResult
-delete_weak_effect s t x (Some Cleared) = Leaves [] (record s { statics = assign x Deleted s.statics }) t NoResult
-delete_weak_effect s t x r = Leaves [] s t NoResult
 
 -- ---- what only changes the heap, and what makes one object
 
@@ -121,46 +94,11 @@ heap_effect s t heap = Leaves [] (record s { heap = heap }) t NoResult
 abbrev pub new_effect : Shared → Thread → Object → CallEffect
 new_effect s t o = Leaves (o ∷ []) s t (ReferenceResult (Some (next_name s.heap)))
 
--- a class that was found, or else an exception
-abbrev pub found_class_effect : Shared → Thread → (exception : ℕ) → Option ℕ → CallEffect
-found_class_effect s t exception None = Throws exception
-found_class_effect s t exception (Some c) = Leaves [] s t (ReferenceResult (Some c))
-
--- a field that was found, or else an exception
-abbrev pub found_field_effect : Shared → Thread → (exception : ℕ) → Option FieldId → CallEffect
-found_field_effect s t exception None = Throws exception
-found_field_effect s t exception (Some f) = Leaves [] s t (FieldResult (Some f))
-
--- a method that was found, or else an exception
-abbrev pub found_method_effect : Shared → Thread → (exception : ℕ) → Option MethodId → CallEffect
-found_method_effect s t exception None = Throws exception
-found_method_effect s t exception (Some m) = Leaves [] s t (MethodResult (Some m))
-
--- the method is called; without one no effect is asked for
-abbrev pub method_effect : Option MethodId → List ObjectValue → CallEffect
-method_effect None arguments = Halts NullReference
-method_effect (Some m) arguments = Enters m.function.name arguments
-
 -- ---- arrays and strings
-
--- a new array of n equal values
-abbrev pub new_array_effect : Shared → Thread → (class : ℕ) → ℤ → ObjectValue → CallEffect
-new_array_effect s t class (pos n) v = new_effect s t (record { class = class; values = replicate n v })
-new_array_effect s t class (negsuc n) v = Throws negative_array_size
 
 -- a string, one unit a byte
 abbrev pub string_object : List ℕ → Object
 string_object bytes = record { class = string_class; values = map (λ b. Number (pos b)) bytes }
-
--- goes on with an index of the array, or throws
-abbrev pub at_index : (exception : ℕ) → (length : ℕ) → ℤ → (ℕ → CallEffect) → CallEffect
-at_index exception length (pos i) go = if nat_lt i length then go i else Throws exception
-at_index exception length (negsuc i) go = Throws exception
-
--- goes on with a start and a length that lie within the array, or throws
-abbrev pub at_region : (exception : ℕ) → (length : ℕ) → ℤ → ℤ → (ℕ → ℕ → CallEffect) → CallEffect
-at_region exception length (pos start) (pos n) go = if nat_le (start + n) length then go start n else Throws exception
-at_region exception length start n go = Throws exception
 
 -- a list with other elements from a place on
 abbrev pub overwritten : List ℤ → ℕ → List ℤ → List ℤ
@@ -175,24 +113,6 @@ local_array v = []
 abbrev pub begun_with : List ℤ → Variable → Variable
 begun_with new (LocalArray kind zs) = LocalArray kind (overwritten zs 0 new)
 begun_with new v = v
-
--- n elements of an object from a place on go into a local array
-abbrev pub get_region_effect : Shared → Thread → ℕ → Identifier → ℕ → ℕ → CallEffect
-get_region_effect s t object x start n =
-    if nat_le n (length (local_array (lookup x t.variables)))
-    then Leaves [] s (record t { variables = change x (begun_with (take n (drop start (numbers_of s.heap object)))) t.variables }) NoResult
-    else Halts OutOfRange
-
--- the first n elements of a local array go into an array object
-abbrev pub set_region_effect : Shared → Thread → ℕ → Identifier → ℕ → ℕ → CallEffect
-set_region_effect s t object x start n =
-    if nat_le n (length (local_array (lookup x t.variables)))
-    then heap_effect s t (with_numbers s.heap object (overwritten (numbers_of s.heap object) start (take n (local_array (lookup x t.variables)))))
-    else Halts OutOfRange
-
--- a reference goes into an array of objects, if it fits
-abbrev pub store_effect : Shared → Thread → Bool → ℕ → Reference → ℕ → CallEffect
-store_effect s t fits object r i = if fits then heap_effect s t (with_value_at s.heap object i (Refers r)) else Throws array_store_exception
 
 -- ---- buffers
 
@@ -218,12 +138,6 @@ freed v = v
 abbrev pub with_freed : Thread → Identifier → Thread
 with_freed t p = record t { variables = change p freed t.variables }
 
--- a buffer of copied elements is released by its mode
-abbrev pub release_effect : Shared → Thread → ℕ → Identifier → ReleaseMode → CallEffect
-release_effect s t object p CopyBackAndFree = heap_effect s (with_freed t p) (with_numbers s.heap object (copied_elements (lookup p t.variables)))
-release_effect s t object p CopyBack = heap_effect s t (with_numbers s.heap object (copied_elements (lookup p t.variables)))
-release_effect s t object p FreeUncopied = Leaves [] s (with_freed t p) NoResult
-
 -- ---- exceptions and monitors
 
 -- a new exception object with a message, which is its first field
@@ -243,18 +157,3 @@ monitors_effect s t monitors = Leaves [] (record s { monitors = monitors }) t (S
 -- an object, its owner, and how many times
 abbrev pub monitor : ℕ → ℕ → ℕ → Monitor
 monitor object owner count = record { object = object; owner = owner; count = count }
-
--- one entry more, up to 255; no other thread owns the object
-abbrev pub enter_effect : (k : ℕ) → Shared → Thread → ℕ → Option Monitor → CallEffect
-enter_effect k s t object None = monitors_effect s t (monitor object k 1 ∷ s.monitors)
-enter_effect k s t object (Some m) =
-    if nat_lt m.count most_monitor_entries then monitors_effect s t (monitor object k (m.count + 1) ∷ without_monitor s.monitors object)
-    else Leaves [] s t (ScalarResult (Int (negsuc 0)))
-
--- one entry less of a monitor that the thread owns; with the last one the object is free
-abbrev pub exit_effect : (k : ℕ) → Shared → Thread → ℕ → Option Monitor → CallEffect
-exit_effect k s t object None = Throws illegal_monitor_state
-exit_effect k s t object (Some m) =
-    if m.owner == k then monitors_effect s t (if m.count == 1 then without_monitor s.monitors object
-    else monitor object k (m.count - 1) ∷ without_monitor s.monitors object)
-    else Throws illegal_monitor_state

@@ -1,19 +1,17 @@
 -- What a call of a JNI function asks of its arguments and of what is around it: all that its checks and its answer go by.
-use Rattle.std.specs.Prelude.{ℕ, ℤ, Bool, true, false, List, drop, length, map, slice_get, Option, Some, None}
+use Rattle.std.specs.Prelude.{ℕ, ℤ, Bool, true, false, List, drop, length, map, nat_le, slice_get, Option, Some, None}
 use Rattle.std.specs.Option.{option_map_or}
 use Rattle.base.specs.Bytes.{Identifier, lookup}
-use Rattle.base.specs.Element.{ElementType}
 use Rattle.class_rules.specs.Fields.{FieldId}
 use Rattle.jni.specs.JniFunction.{JniFunction, DeleteGlobalRef, DeleteWeakGlobalRef, prototype}
 use Rattle.jni.specs.Prototype.{ParameterKind, ArrayVariable}
 use Rattle.semantics.specs.Arguments.{Actual, ReferenceActual, FieldActual, MethodActual, NumberActual, ReleaseMode, field_in_actual, method_in_actual, mode_in_actual, name_or_zero, number_in_actual, reference_in_actual, text_in_actual, variable_given}
 use Rattle.semantics.specs.CallEffects.{local_array}
-use Rattle.semantics.specs.Checks.{is_deleted, is_full}
 use Rattle.semantics.specs.Heap.{Heap, class_of, values_of}
 use Rattle.semantics.specs.Method.{MethodId}
 use Rattle.semantics.specs.Object.{Object, Reference}
 use Rattle.semantics.specs.Thread.{Frame, Monitor, Shared, Thread, monitor_of}
-use Rattle.semantics.specs.Variable.{StaticReference, Empty, Variables, Statics}
+use Rattle.semantics.specs.Variable.{StaticReference, Deleted, Empty, Variables, Statics}
 
 -- what is asked of one argument; what it is not of its kind is NULL, 0 or nothing
 pub record ArgumentSight : Type 0 where
@@ -56,8 +54,6 @@ pub record CallSight : Type 0 where
   pub is_full_below : Bool
   -- how many calls wait for this one
   pub callers : ℕ
-  -- the element type of the buffer that the call is to fill
-  pub element : ElementType
 
 -- the object of the first argument, and 0 for NULL: of a class object this is its class
 abbrev pub name_of_first : CallSight → ℕ
@@ -72,6 +68,11 @@ name_of_second sight = name_or_zero sight.second.reference
 -- the object of a name; of no object one of no values
 abbrev pub object_seen : Heap → ℕ → Object
 object_seen heap n = record { class = class_of heap n; values = values_of heap n }
+
+-- a static that is marked as deleted
+abbrev pub is_deleted : Actual → Bool
+is_deleted (ReferenceActual x Deleted) = true
+is_deleted a = false
 
 -- NULL for a reference, a field ID or a method ID
 abbrev pub is_null_actual : Option Actual → Bool
@@ -106,6 +107,11 @@ argument_seen heap a = record {
   is_reference = is_reference_actual a;
 }
 
+-- the frame holds as many references as it may
+abbrev pub is_full : Option Frame → Bool
+is_full None = true
+is_full (Some frame) = nat_le frame.capacity (length frame.references)
+
 -- how many elements a local array has, where the parameter is one
 abbrev pub elements_seen : Variables → Option ParameterKind → Identifier → ℕ
 elements_seen vs (Some (ArrayVariable T)) x = length (local_array (lookup x vs))
@@ -119,9 +125,9 @@ held_seen ss f x = None
 
 -- A call of a function by a thread with these variables and frames, so many calls that wait for this one, and this pending exception.
 module _ (s : Shared) (vs : Variables) (frames : List Frame) (callers : ℕ) (pending : Reference) where
-  -- what is seen of it with these arguments, where it is to fill a buffer of this element type, if it fills one
-  abbrev pub call_seen : ElementType → JniFunction → List Actual → CallSight
-  call_seen element f args =
+  -- what is seen of it with these arguments
+  abbrev pub call_seen : JniFunction → List Actual → CallSight
+  call_seen f args =
       let at = λ (i : ℕ). argument_seen s.heap (slice_get args i) in
       record {
         arguments = map (λ (a : Actual). argument_seen s.heap (Some a)) args;
@@ -136,9 +142,8 @@ module _ (s : Shared) (vs : Variables) (frames : List Frame) (callers : ℕ) (pe
         is_full = is_full (slice_get frames 0);
         is_full_below = is_full (slice_get (drop 1 frames) 0);
         callers = callers;
-        element = element;
       }
 
 -- what is seen of a call of a thread
-abbrev pub sight_of_call : Shared → Thread → ElementType → JniFunction → List Actual → CallSight
-sight_of_call s t element f args = call_seen s t.variables t.frames (length t.callers) t.pending element f args
+abbrev pub sight_of_call : Shared → Thread → JniFunction → List Actual → CallSight
+sight_of_call s t f args = call_seen s t.variables t.frames (length t.callers) t.pending f args

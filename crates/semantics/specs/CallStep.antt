@@ -9,10 +9,11 @@ use Rattle.jni.specs.JniFunction.{JniFunction, MonitorEnter, prototype}
 use Rattle.jni.specs.Prototype.{ResultKind, NewLocal, NewGlobal, NewWeak, GivesFlag, GivesInt, GivesField, GivesMethod, GivesBuffer, GivesNothing}
 use Rattle.semantics.specs.Object.{Object}
 use Rattle.semantics.specs.World.{Invocation, fresh_object}
+use Rattle.semantics.specs.AnswerTable.{call_effect}
+use Rattle.semantics.specs.CallSight.{sight_of_call}
+use Rattle.semantics.specs.Checks.{trap_of}
 use Rattle.semantics.specs.Arguments.{Actual, address_given, object_given}
 use Rattle.semantics.specs.CallEffects.{CallResult, NoResult, NullResult, ScalarResult, ReferenceResult, WeakResult, FieldResult, MethodResult, BufferResult, CallEffect, Throws, Leaves, out_of_memory, with_local, Halts, Enters}
-use Rattle.semantics.specs.CallTable.{call_effect}
-use Rattle.semantics.specs.Checks.{call_trap}
 use Rattle.semantics.specs.Effect.{Effect, Calls, tasks_after}
 use Rattle.semantics.specs.Heap.{next_name}
 use Rattle.semantics.specs.Task.{Task, VariableKind, ScalarKind, ReferenceKind, FieldKind, MethodKind, BufferKind, Target, Declared, Assigned}
@@ -103,7 +104,7 @@ target_element vs target = JInt
 
 -- the trap that stops a call before its effect
 abbrev pub trap_of_call : Classes → Shared → Thread → Target → JniFunction → List Actual → Option Trap
-trap_of_call classes s t target f args = call_trap classes s.heap t (target_element t.variables target) f args
+trap_of_call classes s t target f args = trap_of classes (sight_of_call s t f args) (target_element t.variables target) f
 
 -- the trap that a check found, or else the effect
 abbrev pub checked : Option Trap → CallEffect → CallEffect

@@ -1,8 +1,7 @@
 -- The heap. An object has a name, its birth number, and never moves.
-use Rattle.std.specs.Prelude.{ℕ, zero, suc, ◌+◌, ◌-◌, Bool, true, false, ◌==◌, ℤ, pos, List, [], map, length, position, slice_get, slice_set, Option, Some, None}
+use Rattle.std.specs.Prelude.{ℕ, zero, suc, ◌+◌, Bool, true, false, ℤ, pos, List, [], map, length, position, slice_get, slice_set, Option, Some, None}
 use Rattle.std.specs.Option.{option_map_or}
 use Rattle.base.specs.Element.{ElementType, same_element}
-use Rattle.class_rules.specs.BuiltIns.{class_class}
 use Rattle.class_rules.specs.Class.{Classes, FieldType, NumberField, ReferenceField, assignable}
 use Rattle.class_rules.specs.Fields.{FieldId, layout, own_statics, same_field}
 use Rattle.semantics.specs.Object.{ObjectValue, Number, Refers, Reference, Object}
@@ -24,9 +23,10 @@ class_of heap n = option_map_or (λ (o : Object). o.class) (object_at heap n) 0
 abbrev pub values_of : Heap → ℕ → List ObjectValue
 values_of heap n = option_map_or (λ (o : Object). o.values) (object_at heap n) []
 
--- the heap with other values in an object
+-- the heap with other values in an object; as it was, where there is none of this name
 abbrev pub with_values : Heap → ℕ → List ObjectValue → Heap
-with_values heap n values = slice_set heap (n - 1) (record { class = class_of heap n; values = values })
+with_values heap zero values = heap
+with_values heap (suc i) values = slice_set heap i (record { class = class_of heap (suc i); values = values })
 
 -- the name of the next object
 abbrev pub next_name : Heap → ℕ
@@ -89,10 +89,6 @@ is_instance classes heap n c = assignable classes (class_of heap n) c
 abbrev pub fits_class : Classes → Heap → Reference → ℕ → Bool
 fits_class classes heap None c = true
 fits_class classes heap (Some n) c = is_instance classes heap n c
-
--- whether an object is a class
-abbrev pub is_class_object : Heap → ℕ → Bool
-is_class_object heap n = class_of heap n == class_class
 
 -- whether a field is of this number type
 abbrev pub holds_number : ElementType → FieldType → Bool

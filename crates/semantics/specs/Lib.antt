@@ -21,12 +21,10 @@ pub mod Effect
 -- threads, and calls of the JNI
 pub mod Thread
 pub mod CallEffects
-pub mod CallTable
-pub mod Checks
 pub mod CallSight
 pub mod Answer
 pub mod AnswerTable
-pub mod CallTraps
+pub mod Checks
 pub mod CallStep
 -- a step of a thread, and of a run
 pub mod Activation

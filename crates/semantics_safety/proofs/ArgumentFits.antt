@@ -11,7 +11,6 @@ use Rattle.syntax.specs.Tree.{Null, Expr, Number, Named, Variable, Element, Pref
 use Rattle.jni.specs.Access.{Access, ElementsCopy, ArrayView, CharsCopy, CharsView}
 use Rattle.jni.specs.Prototype.{ParameterKind, Nullable, NonNull, AnyReference, ClassObject, AnyArray, ObjectArray, StringObject, NumberArray, LocalVariable, StaticVariable, WeakVariable, FieldID, MethodID, Passed, IntNumber, TextBytes, ArrayVariable, BufferVariable, Mode, IsCopy}
 use Rattle.type_rules.specs.ExprTypes.{ExprType, Jint, Ref, Global, Weak, Buffer, type_in, type_of, is_jint, is_any_reference, is_reference, is_buffer_for, is_null, name_type, argument_fits, arguments_fit}
-use Rattle.type_rules.specs.ExprTypes as ty
 use Rattle.type_rules.specs.TypeRules.{is_mode, is_mode_parameter, modes_fit}
 use Rattle.type_rules.proofs.TypeTests.{jint_is, flag_is, ref_is, global_is, weak_is, field_is, method_is, array_is}
 use Rattle.region_rules.specs.RegionRules.{is_dead, is_untested, is_free}

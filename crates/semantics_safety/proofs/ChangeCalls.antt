@@ -4,7 +4,7 @@ use Rattle.std.specs.Prelude.{ℤ}
 use Rattle.std.specs.Str.{bytes_eq}
 use Rattle.std.proofs.lemmas.Slice.Eq.{bytes_eq-Decides}
 use Rattle.base.specs.Bytes.{Identifier, ByName, lookup}
-use Rattle.base.specs.Element.{ElementType, JInt}
+use Rattle.base.specs.Element.{ElementType}
 use Rattle.syntax.specs.Tree.{SourceUnit}
 use Rattle.syntax.specs.Tree as tree
 use Rattle.class_rules.specs.Class.{Classes}
@@ -14,18 +14,16 @@ use Rattle.jni.specs.Prototype.{ParameterKind, ResultKind, NewLocal, GivesNothin
 use Rattle.type_rules.specs.ExprTypes.{type_in}
 use Rattle.type_rules.specs.ExprTypes as ty
 use Rattle.semantics.specs.Answer.{Answer, effect_of, with_region_got}
-use Rattle.semantics.specs.AnswerTable.{call_answer}
-use Rattle.semantics.specs.Arguments.{Actual, actuals, look_up, variable_given}
-use Rattle.semantics.specs.CallEffects.{CallEffect, Throws, Leaves, NoResult, without_one, begun_with, overwritten}
+use Rattle.semantics.specs.AnswerTable.{call_answer, call_effect}
 use Rattle.semantics.specs.CallSight.{CallSight, sight_of_call}
+use Rattle.semantics.specs.Arguments.{Actual, actuals, look_up, variable_given}
+use Rattle.semantics.specs.CallEffects.{Throws, Leaves, NoResult, without_one, begun_with, overwritten}
 use Rattle.semantics.specs.CallStep.{failure, after_call, call_step}
-use Rattle.semantics.specs.CallTable.{call_effect}
 use Rattle.semantics.specs.Heap.{numbers_of}
 use Rattle.semantics.specs.Task.{Task, Target, Declared, Assigned, Tested, Dropped, Operand, Given, Invoke}
 use Rattle.semantics.specs.Thread.{Thread, Shared, BuffersInUse, Advance, Advances, NoAdvance, sight_of}
 use Rattle.semantics.specs.Variable.{LocalRef, Elements, LocalArray, Buffer, StaticReference, Weakly, Variables, Statics, Deleted, assign, change}
 use Rattle.semantics.specs.Effect.{Calls, Effect}
-use Rattle.semantics.proofs.Answers.{effect_is}
 use Rattle.semantics.proofs.AnswerKinds.{AnswersAs, CallKind, EndingGlobal, EndingNoStatic, EndingWeak, EndsStatic, Filling, FillingNone, FillsArray, Halting, answers_of, call_kind, filled_last}
 use Rattle.semantics_safety.proofs.OwnerLaws.{LandsBy}
 use Rattle.semantics_safety.specs.Owners.{Owners, left_by}
@@ -125,13 +123,13 @@ module _ (unit : SourceUnit) (classes : Classes) (in_use : BuffersInUse) (k : �
   module _ (f : JniFunction) (target : Target) (operands : List Operand) (args : List Actual) where
     -- what the call answers
     abbrev answer : Answer
-    answer = call_answer unit classes k (sight_of_call s t JInt f args) f
+    answer = call_answer unit classes k (sight_of_call s t f args) f
 
     -- its effect leads to a point, where the answer's does
     answered : LandsBy weak (Calls line target f args) (length t.frames) own s.statics (after_call unit classes in_use k s t line target f args rest (effect_of classes in_use k s t args answer))
         → LandsBy weak (Calls line target f args) (length t.frames) own s.statics (after_call unit classes in_use k s t line target f args rest (call_effect unit classes in_use k s t args f))
     answered h =
-        subst (λ (e : CallEffect). LandsBy weak (Calls line target f args) (length t.frames) own s.statics (after_call unit classes in_use k s t line target f args rest e)) (sym (effect_is unit classes in_use k s t args JInt f)) h
+        h
 
     plain_left : (kind : CallKind) → call_kind f ≡ kind → IsFreeKind kind → (y : Identifier) → own y ≡ left_by f args (length t.frames) own y
     plain_left kind is free y = free_owners f args (length t.frames) own (subst IsFreeKind (sym is) free) y
@@ -147,7 +145,7 @@ module _ (unit : SourceUnit) (classes : Classes) (in_use : BuffersInUse) (k : �
         → LandsBy weak (Calls line target f args) (length t.frames) own s.statics (call_step unit classes in_use k s t line target f args rest false)
     static_call_lands is runs =
         plain_call_lands unit classes in_use k s t line f args rest p stands (subst IsPlain (sym is) tt) whole target operands (λ get away room goes.
-        answered (static_lands f target away args get (plain_left EndsStatic is tt) refl goes (answers_of unit classes k (sight_of_call s t JInt f args) f EndsStatic is))) runs
+        answered (static_lands f target away args get (plain_left EndsStatic is tt) refl goes (answers_of unit classes k (sight_of_call s t f args) f EndsStatic is))) runs
 
     -- those that fill a local array
     pub region_call_lands : args ≡ actuals (sight_of s t) f operands → call_kind f ≡ FillsArray → Runs (Invoke line target f operands) (GoesOn rest) p
@@ -161,4 +159,4 @@ module _ (unit : SourceUnit) (classes : Classes) (in_use : BuffersInUse) (k : �
         plain_call_lands unit classes in_use k s t line f args rest p stands (subst IsPlain (sym is) tt) whole target operands (λ get away room goes.
         answered (region_lands f target away args get (plain_left FillsArray is tt) last.1.0 array.0
         (subst (λ (l : List Actual). type_in p.names (variable_given l 3) ≡ Some (ty.Array last.1.0 array.0)) (sym given) array.1)
-        refl goes (answers_of unit classes k (sight_of_call s t JInt f args) f FillsArray is))) runs
+        refl goes (answers_of unit classes k (sight_of_call s t f args) f FillsArray is))) runs

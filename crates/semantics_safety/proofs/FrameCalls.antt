@@ -6,7 +6,6 @@ use Rattle.base.specs.Bytes.{Identifier, lookup}
 use Rattle.syntax.specs.Tree as tree
 use Rattle.syntax.specs.Tree.{Block, SourceUnit}
 use Rattle.class_rules.specs.Class.{Classes}
-use Rattle.base.specs.Element.{JInt}
 use Rattle.base.specs.Limits.{most_references}
 use Rattle.jni.specs.Access.{Access}
 use Rattle.jni.specs.JniFunction.{DeleteLocalRef, PushLocalFrame, PopLocalFrame}
@@ -16,9 +15,9 @@ use Rattle.region_rules.specs.RegionStates.{ReferenceAt, state_of, with_changed,
 use Rattle.semantics.specs.Answer.{Answer, effect_of}
 use Rattle.semantics.specs.Arguments.{Actual, ReferenceActual, actuals, reference_in_actual, reference_given, variable_given, address_given}
 use Rattle.semantics.specs.CallEffects.{ScalarResult, ReferenceResult, NoResult, CallEffect, Leaves, level_of, without_local}
+use Rattle.semantics.specs.AnswerTable.{call_effect}
 use Rattle.semantics.specs.CallSight.{sight_of_call}
 use Rattle.semantics.specs.CallStep.{trap_of_call, target_element, checked, after_call, call_step, is_zero, completed, received, tell_copy}
-use Rattle.semantics.specs.CallTable.{call_effect}
 use Rattle.semantics.specs.Object.{Reference}
 use Rattle.semantics.specs.Sight.{held_reference}
 use Rattle.semantics.specs.Task.{Task, Target, Declared, Assigned, Tested, Dropped, Operand, Given, Invoke, Branch}
@@ -28,7 +27,6 @@ use Rattle.semantics.specs.Value.{Int, Truth, Trap}
 use Rattle.semantics.specs.Variable.{Variable, LocalRef, Variables}
 use Rattle.semantics.specs.Effect.{Calls, tasks_after}
 use Rattle.std.specs.Str.{bytes_eq}
-use Rattle.semantics.proofs.Answers.{effect_is}
 use Rattle.semantics.proofs.AnswerKinds.{AnswersAs, EndingLocal, EndingNoLocal, EndsLocal, Halting, PopsFrame, Popping, Pushing, PushingNone, PushesFrame, answers_as}
 use Rattle.semantics_safety.proofs.OwnerLaws.{LandsBy, quiet_by, stands_with}
 use Rattle.semantics_safety.specs.Owners.{Owners, left_by, other_than}
@@ -80,7 +78,7 @@ module _ (unit : SourceUnit) (classes : Classes) (in_use : BuffersInUse) (k : �
     level_is : level_of (lookup (variable_given args 0) t.variables) ≡ level
     level_is = ap (λ (z : Identifier). level_of (lookup z t.variables)) (sym is) ∙ ap level_of h
 
-    deleted : {kind : ResultKind} {a : Answer} → AnswersAs unit classes (sight_of_call s t JInt DeleteLocalRef args) DeleteLocalRef EndsLocal kind a → LandsBy weak (Calls line target DeleteLocalRef args) (length t.frames) own s.statics (after_call unit classes in_use k s t line target DeleteLocalRef args rest (effect_of classes in_use k s t args a))
+    deleted : {kind : ResultKind} {a : Answer} → AnswersAs unit classes (sight_of_call s t DeleteLocalRef args) DeleteLocalRef EndsLocal kind a → LandsBy weak (Calls line target DeleteLocalRef args) (length t.frames) own s.statics (after_call unit classes in_use k s t line target DeleteLocalRef args rest (effect_of classes in_use k s t args a))
     unfolding effect_of
     deleted (EndingNoLocal none) =
         left_with t.frames refl (λ l m. let less = fewer t.variables x l m p.regions.variables in let enough = stands.backed l m in omega (arith, less, enough))
@@ -113,8 +111,7 @@ module _ (unit : SourceUnit) (classes : Classes) (in_use : BuffersInUse) (k : �
 
       by_trap : (o : Option Trap) → LandsBy weak (Calls line target DeleteLocalRef args) (length t.frames) own s.statics (after_call unit classes in_use k s t line target DeleteLocalRef args rest (checked o (call_effect unit classes in_use k s t args DeleteLocalRef)))
       by_trap None =
-          subst (λ (e : CallEffect). LandsBy weak (Calls line target DeleteLocalRef args) (length t.frames) own s.statics (after_call unit classes in_use k s t line target DeleteLocalRef args rest e)) (sym (effect_is unit classes in_use k s t args JInt DeleteLocalRef))
-          (deleted x level shown.0 target args get away e shown.1 goes refl (reference_is x level shown.0 shown.1) (answers_as unit classes k (sight_of_call s t JInt DeleteLocalRef args) DeleteLocalRef))
+          (deleted x level shown.0 target args get away e shown.1 goes refl (reference_is x level shown.0 shown.1) (answers_as unit classes k (sight_of_call s t DeleteLocalRef args) DeleteLocalRef))
       by_trap (Some trap) = (whole, λ x r g. (r, g))
 
   delete_operands : (target : Target) (operands : List Operand) → IsNoTest target → OperandsFit p (LocalVariable ∷ []) operands
@@ -152,7 +149,7 @@ module _ (unit : SourceUnit) (classes : Classes) (in_use : BuffersInUse) (k : �
     refused : LandsBy weak (Calls line (Tested a b) PushLocalFrame args) (length t.frames) own s.statics (completed unit classes in_use k s t line (Tested a b) PushLocalFrame args rest [] s (record t { pending = Some (length classes + 1) }) (ScalarResult (Int (negsuc 3))))
     refused = tested_lands (record t { pending = Some (length classes + 1) }) (negsuc 3) p stands (refl, (pushed, p, IsFalseNow pushed, on_true, on_false))
 
-    pushes : {kind : ResultKind} {answer : Answer} → AnswersAs unit classes (sight_of_call s t JInt PushLocalFrame args) PushLocalFrame PushesFrame kind answer → LandsBy weak (Calls line (Tested a b) PushLocalFrame args) (length t.frames) own s.statics (after_call unit classes in_use k s t line (Tested a b) PushLocalFrame args rest (effect_of classes in_use k s t args answer))
+    pushes : {kind : ResultKind} {answer : Answer} → AnswersAs unit classes (sight_of_call s t PushLocalFrame args) PushLocalFrame PushesFrame kind answer → LandsBy weak (Calls line (Tested a b) PushLocalFrame args) (length t.frames) own s.statics (after_call unit classes in_use k s t line (Tested a b) PushLocalFrame args rest (effect_of classes in_use k s t args answer))
     unfolding effect_of
     pushes (Pushing n) =
         cond_both (nat_le (capacities (record { capacity = n; references = [] } ∷ t.frames)) most_references) _ _ (λ (e : CallEffect). LandsBy weak (Calls line (Tested a b) PushLocalFrame args) (length t.frames) own s.statics (after_call unit classes in_use k s t line (Tested a b) PushLocalFrame args rest e))
@@ -163,8 +160,7 @@ module _ (unit : SourceUnit) (classes : Classes) (in_use : BuffersInUse) (k : �
 
     push_at : (o : Option Trap) → LandsBy weak (Calls line (Tested a b) PushLocalFrame args) (length t.frames) own s.statics (after_call unit classes in_use k s t line (Tested a b) PushLocalFrame args rest (checked o (call_effect unit classes in_use k s t args PushLocalFrame)))
     push_at None =
-        subst (λ (e : CallEffect). LandsBy weak (Calls line (Tested a b) PushLocalFrame args) (length t.frames) own s.statics (after_call unit classes in_use k s t line (Tested a b) PushLocalFrame args rest e)) (sym (effect_is unit classes in_use k s t args JInt PushLocalFrame))
-        (pushes (answers_as unit classes k (sight_of_call s t JInt PushLocalFrame args) PushLocalFrame))
+        (pushes (answers_as unit classes k (sight_of_call s t PushLocalFrame args) PushLocalFrame))
     push_at (Some trap) = (whole, λ x r g. (r, g))
 
   no_other : PushLocalFrame ≡ PushLocalFrame → true ≡ false → ⊥
@@ -184,7 +180,7 @@ module _ (unit : SourceUnit) (classes : Classes) (in_use : BuffersInUse) (k : �
   gives_any (Some n) = ALocal n
 
   popped : {kind : ResultKind} {a : Answer} (target : Target) (args : List Actual) (get : Option (Access × Option Identifier)) → IsNoTest target → HasFrame (drop 1 t.frames) → ResultGoes target NewLocal get (GoesOn rest) (at p (after_pop p.regions))
-      → AnswersAs unit classes (sight_of_call s t JInt PopLocalFrame args) PopLocalFrame PopsFrame kind a → LandsBy weak (Calls line target PopLocalFrame args) (length t.frames) own s.statics (after_call unit classes in_use k s t line target PopLocalFrame args rest (effect_of classes in_use k s t args a))
+      → AnswersAs unit classes (sight_of_call s t PopLocalFrame args) PopLocalFrame PopsFrame kind a → LandsBy weak (Calls line target PopLocalFrame args) (length t.frames) own s.statics (after_call unit classes in_use k s t line target PopLocalFrame args rest (effect_of classes in_use k s t args a))
   unfolding effect_of
   popped target args get away room goes (Popping r) =
       given_lands unit classes in_use k s t line target PopLocalFrame args rest (at p (after_pop p.regions)) own (λ y. refl) NewLocal [] s (record t { frames = drop 1 t.frames }) (ReferenceResult r) get refl away (λ is. room)
@@ -194,8 +190,7 @@ module _ (unit : SourceUnit) (classes : Classes) (in_use : BuffersInUse) (k : �
   pop_at : (target : Target) (args : List Actual) (get : Option (Access × Option Identifier)) → IsNoTest target → ResultGoes target NewLocal get (GoesOn rest) (at p (after_pop p.regions)) → (o : Option Trap) → trap_of_call classes s t target PopLocalFrame args ≡ o
       → LandsBy weak (Calls line target PopLocalFrame args) (length t.frames) own s.statics (after_call unit classes in_use k s t line target PopLocalFrame args rest (checked o (call_effect unit classes in_use k s t args PopLocalFrame)))
   pop_at target args get away goes None e =
-      subst (λ (e : CallEffect). LandsBy weak (Calls line target PopLocalFrame args) (length t.frames) own s.statics (after_call unit classes in_use k s t line target PopLocalFrame args rest e)) (sym (effect_is unit classes in_use k s t args JInt PopLocalFrame))
-      (popped target args get away (has_frame (drop 1 t.frames) (has_room classes s.heap t (target_element t.variables target) PopLocalFrame args e refl)) goes (answers_as unit classes k (sight_of_call s t JInt PopLocalFrame args) PopLocalFrame))
+      (popped target args get away (has_frame (drop 1 t.frames) (has_room classes s t (target_element t.variables target) PopLocalFrame args e refl)) goes (answers_as unit classes k (sight_of_call s t PopLocalFrame args) PopLocalFrame))
   pop_at target args get away goes (Some trap) e = (whole, λ x r g. (r, g))
 
   -- PopLocalFrame

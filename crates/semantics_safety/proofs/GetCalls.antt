@@ -1,16 +1,16 @@
 -- The steps of the calls that get a buffer.
 use Rattle.std.proofs.Common.{◌≡◌, ◌≢◌, ℕ, ◌≤◌, arith, Bool, true, false, ◌⊎◌, inl, inr, List, [], ◌∷◌, ◌++◌, map, filter, length, Option, Some, None, refl, sym, ap, ◌∙◌, subst, if◌then◌else◌}
-use Rattle.std.specs.Prelude.{ℤ, zip, ◌||◌, ◌&&◌, not, is_some}
+use Rattle.std.specs.Prelude.{ℤ}
 use Rattle.std.specs.List.{list_any}
 use Rattle.std.specs.Option.{option_map}
 use Rattle.std.specs.Str.{bytes_eq}
 use Rattle.base.specs.Bytes.{Identifier, ByName, lookup}
-use Rattle.base.specs.Element.{ElementType, JInt}
+use Rattle.base.specs.Element.{ElementType}
 use Rattle.syntax.specs.Tree.{SourceUnit}
 use Rattle.syntax.specs.Tree as tree
 use Rattle.class_rules.specs.Class.{Classes}
 use Rattle.jni.specs.Access.{Access, ElementsCopy, ArrayView, CharsCopy, CharsView, is_critical}
-use Rattle.jni.specs.JniFunction.{JniFunction, GetBuffer, PushLocalFrame, is_allowed_pending, parameters_for}
+use Rattle.jni.specs.JniFunction.{GetBuffer, PushLocalFrame}
 use Rattle.jni.specs.Prototype.{ResultKind, GivesBuffer, owner, IsCopy}
 use Rattle.type_rules.specs.ExprTypes.{ExprType, type_in}
 use Rattle.type_rules.specs.ExprTypes as ty
@@ -18,20 +18,19 @@ use Rattle.region_rules.specs.RegionStates.{get_of, VariableState, BufferState, 
 use Rattle.semantics.specs.Object.{Reference}
 use Rattle.semantics.specs.Answer.{Answer, effect_of}
 use Rattle.semantics.specs.Arguments.{Actual, ReferenceActual, look_up, actuals, reference_in_actual, name_or_zero, object_given, address_given, address_in_actual}
-use Rattle.semantics.specs.CallEffects.{CallEffect, Leaves, BufferResult}
-use Rattle.semantics.specs.CallSight.{sight_of_call}
+use Rattle.semantics.specs.CallEffects.{Leaves, BufferResult}
+use Rattle.semantics.specs.AnswerTable.{call_effect}
+use Rattle.semantics.specs.CallSight.{CallSight, sight_of_call}
+use Rattle.semantics.specs.Checks.{misses, with_kinds}
 use Rattle.semantics.specs.CallStep.{put, put_assigned, tell_copy, trap_of_call, target_element, checked, after_call, call_step}
-use Rattle.semantics.specs.CallTable.{call_effect}
-use Rattle.semantics.specs.Checks.{call_trap, first_trap, is_deleted, is_missing}
 use Rattle.semantics.specs.Effect.{tasks_after, Calls}
-use Rattle.semantics.specs.Heap.{Heap}
 use Rattle.semantics.specs.Sight.{held_reference}
 use Rattle.semantics.specs.Task.{Task, Target, Declared, Assigned, Tested, Dropped, VariableKind, ScalarKind, ReferenceKind, FieldKind, MethodKind, BufferKind, Operand, Given, Invoke}
 use Rattle.semantics.specs.Thread.{Thread, Shared, BuffersInUse, Frame, sight_of}
 use Rattle.semantics.specs.ThreadStep.{with_tasks}
-use Rattle.semantics.specs.Value.{Flag, Value, Trap, ExceptionPending, DeletedReference, NullReference}
+use Rattle.semantics.specs.Value.{Flag, Value, Trap}
 use Rattle.semantics.specs.Variable.{Variable, Scalar, LocalRef, Elements, Buffer, NoBuffer, Copy, View, Variables, Statics, assign}
-use Rattle.semantics.proofs.Answers.{effect_is}
+use Rattle.semantics.proofs.CheckLaws.{passed}
 use Rattle.semantics.proofs.AnswerKinds.{AnswersAs, Copying, GetsBuffer, Halting, Viewing, answers_as}
 use Rattle.semantics_safety.proofs.OwnerLaws.{LandsBy, put_by}
 use Rattle.semantics_safety.specs.Owners.{Owners}
@@ -191,18 +190,6 @@ module _ (ss : Statics) (vs : Variables) (frames : List Frame) (p : Point) {weak
 
 -- ---- the step
 
-third_fails : (a b c : Bool) (u v w : Trap) (further : List (Bool × Trap)) → first_trap ((a, u) ∷ (b, v) ∷ (c, w) ∷ further) ≡ None → c ≡ false
-third_fails true b c u v w further h = absurd (cc)
-third_fails false true c u v w further h = absurd (cc)
-third_fails false false true u v w further h = absurd (cc)
-third_fails false false false u v w further h = refl
-
--- a call that no trap stopped has all objects that it asks for
-none_missing : (classes : Classes) (heap : Heap) (t : Thread) (buffer : ElementType) (f : JniFunction) (args : List Actual) → call_trap classes heap t buffer f args ≡ None → list_any is_missing (zip (parameters_for f (length args)) args) ≡ false
-unfolding call_trap
-none_missing classes heap t buffer f args none =
-    third_fails (is_some t.pending && not (is_allowed_pending f)) (list_any is_deleted args) (list_any is_missing (zip (parameters_for f (length args)) args)) ExceptionPending DeletedReference NullReference _ none
-
 module _ (unit : SourceUnit) (classes : Classes) (in_use : BuffersInUse) (k : ℕ) (s : Shared) (t : Thread) (line : ℕ) (rest : List Task) (p : Point) {weak : WeakNames} {own : Owners} (stands : Stands weak own s.statics t.variables t.frames p) (whole : Goes weak own s.statics t t.tasks) where
   -- the object of the first argument
   abbrev object_of : Identifier → Option Variable → ℕ
@@ -267,11 +254,15 @@ module _ (unit : SourceUnit) (classes : Classes) (in_use : BuffersInUse) (k : �
   told_is CharsView a c = refl
 
   -- NULL would have been a trap
-  null_missing : (access : Access) (a : Identifier) (c : Operand) (level : ℕ) → lookup a t.variables ≡ Some (LocalRef level None) → list_any is_missing (zip (parameters_for (GetBuffer access) (length (got_with access a c))) (got_with access a c)) ≡ true
-  null_missing (ElementsCopy u) a c level e = ap (λ (o : Option Variable). is_missing (owner (ElementsCopy u), ReferenceActual a (held_reference o (lookup a s.statics))) || list_any is_missing ((IsCopy, look_up (sight_of s t) (IsCopy, c)) ∷ [])) e
-  null_missing CharsCopy a c level e = ap (λ (o : Option Variable). is_missing (owner CharsCopy, ReferenceActual a (held_reference o (lookup a s.statics))) || list_any is_missing ((IsCopy, look_up (sight_of s t) (IsCopy, c)) ∷ [])) e
-  null_missing ArrayView a c level e = ap (λ (o : Option Variable). is_missing (owner ArrayView, ReferenceActual a (held_reference o (lookup a s.statics))) || list_any is_missing ((IsCopy, look_up (sight_of s t) (IsCopy, c)) ∷ [])) e
-  null_missing CharsView a c level e = ap (λ (o : Option Variable). is_missing (owner CharsView, ReferenceActual a (held_reference o (lookup a s.statics))) || list_any is_missing ((IsCopy, look_up (sight_of s t) (IsCopy, c)) ∷ [])) e
+  -- what its checks see
+  abbrev sight : (access : Access) (a : Identifier) (c : Operand) → CallSight
+  sight access a c = sight_of_call s t (GetBuffer access) (got_with access a c)
+
+  null_missing : (access : Access) (a : Identifier) (c : Operand) (level : ℕ) → lookup a t.variables ≡ Some (LocalRef level None) → list_any misses (with_kinds classes (sight access a c) (GetBuffer access)) ≡ true
+  null_missing (ElementsCopy u) a c level e = cc
+  null_missing CharsCopy a c level e = cc
+  null_missing ArrayView a c level e = cc
+  null_missing CharsView a c level e = cc
 
   module _ (access : Access) (a : Identifier) (c : Operand) (level n : ℕ) (target : Target) (away : IsNoTest target) (here_a : state_of p.regions a ≡ Some (ReferenceAt level true)) (at_a : lookup a t.variables ≡ Some (LocalRef level (Some n)))
       (fit : OperandFits p IsCopy c) (goes : ResultGoes target (GivesBuffer access) (Some (access, Some a)) (GoesOn rest) p) where
@@ -284,7 +275,7 @@ module _ (unit : SourceUnit) (classes : Classes) (in_use : BuffersInUse) (k : �
     same_object : object_given (got_with access a c) 0 ≡ n
     same_object = got_of access a c ∙ ap (object_of a) at_a
 
-    buffer_answered : {kind : ResultKind} {answer : Answer} → AnswersAs unit classes (sight_of_call s t JInt (GetBuffer access) (got_with access a c)) (GetBuffer access) (GetsBuffer access) kind answer → LandsBy weak (Calls line target (GetBuffer access) (got_with access a c)) (length t.frames) own s.statics (after_call unit classes in_use k s t line target (GetBuffer access) (got_with access a c) rest (effect_of classes in_use k s t (got_with access a c) answer))
+    buffer_answered : {kind : ResultKind} {answer : Answer} → AnswersAs unit classes (sight_of_call s t (GetBuffer access) (got_with access a c)) (GetBuffer access) (GetsBuffer access) kind answer → LandsBy weak (Calls line target (GetBuffer access) (got_with access a c)) (length t.frames) own s.statics (after_call unit classes in_use k s t line target (GetBuffer access) (got_with access a c) rest (effect_of classes in_use k s t (got_with access a c) answer))
     unfolding effect_of
     buffer_answered (Copying of plain) = buffer_given _ (copy_lent access a level n (object_given (got_with access a c) 0) at_a same_object _ _ plain)
     buffer_answered (Viewing of critical) = buffer_given _ (view_lent access a level n (object_given (got_with access a c) 0) at_a same_object _ critical)
@@ -295,10 +286,9 @@ module _ (unit : SourceUnit) (classes : Classes) (in_use : BuffersInUse) (k : �
       → LandsBy weak (Calls line target (GetBuffer access) (got_with access a c)) (length t.frames) own s.statics (after_call unit classes in_use k s t line target (GetBuffer access) (got_with access a c) rest (checked o (call_effect unit classes in_use k s t (got_with access a c) (GetBuffer access))))
   got_at access a c level r target away here_a at_a fit goes (Some trap) e = (whole, λ x q g. (q, g))
   got_at access a c level None target away here_a at_a fit goes None e =
-      absurd (let missing = null_missing access a c level at_a in let none = none_missing classes s.heap t (target_element t.variables target) (GetBuffer access) (got_with access a c) e in let both : true ≡ false = sym missing ∙ none in cc)
+      absurd (let missing = null_missing access a c level at_a in let none = (passed classes (sight access a c) (target_element t.variables target) (GetBuffer access) e).given in let both : true ≡ false = sym missing ∙ none in cc)
   got_at access a c level (Some n) target away here_a at_a fit goes None e =
-      subst (λ (e : CallEffect). LandsBy weak (Calls line target (GetBuffer access) (got_with access a c)) (length t.frames) own s.statics (after_call unit classes in_use k s t line target (GetBuffer access) (got_with access a c) rest e)) (sym (effect_is unit classes in_use k s t (got_with access a c) JInt (GetBuffer access)))
-      (buffer_answered access a c level n target away here_a at_a fit goes (answers_as unit classes k (sight_of_call s t JInt (GetBuffer access) (got_with access a c)) (GetBuffer access)))
+      (buffer_answered access a c level n target away here_a at_a fit goes (answers_as unit classes k (sight access a c) (GetBuffer access)))
 
   get_operands : (access : Access) (target : Target) (operands : List Operand) → IsNoTest target → CallKeeps p (GetBuffer access) (map operand_argument operands) → OperandsFit p (owner access ∷ IsCopy ∷ []) operands
       → ResultGoes target (GivesBuffer access) (get_of (call_seen (GetBuffer access) operands)) (GoesOn rest) p

@@ -1,9 +1,8 @@
 -- A step within a call but a return leaves the calls to come as they were, and the callers.
-use Rattle.std.proofs.Common.{◌≡◌, ℕ, Bool, true, false, List, [], ◌∷◌, ◌++◌, Option, Some, None, refl, sym, subst, ◌∙◌}
+use Rattle.std.proofs.Common.{◌≡◌, ℕ, Bool, true, false, List, [], ◌∷◌, ◌++◌, Option, Some, None, refl, ◌∙◌}
 use Rattle.std.specs.Prelude.{ℤ, nat_le}
 use Rattle.std.proofs.lemmas.Bool.{cond_both}
 use Rattle.base.specs.Bytes.{Identifier, lookup}
-use Rattle.base.specs.Element.{JInt}
 use Rattle.base.specs.Limits.{most_references}
 use Rattle.class_rules.specs.Class.{Classes}
 use Rattle.syntax.specs.Tree.{SourceUnit}
@@ -11,12 +10,11 @@ use Rattle.jni.specs.JniFunction.{JniFunction, calls_method, prototype}
 use Rattle.jni.specs.Prototype.{ResultKind, NewLocal}
 use Rattle.semantics.specs.Answer.{Answer, Ensures, Pushes, Raises}
 use Rattle.semantics.specs.Answer as answer
-use Rattle.semantics.specs.AnswerTable.{call_answer}
+use Rattle.semantics.specs.AnswerTable.{call_answer, call_effect}
+use Rattle.semantics.specs.CallSight.{sight_of_call}
 use Rattle.semantics.specs.Arguments.{Actual}
 use Rattle.semantics.specs.CallEffects.{CallResult, NoResult, NullResult, ScalarResult, ReferenceResult, FieldResult, MethodResult, BufferResult, CallEffect, Throws, Halts, Leaves, Enters, out_of_memory, with_capacity, frames_effect}
-use Rattle.semantics.specs.CallSight.{sight_of_call}
 use Rattle.semantics.specs.CallStep.{put, put_assigned, received, failure, resumed, trap_of_call, checked, completed, after_call, after_refusal, call_step}
-use Rattle.semantics.specs.CallTable.{call_effect}
 use Rattle.semantics.specs.Effect.{Effect, Becomes, Sets, SetsNull, SetsElement, MakesArray, Prints, Calls, Returns, TrapsAt, NoEffect, effect_of}
 use Rattle.semantics.specs.Heap.{next_name}
 use Rattle.semantics.specs.Object.{Object}
@@ -26,7 +24,6 @@ use Rattle.semantics.specs.ThreadStep.{set_element, with_tasks, after_effect, af
 use Rattle.semantics.specs.Value.{Trap}
 use Rattle.semantics.specs.Variable.{Variable, Scalar, LocalRef, FieldHandle, MethodHandle, Elements, LocalArray, NoBuffer, Copy, View}
 use Rattle.semantics.specs.World.{Invocation, fresh_object}
-use Rattle.semantics.proofs.Answers.{effect_is}
 use Rattle.semantics.proofs.AnswerKinds.{CallsNone, calls_none}
 use Rattle.semantics_safety.proofs.CallLaws.{IsWithin}
 
@@ -95,8 +92,7 @@ module _ (unit : SourceUnit) (classes : Classes) (in_use : BuffersInUse) (k : �
 
   effect_keeps : (args : List Actual) (f : JniFunction) → calls_method f ≡ false → EffectKeeps (held t) (call_effect unit classes in_use k s t args f)
   effect_keeps args f own =
-      subst (EffectKeeps (held t)) (sym (effect_is unit classes in_use k s t args JInt f))
-      (answer_keeps args (call_answer unit classes k (sight_of_call s t JInt f args) f) (calls_none unit classes k (sight_of_call s t JInt f args) f own))
+      (answer_keeps args (call_answer unit classes k (sight_of_call s t f args) f) (calls_none unit classes k (sight_of_call s t f args) f own))
 
   module _ (line : ℕ) (target : Target) (f : JniFunction) (args : List Actual) (rest : List Task) where
     completed_keeps : (made : List Object) (s' : Shared) (t' : Thread) (given : CallResult) → held t' ≡ held t → KeepsCalls (held t) (completed unit classes in_use k s t line target f args rest made s' t' given)

@@ -6,7 +6,6 @@ use Rattle.std.specs.Option.{option_map}
 use Rattle.std.specs.Str.{bytes_eq}
 use Rattle.std.proofs.lemmas.Bool.{cond_both}
 use Rattle.base.specs.Bytes.{Identifier, lookup}
-use Rattle.base.specs.Element.{JInt}
 use Rattle.base.specs.Limits.{most_references}
 use Rattle.class_rules.specs.Class.{Classes}
 use Rattle.syntax.specs.Tree.{Function, Parameter, SourceUnit}
@@ -17,9 +16,9 @@ use Rattle.semantics.specs.Answer.{Answer}
 use Rattle.semantics.specs.Answer as answer
 use Rattle.semantics.specs.Arguments.{Actual, variable_given, address_given}
 use Rattle.semantics.specs.CallEffects.{CallResult, NullResult, ScalarResult, ReferenceResult, FieldResult, MethodResult, BufferResult, CallEffect, Throws, Halts, Leaves, Enters, out_of_memory, with_capacity, frames_effect, begun_with, freed}
+use Rattle.semantics.specs.AnswerTable.{call_effect}
 use Rattle.semantics.specs.CallSight.{CallSight, sight_of_call}
 use Rattle.semantics.specs.CallStep.{blank, filled, put, put_assigned, received, tell_copy, failure, resumed, trap_of_call, checked, completed, after_call, after_refusal, call_step}
-use Rattle.semantics.specs.CallTable.{call_effect}
 use Rattle.semantics.specs.Effect.{Effect, Becomes, Sets, SetsNull, SetsElement, MakesArray, Prints, Calls, Returns, TrapsAt, NoEffect, effect_of}
 use Rattle.semantics.specs.Heap.{next_name, numbers_of}
 use Rattle.semantics.specs.Method.{MethodId, find_method}
@@ -31,7 +30,6 @@ use Rattle.semantics.specs.ThreadStep.{set_element, with_tasks, after_effect, af
 use Rattle.semantics.specs.Value.{Trap, Int, Flag}
 use Rattle.semantics.specs.Variable.{Variable, Scalar, LocalRef, FieldHandle, MethodHandle, Elements, LocalArray, NoBuffer, Copy, View, Variables, assign, change}
 use Rattle.semantics.specs.World.{Invocation, fresh_object}
-use Rattle.semantics.proofs.Answers.{effect_is}
 use Rattle.semantics.proofs.AnswerFacts.{IsOfKind, OfMethod}
 use Rattle.semantics.proofs.AnswerKinds.{AnswersAs, CallKind, Calling, CopyingBack, Ensuring, Filling, FillingNone, Freeing, Giving, Halting, Pending, Pushing, Raising, answers_as}
 use Rattle.semantics_safety.specs.Stands.{AreCallable, HoldsCallable}
@@ -214,7 +212,7 @@ module _ (unit : SourceUnit) (classes : Classes) where
     answer_ok args h = (all, tt)
 
     effect_ok : (args : List Actual) (f : JniFunction) → EffectOk (call_effect unit classes in_use k s t args f)
-    effect_ok args f = subst EffectOk (sym (effect_is unit classes in_use k s t args JInt f)) (answer_ok args (answers_as unit classes k (sight_of_call s t JInt f args) f))
+    effect_ok args f = (answer_ok args (answers_as unit classes k (sight_of_call s t f args) f))
 
     module _ (line : ℕ) (target : Target) (f : JniFunction) (args : List Actual) (rest : List Task) where
       completed_ok : (made : List Object) (s' : Shared) (t' : Thread) (given : CallResult) → Ok t'.variables → GivesCallable given → LeavesCallable (completed unit classes in_use k s t line target f args rest made s' t' given)

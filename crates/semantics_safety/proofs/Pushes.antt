@@ -1,28 +1,25 @@
 -- A call of a method: a trap stops it, or the thread waits in it for the method's own call, which loads.
-use Rattle.std.proofs.Common.{◌≡◌, ℕ, ◌+◌, ◌≤◌, arith, Bool, true, false, not, ◌&&◌, ◌||◌, List, [], ◌∷◌, length, map, drop, zip, slice_get, is_some, Option, Some, None, refl, sym, ap, ◌∙◌, subst}
+use Rattle.std.proofs.Common.{◌≡◌, ℕ, ◌+◌, ◌≤◌, arith, Bool, true, false, ◌&&◌, List, [], ◌∷◌, length, map, drop, zip, slice_get, is_some, Option, Some, None, refl, sym, ap, ◌∙◌, subst}
 use Rattle.std.specs.Prelude.{◌==◌}
-use Rattle.std.specs.List.{list_any}
-use Rattle.std.proofs.lemmas.List.{length-map}
+use Rattle.std.proofs.lemmas.List.{drop-map, length-map}
 use Rattle.base.specs.Bytes.{Identifier, lookup}
-use Rattle.base.specs.Element.{ElementType, JInt}
+use Rattle.base.specs.Element.{ElementType}
 use Rattle.base.specs.Limits.{most_further}
 use Rattle.base.specs.Options.{some_passes}
 use Rattle.class_rules.specs.Class.{Classes}
 use Rattle.syntax.specs.Tree as tree
 use Rattle.syntax.specs.Tree.{Block, Expr, Function, ParameterType, IntParameter, ReferenceParameter, Parameter, ResultType, SourceUnit}
-use Rattle.jni.specs.JniFunction.{JniFunction, CallStaticVoidMethod, CallStaticIntMethod, CallStaticObjectMethod, PushLocalFrame, calls_method, is_allowed_pending, parameters_for, prototype}
+use Rattle.jni.specs.JniFunction.{JniFunction, CallStaticVoidMethod, CallStaticIntMethod, CallStaticObjectMethod, PushLocalFrame, calls_method, parameters_for, prototype}
 use Rattle.jni.specs.Prototype.{ParameterKind, ResultKind, ClassObject, MethodID}
 use Rattle.region_rules.specs.RegionStates as states
 use Rattle.region_rules.specs.RegionStates.{get_of}
 use Rattle.semantics.specs.Activation.{class_of_function}
 use Rattle.semantics.specs.Answer.{Answer, effect_of}
 use Rattle.semantics.specs.Arguments.{Actual, ReferenceActual, NumberActual, actuals, look_up, method_argument, method_given, method_in_actual, object_given, passed_value}
-use Rattle.semantics.specs.CallEffects.{CallEffect}
-use Rattle.semantics.specs.CallSight.{sight_of_call}
+use Rattle.semantics.specs.AnswerTable.{call_effect}
+use Rattle.semantics.specs.CallSight.{ArgumentSight, argument_seen, is_full, sight_of_call}
+use Rattle.semantics.specs.Checks.{all_pass, calls_well, frames_after, go_together, is_int, is_reference_result, is_void, passes}
 use Rattle.semantics.specs.CallStep.{after_call, after_refusal, call_step, calling, checked, target_element, trap_of_call}
-use Rattle.semantics.specs.CallTable.{all_pass, call_effect, calls_well, go_together, is_int, is_reference_result, is_void, passes}
-use Rattle.semantics.specs.Checks.{call_trap, first_trap, frames_after, is_deleted, is_full, is_misfit, is_missing}
-use Rattle.semantics.specs.Heap.{Heap}
 use Rattle.semantics.specs.Load.{call_loads, fit_parameters, fits_parameter, is_callable}
 use Rattle.semantics.specs.Method.{MethodId}
 use Rattle.semantics.specs.Object.{ObjectValue}
@@ -30,10 +27,10 @@ use Rattle.semantics.specs.Sight.{Sight, held_method}
 use Rattle.semantics.specs.Task.{Task, Target, Declared, Assigned, Tested, Dropped, Operand, NumberOperand, PassedName, Given, Invoke}
 use Rattle.semantics.specs.Term.{Term, Done}
 use Rattle.semantics.specs.Thread.{Thread, Caller, Shared, BuffersInUse, Frame, Quiet, Trapped, Advance, Advances, NoAdvance}
-use Rattle.semantics.specs.Value.{Int, Trap, DeletedReference, ExceptionPending, NullReference, WrongObject}
+use Rattle.semantics.specs.Value.{Int, Trap}
 use Rattle.semantics.specs.Variable.{Variable, MethodHandle, Variables}
 use Rattle.semantics.specs.World.{Invocation}
-use Rattle.semantics.proofs.Answers.{effect_is}
+use Rattle.semantics.proofs.CheckLaws.{passed as checks_passed}
 use Rattle.semantics.proofs.AnswerKinds.{AnswersAs, Calling, CallsMethod, Halting, calls_as}
 use Rattle.semantics_safety.specs.Owners.{Owners}
 use Rattle.semantics_safety.specs.Points.{Point}
@@ -118,7 +115,7 @@ module _ (unit : SourceUnit) (classes : Classes) (in_use : BuffersInUse) (k : �
   -- what is answered stops the run, or pushes a caller
   answered : {kind : ResultKind} {a : Answer} (Q : Advance → Type 0) → ((trap : Trap) → Q (Advances s t (Trapped trap line)))
       → ((m : MethodId) → method_given args 1 ≡ Some m → Q (Advances s (calling unit classes in_use k s t line target f args rest (call_to m)) Quiet))
-      → AnswersAs unit classes (sight_of_call s t JInt f args) f CallsMethod kind a → Q (after_call unit classes in_use k s t line target f args rest (effect_of classes in_use k s t args a))
+      → AnswersAs unit classes (sight_of_call s t f args) f CallsMethod kind a → Q (after_call unit classes in_use k s t line target f args rest (effect_of classes in_use k s t args a))
   unfolding effect_of
   answered Q trapped pushed (Calling m found) = pushed m found
   answered Q trapped pushed (Halting trap) = trapped trap
@@ -132,8 +129,7 @@ module _ (unit : SourceUnit) (classes : Classes) (in_use : BuffersInUse) (k : �
       by_trap : (o : Option Trap) → trap_of_call classes s t target f args ≡ o → Q (after_call unit classes in_use k s t line target f args rest (checked o (call_effect unit classes in_use k s t args f)))
       by_trap (Some trap) e = trapped trap
       by_trap None e =
-          subst (λ (e : CallEffect). Q (after_call unit classes in_use k s t line target f args rest e)) (sym (effect_is unit classes in_use k s t args JInt f))
-          (answered Q trapped (λ m found. pushed m e found) (calls_as unit classes k (sight_of_call s t JInt f args) f is))
+          (answered Q trapped (λ m found. pushed m e found) (calls_as unit classes k (sight_of_call s t f args) f is))
 
   -- there is no allocation to refuse
   none_refused : (Q : Advance → Type 0) (b : Bool) → b ≡ false → Q NoAdvance → Q (after_refusal unit classes in_use k s t line target f args rest b)
@@ -147,41 +143,27 @@ module _ (unit : SourceUnit) (classes : Classes) (in_use : BuffersInUse) (k : �
 
 -- ---- the call that is made loads
 
-fourth_fails : (a b c d : Bool) (u v w x : Trap) (further : List (Bool × Trap)) → first_trap ((a, u) ∷ (b, v) ∷ (c, w) ∷ (d, x) ∷ further) ≡ None → d ≡ false
-fourth_fails true b c d u v w x further h = absurd (cc)
-fourth_fails false true c d u v w x further h = absurd (cc)
-fourth_fails false false true d u v w x further h = absurd (cc)
-fourth_fails false false false true u v w x further h = absurd (cc)
-fourth_fails false false false false u v w x further h = refl
-
-second_holds : (a b : Bool) → (a || not b) ≡ false → b ≡ true
-second_holds false true h = refl
-second_holds false false h = absurd (cc)
-second_holds true b h = absurd (cc)
-
 last_holds : (a b c : Bool) → (a && b && c) ≡ true → c ≡ true
 last_holds true true c h = h
 last_holds true false c h = absurd (cc)
 last_holds false b c h = absurd (cc)
 
--- the arguments go together where no trap stopped the call
-goes_well : (classes : Classes) (heap : Heap) (t : Thread) (buffer : ElementType) (f : JniFunction) (args : List Actual) → call_trap classes heap t buffer f args ≡ None → go_together classes heap buffer args f ≡ true
-unfolding call_trap
-goes_well classes heap t buffer f args none =
-    second_holds (list_any (is_misfit classes heap) (zip (parameters_for f (length args)) args)) (go_together classes heap buffer args f)
-    (fourth_fails (is_some t.pending && not (is_allowed_pending f)) (list_any is_deleted args) (list_any is_missing (zip (parameters_for f (length args)) args)) _
-    ExceptionPending DeletedReference NullReference WrongObject _ none)
+module _ (classes : Classes) (s : Shared) (t : Thread) (args : List Actual) where
+  -- what is seen of an argument
+  abbrev of : Actual → ArgumentSight
+  of a = argument_seen s.heap (Some a)
 
-module _ (classes : Classes) (heap : Heap) (buffer : ElementType) (args : List Actual) where
-  well_passed : (returns : ResultType → Bool) (m : MethodId) → calls_well classes heap buffer args returns (Some m) ≡ true → all_pass classes heap buffer args m.function.parameters (drop 2 args) ≡ true
-  well_passed returns m h = last_holds (m.class == object_given args 0) (returns m.function.result) (all_pass classes heap buffer args m.function.parameters (drop 2 args)) h
+  well_passed : (f : JniFunction) (returns : ResultType → Bool) (m : MethodId) → calls_well classes (sight_of_call s t f args) returns (Some m) ≡ true → all_pass m.function.parameters (map of (drop 2 args)) ≡ true
+  well_passed f returns m h =
+      subst (λ (l : List ArgumentSight). all_pass m.function.parameters l ≡ true) (drop-map of 2 args)
+      (last_holds (m.class == object_given args 0) (returns m.function.result) (all_pass m.function.parameters (drop 2 (map of args))) h)
 
-  together_passed : (f : JniFunction) → calls_method f ≡ true → (m : MethodId) → method_given args 1 ≡ Some m → go_together classes heap buffer args f ≡ true → all_pass classes heap buffer args m.function.parameters (drop 2 args) ≡ true
+  together_passed : (element : ElementType) (f : JniFunction) → calls_method f ≡ true → (m : MethodId) → method_given args 1 ≡ Some m → go_together classes (sight_of_call s t f args) element f ≡ true → all_pass m.function.parameters (map of (drop 2 args)) ≡ true
   unfolding go_together
-  together_passed CallStaticVoidMethod is m e h = well_passed is_void m (subst (λ (o : Option MethodId). calls_well classes heap buffer args is_void o ≡ true) e h)
-  together_passed CallStaticIntMethod is m e h = well_passed is_int m (subst (λ (o : Option MethodId). calls_well classes heap buffer args is_int o ≡ true) e h)
-  together_passed CallStaticObjectMethod is m e h = well_passed is_reference_result m (subst (λ (o : Option MethodId). calls_well classes heap buffer args is_reference_result o ≡ true) e h)
-  together_passed f is m e h = absurd (cc)
+  together_passed element CallStaticVoidMethod is m e h = well_passed CallStaticVoidMethod is_void m (subst (λ (o : Option MethodId). calls_well classes (sight_of_call s t CallStaticVoidMethod args) is_void o ≡ true) e h)
+  together_passed element CallStaticIntMethod is m e h = well_passed CallStaticIntMethod is_int m (subst (λ (o : Option MethodId). calls_well classes (sight_of_call s t CallStaticIntMethod args) is_int o ≡ true) e h)
+  together_passed element CallStaticObjectMethod is m e h = well_passed CallStaticObjectMethod is_reference_result m (subst (λ (o : Option MethodId). calls_well classes (sight_of_call s t CallStaticObjectMethod args) is_reference_result o ≡ true) e h)
+  together_passed element f is m e h = absurd (cc)
 
   both_hold : (a b : Bool) → (a && b) ≡ true → (a ≡ true) × (b ≡ true)
   both_hold true b h = (refl, h)
@@ -191,20 +173,20 @@ module _ (classes : Classes) (heap : Heap) (buffer : ElementType) (args : List A
   both_so true b e h = h
   both_so false b e h = absurd (cc)
 
-  one_fits : (type : ParameterType) (a : Actual) → passes classes heap buffer args type a ≡ true → fits_parameter type (passed_value a) ≡ true
+  one_fits : (type : ParameterType) (a : Actual) → passes type (of a) ≡ true → fits_parameter type (passed_value a) ≡ true
   one_fits IntParameter (NumberActual z) h = refl
   one_fits (ReferenceParameter r) (ReferenceActual x g) h = refl
   one_fits type a h = absurd (cc)
 
-  passed_fit : (ps : List Parameter) (given : List Actual) → all_pass classes heap buffer args ps given ≡ true → fit_parameters ps (map passed_value given) ≡ true
+  passed_fit : (ps : List Parameter) (given : List Actual) → all_pass ps (map of given) ≡ true → fit_parameters ps (map passed_value given) ≡ true
   passed_fit [] [] h = refl
   passed_fit [] (a ∷ given) h = absurd (cc)
   passed_fit (p ∷ ps) [] h = absurd (cc)
   passed_fit (p ∷ ps) (a ∷ given) h =
-      let both = both_hold (passes classes heap buffer args p.type a) (all_pass classes heap buffer args ps given) h in
+      let both = both_hold (passes p.type (of a)) (all_pass ps (map of given)) h in
       both_so (fits_parameter p.type (passed_value a)) (fit_parameters ps (map passed_value given)) (one_fits p.type a both.0) (passed_fit ps given both.1)
 
-  pub made_loads : (unit : SourceUnit) (m : MethodId) → IsCallable unit classes m → (line : ℕ) → all_pass classes heap buffer args m.function.parameters (drop 2 args) ≡ true
+  pub made_loads : (unit : SourceUnit) (m : MethodId) → IsCallable unit classes m → (line : ℕ) → all_pass m.function.parameters (map of (drop 2 args)) ≡ true
       → call_loads unit classes (record { line = line; function = m.function.name; arguments = map passed_value (drop 2 args) }) ≡ true
   made_loads unit m callable line pass =
       let fits = passed_fit m.function.parameters (drop 2 args) pass in
@@ -215,9 +197,9 @@ module _ (classes : Classes) (heap : Heap) (buffer : ElementType) (args : List A
 pub call_made_loads : (unit : SourceUnit) (classes : Classes) (s : Shared) (t : Thread) (target : Target) (line : ℕ) (f : JniFunction) (args : List Actual) (m : MethodId) → calls_method f ≡ true → IsCallable unit classes m
     → trap_of_call classes s t target f args ≡ None → method_given args 1 ≡ Some m → call_loads unit classes (record { line = line; function = m.function.name; arguments = map passed_value (drop 2 args) }) ≡ true
 call_made_loads unit classes s t target line f args m is callable none given =
-    let buffer = target_element t.variables target in
-    made_loads classes s.heap buffer args unit m callable line
-    (together_passed classes s.heap buffer args f is m given (goes_well classes s.heap t buffer f args none))
+    let element = target_element t.variables target in
+    made_loads classes s t args unit m callable line
+    (together_passed classes s t args element f is m given (checks_passed classes (sight_of_call s t f args) element f none).together)
 
 -- ---- the caller
 
@@ -260,7 +242,7 @@ module _ (classes : Classes) (s : Shared) (t : Thread) (line : ℕ) (f : JniFunc
     stands = stands;
     method = method_result f is;
     goes = result_here p f target operands (GoesOn rest) is goes;
-    room = λ e. subst (λ (frames : List Frame). is_full (slice_get frames 0) ≡ false) (method_frames f t.frames is) (has_room classes s.heap t (target_element t.variables target) f args none e);
+    room = λ e. subst (λ (frames : List Frame). is_full (slice_get frames 0) ≡ false) (method_frames f t.frames is) (has_room classes s t (target_element t.variables target) f args none e);
     viewless = not_critical p f is fits.views;
   }
 

@@ -2,7 +2,6 @@
 use Rattle.std.proofs.Common.{◌≡◌, ℕ, List, [], ◌∷◌, Some, None, refl, sym, subst}
 use Rattle.std.specs.Prelude.{nat_le}
 use Rattle.std.proofs.lemmas.Bool.{cond_both}
-use Rattle.base.specs.Element.{JInt}
 use Rattle.base.specs.Limits.{most_references}
 use Rattle.syntax.specs.Tree.{SourceUnit}
 use Rattle.class_rules.specs.Class.{Classes}
@@ -13,11 +12,10 @@ use Rattle.jni.specs.Prototype.{NewLocal, NewGlobal, NewWeak, GivesFlag, GivesFi
 use Rattle.semantics.specs.Answer.{Answer, effect_of}
 use Rattle.semantics.specs.Arguments.{Actual}
 use Rattle.semantics.specs.CallEffects.{CallResult, with_capacity}
+use Rattle.semantics.specs.AnswerTable.{call_effect}
 use Rattle.semantics.specs.CallSight.{CallSight, sight_of_call}
 use Rattle.semantics.specs.CallStep.{failure}
-use Rattle.semantics.specs.CallTable.{call_effect}
 use Rattle.semantics.specs.Thread.{Frame, Thread, Shared, BuffersInUse, capacities}
-use Rattle.semantics.proofs.Answers.{effect_is}
 use Rattle.semantics.proofs.AnswerFacts.{IsOfKind, OfField, OfFlag, OfInt, OfMethod, OfNothing, OfReference, OfWeak}
 use Rattle.semantics.proofs.AnswerKinds.{AnswersAs, Disowning, Ensuring, EnsuringNone, Giving, Halting, Making, MakingGlobal, Owning, Pending, Quiet, Raising, RaisingWith, SettingRegion, Writing, answers_of, call_kind}
 use Rattle.semantics_safety.proofs.ResultLaws.{Simple, AnInt, AFlag, AField, NoField, AMethod, NoMethod, AGlobal, NoGlobal, AWeak, NoWeak, NoLocal, NullLocal, NoResultThere}
@@ -78,5 +76,4 @@ module _ (unit : SourceUnit) (classes : Classes) (in_use : BuffersInUse) (k : �
 
   pub effect_quiet : (f : JniFunction) → call_kind f ≡ Quiet → IsQuiet s t (prototype f).result (call_effect unit classes in_use k s t args f)
   effect_quiet f quiet =
-      subst (IsQuiet s t (prototype f).result) (sym (effect_is unit classes in_use k s t args JInt f))
-      (answer_quiet (fails_simply f (subst IsPlain (sym quiet) tt)) (answers_of unit classes k (sight_of_call s t JInt f args) f Quiet quiet))
+      (answer_quiet (fails_simply f (subst IsPlain (sym quiet) tt)) (answers_of unit classes k (sight_of_call s t f args) f Quiet quiet))

@@ -1,7 +1,6 @@
 -- The step of a plain call keeps what holds of its thread, and is possible.
-use Rattle.std.proofs.Common.{◌≡◌, ℕ, Bool, true, false, List, [], ◌∷◌, map, Option, Some, None, refl, subst, length}
-use Rattle.std.specs.Prelude.{◌&&◌, ◌||◌, not, is_some, zip, slice_get}
-use Rattle.std.specs.List.{list_any}
+use Rattle.std.proofs.Common.{◌≡◌, ℕ, true, false, List, [], ◌∷◌, map, Option, Some, None, refl, subst, length}
+use Rattle.std.specs.Prelude.{slice_get}
 use Rattle.base.specs.Element.{ElementType}
 use Rattle.class_rules.specs.Class.{Classes}
 use Rattle.jni.specs.Access.{Access}
@@ -10,10 +9,10 @@ use Rattle.jni.specs.JniFunction.{JniFunction, PushLocalFrame, is_allowed_pendin
 use Rattle.jni.specs.Prototype.{ResultKind, NewLocal}
 use Rattle.semantics.specs.Arguments.{Actual}
 use Rattle.semantics.specs.CallStep.{trap_of_call, target_element, checked, after_call, call_step}
-use Rattle.semantics.specs.Checks.{call_trap, first_trap, is_deleted, is_missing, is_misfit, frames_after, is_full, lacks_room}
-use Rattle.semantics.specs.Heap.{Heap}
-use Rattle.semantics.specs.Value.{Trap, ExceptionPending, DeletedReference, NullReference, WrongObject, NoCapacity}
-use Rattle.semantics.specs.CallTable.{call_effect, go_together}
+use Rattle.semantics.specs.AnswerTable.{call_effect}
+use Rattle.semantics.specs.CallSight.{is_full, sight_of_call}
+use Rattle.semantics.specs.Checks.{frames_after, lacks_room, trap_of}
+use Rattle.semantics.specs.Value.{Trap}
 use Rattle.region_rules.specs.RegionStates as states
 use Rattle.region_rules.specs.RegionStates.{RegionState, get_of}
 use Rattle.semantics.specs.Task.{Task, Target, Declared, Assigned, Tested, Dropped, Operand, Invoke}
@@ -21,6 +20,7 @@ use Rattle.semantics.specs.Thread.{Frame, Thread, Shared, BuffersInUse}
 use Rattle.semantics.specs.Effect.{Calls}
 use Rattle.base.specs.Bytes.{Identifier}
 use Rattle.syntax.specs.Tree.{SourceUnit}
+use Rattle.semantics.proofs.CheckLaws.{passed}
 use Rattle.semantics.proofs.AnswerKinds.{Quiet, call_kind}
 use Rattle.semantics_safety.proofs.OwnerLaws.{LandsBy, LandsByIfPossible}
 use Rattle.semantics_safety.specs.Owners.{Owners, left_by}
@@ -38,29 +38,18 @@ plain_no_push f h e = subst (λ (g : JniFunction). IsPlain (call_kind g)) e h
 
 -- ---- room for a local reference
 
-fifth_fails : (a b c d e : Bool) (u v w x y : Trap) (further : List (Bool × Trap)) → first_trap ((a, u) ∷ (b, v) ∷ (c, w) ∷ (d, x) ∷ (e, y) ∷ further) ≡ None → e ≡ false
-fifth_fails true b c d e u v w x y further h = absurd (cc)
-fifth_fails false true c d e u v w x y further h = absurd (cc)
-fifth_fails false false true d e u v w x y further h = absurd (cc)
-fifth_fails false false false true e u v w x y further h = absurd (cc)
-fifth_fails false false false false true u v w x y further h = absurd (cc)
-fifth_fails false false false false false u v w x y further h = refl
-
 pub has_frame : (frames : List Frame) → is_full (slice_get frames 0) ≡ false → HasFrame frames
 has_frame [] h = absurd (cc)
 has_frame (frame ∷ below) h = tt
 
 -- a call that no trap stopped has room for its result
-pub has_room : (classes : Classes) (heap : Heap) (t : Thread) (buffer : ElementType) (f : JniFunction) (args : List Actual) → call_trap classes heap t buffer f args ≡ None → (prototype f).result ≡ NewLocal → is_full (slice_get (frames_after f t.frames) 0) ≡ false
-unfolding call_trap
-has_room classes heap t buffer f args none is =
-    subst (λ (kind : ResultKind). lacks_room kind (slice_get (frames_after f t.frames) 0) ≡ false) is (fifth_fails
-    (is_some t.pending && not (is_allowed_pending f))
-    (list_any is_deleted args)
-    (list_any is_missing (zip (parameters_for f (length args)) args))
-    (list_any (is_misfit classes heap) (zip (parameters_for f (length args)) args) || not (go_together classes heap buffer args f))
-    (lacks_room (prototype f).result (slice_get (frames_after f t.frames) 0))
-    ExceptionPending DeletedReference NullReference WrongObject NoCapacity _ none)
+pub has_room : (classes : Classes) (s : Shared) (t : Thread) (element : ElementType) (f : JniFunction) (args : List Actual) → trap_of classes (sight_of_call s t f args) element f ≡ None → (prototype f).result ≡ NewLocal → is_full (slice_get (frames_after f t.frames) 0) ≡ false
+has_room classes s t element f args none is =
+    has_no_full f (subst (λ (kind : ResultKind). lacks_room classes (sight_of_call s t f args) f kind ≡ false) is (passed classes (sight_of_call s t f args) element f none).room)
+  where
+    has_no_full : (g : JniFunction) → lacks_room classes (sight_of_call s t g args) g NewLocal ≡ false → is_full (slice_get (frames_after g t.frames) 0) ≡ false
+    has_no_full jni.PopLocalFrame h = h
+    has_no_full g h = cc
 
 module _ (unit : SourceUnit) (classes : Classes) (in_use : BuffersInUse) (k : ℕ) (s : Shared) (t : Thread) (line : ℕ) (f : JniFunction) (args : List Actual) (rest : List Task) (p : Point) {weak : WeakNames} {own : Owners} (stands : Stands weak own s.statics t.variables t.frames p) (plain : IsPlain (call_kind f)) (whole : Goes weak own s.statics t t.tasks) where
   goes_at : (target : Target) (operands : List Operand) → ResultGoes target (prototype f).result (get_of (call_seen f operands)) (GoesOn rest) (at p (states.after_call p.regions (call_seen f operands)))
@@ -71,7 +60,7 @@ module _ (unit : SourceUnit) (classes : Classes) (in_use : BuffersInUse) (k : �
   left y = free_owners f args (length t.frames) own (plain_free (call_kind f) plain) y
 
   room : (target : Target) → trap_of_call classes s t target f args ≡ None → (prototype f).result ≡ NewLocal → HasFrame t.frames
-  room target none is = has_frame t.frames (subst (λ (frames : List Frame). is_full (slice_get frames 0) ≡ false) (frames_stay f t.frames (plain_free (call_kind f) plain)) (has_room classes s.heap t (target_element t.variables target) f args none is))
+  room target none is = has_frame t.frames (subst (λ (frames : List Frame). is_full (slice_get frames 0) ≡ false) (frames_stay f t.frames (plain_free (call_kind f) plain)) (has_room classes s t (target_element t.variables target) f args none is))
 
   -- the call's effect leads to a point
   abbrev EffectLands : Target → Type 0

@@ -2,7 +2,6 @@
 use Rattle.std.proofs.Common.{◌≡◌, ℕ, Bool, true, false, List, [], ◌∷◌, Option, Some, None, refl, sym, subst, length}
 use Rattle.std.specs.Prelude.{nat_le}
 use Rattle.std.proofs.lemmas.Bool.{cond_both}
-use Rattle.base.specs.Element.{JInt}
 use Rattle.base.specs.Limits.{most_references}
 use Rattle.class_rules.specs.Class.{Classes}
 use Rattle.syntax.specs.Tree.{SourceUnit}
@@ -10,18 +9,16 @@ use Rattle.jni.specs.JniFunction.{JniFunction, calls_method, prototype}
 use Rattle.jni.specs.Prototype.{ResultKind}
 use Rattle.semantics.specs.Answer.{Answer, Ensures, Makes, Pushes, Raises, RaisesWith}
 use Rattle.semantics.specs.Answer as answer
-use Rattle.semantics.specs.AnswerTable.{call_answer}
+use Rattle.semantics.specs.AnswerTable.{call_answer, call_effect}
+use Rattle.semantics.specs.CallSight.{CallSight, sight_of_call}
 use Rattle.semantics.specs.Arguments.{Actual}
 use Rattle.semantics.specs.CallEffects.{CallEffect, frames_effect, with_capacity}
-use Rattle.semantics.specs.CallSight.{CallSight, sight_of_call}
 use Rattle.semantics.specs.CallStep.{trap_of_call, checked, makes_objects, after_refusal, call_step}
-use Rattle.semantics.specs.CallTable.{call_effect}
 use Rattle.semantics.specs.Effect.{Effect, Calls, effect_of}
 use Rattle.semantics.specs.Task.{Task, Target, Operand, Invoke}
 use Rattle.semantics.specs.Thread.{Thread, Shared, BuffersInUse, Frame, capacities, sight_of}
 use Rattle.semantics.specs.ThreadStep.{after_refused_effect, step_within}
 use Rattle.semantics.specs.Value.{Trap}
-use Rattle.semantics.proofs.Answers.{effect_is}
 use Rattle.semantics.proofs.AnswerKinds.{AnswersAs, CallKind, CallsMethod, EndsStatic, FillingNone, FillsArray, Making, Quiet, Raising, RaisingWith, answers_of, call_kind, calls_as}
 use Rattle.semantics_safety.proofs.OwnerLaws.{LandsByIfPossible}
 use Rattle.semantics_safety.specs.Owners.{Owners}
@@ -71,15 +68,14 @@ module _ (unit : SourceUnit) (classes : Classes) (in_use : BuffersInUse) (k : �
   answer_made (Pushes n) none = frames_made (record { capacity = n; references = [] } ∷ t.frames)
   answer_made a none = refl
 
-  none_made : (f : JniFunction) (kind : CallKind) → MakesNone kind → AnswersAs unit classes (sight_of_call s t JInt f args) f kind (prototype f).result (call_answer unit classes k (sight_of_call s t JInt f args) f)
+  none_made : (f : JniFunction) (kind : CallKind) → MakesNone kind → AnswersAs unit classes (sight_of_call s t f args) f kind (prototype f).result (call_answer unit classes k (sight_of_call s t f args) f)
       → makes_objects (call_effect unit classes in_use k s t args f) ≡ false
   none_made f kind none h =
-      subst (λ (e : CallEffect). makes_objects e ≡ false) (sym (effect_is unit classes in_use k s t args JInt f))
-      (answer_made (call_answer unit classes k (sight_of_call s t JInt f args) f) (kind_made none h))
+      (answer_made (call_answer unit classes k (sight_of_call s t f args) f) (kind_made none h))
 
 -- a call of a method makes none itself
 pub method_made : (unit : SourceUnit) (classes : Classes) (in_use : BuffersInUse) (k : ℕ) (s : Shared) (t : Thread) (f : JniFunction) → calls_method f ≡ true → (args : List Actual) → makes_objects (call_effect unit classes in_use k s t args f) ≡ false
-method_made unit classes in_use k s t f is args = none_made unit classes in_use k s t args f CallsMethod tt (calls_as unit classes k (sight_of_call s t JInt f args) f is)
+method_made unit classes in_use k s t f is args = none_made unit classes in_use k s t args f CallsMethod tt (calls_as unit classes k (sight_of_call s t f args) f is)
 
 module _ (unit : SourceUnit) (classes : Classes) (in_use : BuffersInUse) (k : ℕ) (s : Shared) (t : Thread) (line : ℕ) (rest : List Task) (weak : WeakNames) (own : Owners) where
   -- a call that makes no object has nothing to refuse
@@ -102,7 +98,7 @@ module _ (unit : SourceUnit) (classes : Classes) (in_use : BuffersInUse) (k : �
         by_kind Quiet is = as_plain Quiet is tt
         by_kind EndsStatic is = as_plain EndsStatic is tt
         by_kind FillsArray is = as_plain FillsArray is tt
-        by_kind kind is = none_refused f target args (none_made unit classes in_use k s t args f kind tt (answers_of unit classes k (sight_of_call s t JInt f args) f kind is))
+        by_kind kind is = none_refused f target args (none_made unit classes in_use k s t args f kind tt (answers_of unit classes k (sight_of_call s t f args) f kind is))
 
 module _ (unit : SourceUnit) (classes : Classes) (in_use : BuffersInUse) (k : ℕ) (s : Shared) (t : Thread) (task : Task) (rest : List Task) (p : Point) {weak : WeakNames} {own : Owners} (stands : Stands weak own s.statics t.variables t.frames p) (runs : Runs task (GoesOn rest) p) (whole : Goes weak own s.statics t t.tasks) where
   marked_lands : (e : Effect) → Follows weak own (sight_of s t) s.statics t.variables t.frames p rest e → LandsByIfPossible weak e (length t.frames) own s.statics (after_refused_effect unit classes in_use k s t rest e)

@@ -4,7 +4,7 @@ use Rattle.std.proofs.lemmas.List.{append-nil}
 use Rattle.std.specs.Option.{option_map}
 use Rattle.std.specs.Str.{bytes_eq}
 use Rattle.base.specs.Bytes.{Identifier, lookup}
-use Rattle.base.specs.Element.{ElementType, JInt}
+use Rattle.base.specs.Element.{ElementType}
 use Rattle.syntax.specs.Tree.{SourceUnit}
 use Rattle.syntax.specs.Tree as tree
 use Rattle.class_rules.specs.Class.{Classes}
@@ -16,16 +16,15 @@ use Rattle.region_rules.specs.RegionStates as states
 use Rattle.region_rules.specs.RegionStates.{VariableState, Free, Usable, BufferIn, state_of, with_changed, made_free, has_commit}
 use Rattle.semantics.specs.Answer.{Answer, effect_of, with_copied_back}
 use Rattle.semantics.specs.Arguments.{Actual, look_up, actuals, object_given, mode_given, mode_in_actual}
-use Rattle.semantics.specs.CallEffects.{CallEffect, Leaves, NoResult, with_freed, freed}
+use Rattle.semantics.specs.CallEffects.{Leaves, NoResult, with_freed, freed}
+use Rattle.semantics.specs.AnswerTable.{call_effect}
 use Rattle.semantics.specs.CallSight.{sight_of_call}
 use Rattle.semantics.specs.CallStep.{trap_of_call, checked, after_call, call_step}
-use Rattle.semantics.specs.CallTable.{call_effect}
 use Rattle.semantics.specs.Task.{Task, Target, Declared, Assigned, Tested, Dropped, Operand, Given, Invoke}
 use Rattle.semantics.specs.Thread.{Thread, Shared, BuffersInUse, sight_of}
 use Rattle.semantics.specs.Value.{Trap}
 use Rattle.semantics.specs.Variable.{Variable, Elements, Buffer, NoBuffer, Variables, Statics, assign, change, LocalRef}
 use Rattle.semantics.specs.Effect.{Calls}
-use Rattle.semantics.proofs.Answers.{effect_is}
 use Rattle.semantics.proofs.AnswerFacts.{frees_in}
 use Rattle.semantics.proofs.AnswerKinds.{AnswersAs, CopyingBack, Freeing, Halting, ReleasesBuffer, answers_as}
 use Rattle.semantics_safety.proofs.OwnerLaws.{LandsBy}
@@ -145,7 +144,7 @@ module _ (unit : SourceUnit) (classes : Classes) (in_use : BuffersInUse) (k : �
     goes_by commits is = subst (λ (b : Bool). ResultGoes target GivesNothing get (GoesOn rest) (released_point b x)) is goes
 
     released : {kind : ResultKind} {answer : Answer} (access : Access) → state_of p.regions x ≡ Some (BufferIn (Usable access a)) → (has_commit (map operand_argument modes) ≡ true → is_critical access ≡ false) → OperandsFit p (release_mode access) modes
-        → AnswersAs unit classes (sight_of_call s t JInt (ReleaseBuffer access) (given_to access a x modes)) (ReleaseBuffer access) (ReleasesBuffer access) kind answer
+        → AnswersAs unit classes (sight_of_call s t (ReleaseBuffer access) (given_to access a x modes)) (ReleaseBuffer access) (ReleasesBuffer access) kind answer
         → LandsBy weak (Calls line target (ReleaseBuffer access) (given_to access a x modes)) (length t.frames) own s.statics (after_call unit classes in_use k s t line target (ReleaseBuffer access) (given_to access a x modes) rest (effect_of classes in_use k s t (given_to access a x modes) answer))
     unfolding effect_of
     released access usable commits fit (CopyingBack T true of mode) =
@@ -158,8 +157,7 @@ module _ (unit : SourceUnit) (classes : Classes) (in_use : BuffersInUse) (k : �
     released_at : (access : Access) (o : Option Trap) → state_of p.regions x ≡ Some (BufferIn (Usable access a)) → (has_commit (map operand_argument modes) ≡ true → is_critical access ≡ false) → OperandsFit p (release_mode access) modes
         → LandsBy weak (Calls line target (ReleaseBuffer access) (given_to access a x modes)) (length t.frames) own s.statics (after_call unit classes in_use k s t line target (ReleaseBuffer access) (given_to access a x modes) rest (checked o (call_effect unit classes in_use k s t (given_to access a x modes) (ReleaseBuffer access))))
     released_at access None usable commits fit =
-        subst (λ (e : CallEffect). LandsBy weak (Calls line target (ReleaseBuffer access) (given_to access a x modes)) (length t.frames) own s.statics (after_call unit classes in_use k s t line target (ReleaseBuffer access) (given_to access a x modes) rest e)) (sym (effect_is unit classes in_use k s t (given_to access a x modes) JInt (ReleaseBuffer access)))
-        (released access usable commits fit (answers_as unit classes k (sight_of_call s t JInt (ReleaseBuffer access) (given_to access a x modes)) (ReleaseBuffer access)))
+        (released access usable commits fit (answers_as unit classes k (sight_of_call s t (ReleaseBuffer access) (given_to access a x modes)) (ReleaseBuffer access)))
     released_at access (Some trap) usable commits fit = (whole, λ y r g. (r, g))
 
   release_operands : (access : Access) (target : Target) (operands : List Operand) → IsNoTest target → CallKeeps p (ReleaseBuffer access) (map operand_argument operands) → OperandsFit p (prototype (ReleaseBuffer access)).parameters operands

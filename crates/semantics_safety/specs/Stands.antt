@@ -10,7 +10,7 @@ use Rattle.jni.specs.Access.{Access, is_critical}
 use Rattle.type_rules.specs.ExprTypes.{ExprType, Truth, Ref, Global, Weak, Buffer, Array, type_in}
 use Rattle.type_rules.specs.ExprTypes as ty
 use Rattle.jni.specs.Prototype.{NewLocal}
-use Rattle.semantics.specs.Checks.{is_full}
+use Rattle.semantics.specs.CallSight.{is_full}
 use Rattle.semantics.specs.Method.{MethodId}
 use Rattle.semantics.specs.Object.{Reference}
 use Rattle.semantics.specs.Load.{call_loads}

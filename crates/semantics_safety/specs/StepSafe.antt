@@ -14,7 +14,8 @@ use Rattle.semantics.specs.World.{Invocation, World}
 use Rattle.semantics.specs.Activation.{function_at, class_of_function}
 use Rattle.semantics.specs.Arguments.{Actual, object_given, variable_given, address_given, method_given}
 use Rattle.semantics.specs.CallEffects.{CallResult}
-use Rattle.semantics.specs.Checks.{frames_after, is_full}
+use Rattle.semantics.specs.CallSight.{is_full}
+use Rattle.semantics.specs.Checks.{frames_after}
 use Rattle.semantics.specs.Effect.{Effect, Sets, SetsNull, MakesArray, Calls, Returns, NoEffect}
 use Rattle.semantics.specs.Load.{Loads}
 use Rattle.semantics.specs.Method.{MethodId}

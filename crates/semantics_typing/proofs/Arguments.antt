@@ -1,29 +1,26 @@
 -- What is known of the arguments of a call that no trap stopped.
 use Rattle.std.proofs.Common.{◌≡◌, ℕ, ℤ, zero, suc, Bool, true, false, not, ◌||◌, List, [], ◌∷◌, length, map, zip, Option, Some, None, refl, ap, subst, arith, if◌then◌else◌}
-use Rattle.std.specs.Prelude.{slice_get, is_some, ◌&&◌, ◌==◌}
+use Rattle.std.specs.Prelude.{slice_get, ◌==◌}
 use Rattle.std.specs.List.{list_any, AllByRecursion}
 use Rattle.std.specs.Str.{bytes_eq}
 use Rattle.std.proofs.lemmas.Bool.{not-false}
 use Rattle.std.proofs.lemmas.Bool.Decides.{nat_tests}
 use Rattle.base.specs.Bytes.{Identifier, lookup}
-use Rattle.base.specs.Element.{ElementType}
 use Rattle.syntax.specs.Tree as tree
 use Rattle.syntax.specs.Tree.{Argument}
 use Rattle.class_rules.specs.BuiltIns.{class_class, string_class, number_array}
 use Rattle.class_rules.specs.Class.{Classes, class_kind, is_object_array}
 use Rattle.class_rules.specs.Fields.{FieldId}
-use Rattle.jni.specs.JniFunction.{JniFunction, parameters_for, is_allowed_pending}
 use Rattle.jni.specs.Prototype.{ParameterKind, Nullable, NonNull, AnyReference, ClassObject, AnyArray, ObjectArray, StringObject, NumberArray, LocalVariable, StaticVariable, WeakVariable, FieldID, MethodID, Passed, IntNumber, TextBytes, ArrayVariable, BufferVariable, Mode, IsCopy}
 use Rattle.type_rules.specs.ExprTypes as ty
 use Rattle.type_rules.specs.ExprTypes.{ExprType, type_in}
 use Rattle.semantics.specs.Arguments.{Actual, ReferenceActual, FieldActual, look_up, reference_in_actual, name_or_zero, field_in_actual, text_in_actual, variable_in_actual}
-use Rattle.semantics.specs.CallTable.{go_together}
-use Rattle.semantics.specs.Checks.{call_trap, first_trap, is_deleted, is_missing, is_misfit}
+use Rattle.semantics.specs.CallSight.{ArgumentSight, argument_seen, is_deleted}
+use Rattle.semantics.specs.Checks.{misfits, misses}
 use Rattle.semantics.specs.Heap.{Heap, class_of}
 use Rattle.semantics.specs.Sight.{Sight, seen, held_field, held_reference}
 use Rattle.semantics.specs.Task.{Operand, Given}
-use Rattle.semantics.specs.Thread.{Thread, Frame}
-use Rattle.semantics.specs.Value.{Trap, ExceptionPending, DeletedReference, NullReference, WrongObject}
+use Rattle.semantics.specs.Thread.{Frame}
 use Rattle.semantics.specs.Variable.{Variable, FieldHandle, MethodHandle, Scalar, LocalRef, Elements, LocalArray, StaticReference, Empty, Live, Deleted, Variables, Statics, Weakly, Cleared}
 use Rattle.semantics_safety.specs.Owners.{Owners}
 use Rattle.semantics_safety.specs.Points.{Point, OperandFits, OperandsFit}
@@ -32,36 +29,6 @@ use Rattle.semantics_safety.specs.WeakNames.{WeakNames}
 use Rattle.world_values.specs.DeclaredFields.{IsDeclared}
 use Rattle.semantics_typing.specs.Objects.{IsTypedVariable, AreTypedVariables}
 use Rattle.semantics_typing.specs.Texts.{IsText}
-
--- ---- checks
-
-all_fail : (a b c d : Bool) (u v w x : Trap) (further : List (Bool × Trap)) → first_trap ((a, u) ∷ (b, v) ∷ (c, w) ∷ (d, x) ∷ further) ≡ None → (b ≡ false) × (c ≡ false) × (d ≡ false)
-all_fail true b c d u v w x further h = absurd (cc)
-all_fail false true c d u v w x further h = absurd (cc)
-all_fail false false true d u v w x further h = absurd (cc)
-all_fail false false false true u v w x further h = absurd (cc)
-all_fail false false false false u v w x further h = (refl, refl, refl)
-
-pub or_fails : (a b : Bool) → (a || not b) ≡ false → (a ≡ false) × (b ≡ true)
-or_fails true b h = absurd (cc)
-or_fails false true h = (refl, refl)
-or_fails false false h = absurd (cc)
-
--- what the checks of a call have found
-pub record ArePassed (classes : Classes) (heap : Heap) (buffer : ElementType) (f : JniFunction) (args : List Actual) : Type 0 where
-  pub present : list_any is_deleted args ≡ false
-  pub given : list_any is_missing (zip (parameters_for f (length args)) args) ≡ false
-  pub kinds : list_any (is_misfit classes heap) (zip (parameters_for f (length args)) args) ≡ false
-  pub together : go_together classes heap buffer args f ≡ true
-
-pub passed : (classes : Classes) (heap : Heap) (t : Thread) (buffer : ElementType) (f : JniFunction) (args : List Actual) → call_trap classes heap t buffer f args ≡ None → ArePassed classes heap buffer f args
-unfolding call_trap
-passed classes heap t buffer f args none =
-    let all = all_fail (is_some t.pending && not (is_allowed_pending f)) (list_any is_deleted args) (list_any is_missing (zip (parameters_for f (length args)) args))
-    (list_any (is_misfit classes heap) (zip (parameters_for f (length args)) args) || not (go_together classes heap buffer args f))
-    ExceptionPending DeletedReference NullReference WrongObject _ none in
-    let last = or_fails (list_any (is_misfit classes heap) (zip (parameters_for f (length args)) args)) (go_together classes heap buffer args f) all.2 in
-    record { present = all.0; given = all.1; kinds = last.0; together = last.1 }
 
 -- ---- one argument
 
@@ -121,7 +88,11 @@ held_argument None (Some Deleted) = tt
 held_argument None None = tt
 
 module _ (classes : Classes) (heap : Heap) (vs : Variables) where
-  object_known : (kind : ParameterKind) → IsObjectKind kind → (x : Identifier) (r : StaticReference) → IsArgument r → is_deleted (ReferenceActual x r) ≡ false → is_missing (kind, ReferenceActual x r) ≡ false → is_misfit classes heap (kind, ReferenceActual x r) ≡ false
+  -- what is seen of an argument
+  abbrev of : Actual → ArgumentSight
+  of a = argument_seen heap (Some a)
+
+  object_known : (kind : ParameterKind) → IsObjectKind kind → (x : Identifier) (r : StaticReference) → IsArgument r → is_deleted (ReferenceActual x r) ≡ false → misses (kind, of (ReferenceActual x r)) ≡ false → misfits classes (kind, of (ReferenceActual x r)) ≡ false
       → IsKnownAs classes heap vs kind (Some (ReferenceActual x r))
   object_known kind of x Deleted arg d m f = absurd (cc)
   object_known ClassObject of x Empty arg d m f = absurd (cc)
@@ -136,7 +107,7 @@ module _ (classes : Classes) (heap : Heap) (vs : Variables) where
   object_known kind of x Cleared arg d m f = absurd arg
   object_known kind of x r arg d m f = absurd of
 
-  field_known : (o : Option FieldId) → is_missing (FieldID, FieldActual o) ≡ false → ((f : FieldId) → o ≡ Some f → IsDeclared classes f) → IsKnownAs classes heap vs FieldID (Some (FieldActual o))
+  field_known : (o : Option FieldId) → misses (FieldID, of (FieldActual o)) ≡ false → ((f : FieldId) → o ≡ Some f → IsDeclared classes f) → IsKnownAs classes heap vs FieldID (Some (FieldActual o))
   field_known None m h = absurd (cc)
   field_known (Some f) m h = h f refl
 
@@ -187,7 +158,15 @@ module _ (classes : Classes) (heap : Heap) (ss : Statics) (vs : Variables) (fram
   held_declared (Some (Elements t b)) h f e = absurd (cc)
   held_declared (Some (LocalArray t zs)) h f e = absurd (cc)
 
-  one_known : (kind : ParameterKind) (o : Operand) → OperandFits p kind o → HasActualText (look_up sight (kind, o)) → is_deleted (look_up sight (kind, o)) ≡ false → is_missing (kind, look_up sight (kind, o)) ≡ false → is_misfit classes heap (kind, look_up sight (kind, o)) ≡ false → Known kind (look_up sight (kind, o))
+  -- what is seen of an operand
+  abbrev of_operand : ParameterKind → Operand → ArgumentSight
+  of_operand kind o = argument_seen heap (Some (look_up sight (kind, o)))
+
+  -- and of all
+  abbrev all_seen : List ParameterKind → List Operand → List ArgumentSight
+  all_seen kinds operands = map (λ (a : Actual). argument_seen heap (Some a)) (map (look_up sight) (zip kinds operands))
+
+  one_known : (kind : ParameterKind) (o : Operand) → OperandFits p kind o → HasActualText (look_up sight (kind, o)) → is_deleted (look_up sight (kind, o)) ≡ false → misses (kind, of_operand kind o) ≡ false → misfits classes (kind, of_operand kind o) ≡ false → Known kind (look_up sight (kind, o))
   one_known ClassObject (Given (tree.Value (tree.Named tree.Null))) fit text d m f = object_known classes heap vs ClassObject tt [] Empty tt d m f
   one_known ClassObject (Given (tree.Value (tree.Variable x))) fit text d m f = object_known classes heap vs ClassObject tt x (sight.reference x) (held_argument (lookup x vs) (lookup x ss)) d m f
   one_known ClassObject o fit text d m f = absurd fit
@@ -225,16 +204,16 @@ module _ (classes : Classes) (heap : Heap) (ss : Statics) (vs : Variables) (fram
   none_of false b h = (refl, h)
 
   pub all_known : (kinds : List ParameterKind) (operands : List Operand) → OperandsFit p kinds operands → AllByRecursion HasActualText (map (look_up sight) (zip kinds operands))
-      → list_any is_deleted (map (look_up sight) (zip kinds operands)) ≡ false
-      → list_any is_missing (zip kinds (map (look_up sight) (zip kinds operands))) ≡ false
-      → list_any (is_misfit classes heap) (zip kinds (map (look_up sight) (zip kinds operands))) ≡ false
+      → list_any (λ (a : ArgumentSight). a.is_deleted) (all_seen kinds operands) ≡ false
+      → list_any misses (zip kinds (all_seen kinds operands)) ≡ false
+      → list_any (misfits classes) (zip kinds (all_seen kinds operands)) ≡ false
       → AreKnownAs classes heap vs kinds (map (look_up sight) (zip kinds operands))
   all_known [] [] fit texts d m f = tt
   all_known [] (o ∷ operands) fit texts d m f = absurd fit
   all_known (kind ∷ kinds) [] fit texts d m f = absurd fit
   all_known (kind ∷ kinds) (o ∷ operands) fit texts d m f =
-      let args = map (look_up sight) (zip kinds operands) in
-      let x = none_of (is_deleted (look_up sight (kind, o))) (list_any is_deleted args) d in
-      let y = none_of (is_missing (kind, look_up sight (kind, o))) (list_any is_missing (zip kinds args)) m in
-      let z = none_of (is_misfit classes heap (kind, look_up sight (kind, o))) (list_any (is_misfit classes heap) (zip kinds args)) f in
+      let args = all_seen kinds operands in
+      let x = none_of (is_deleted (look_up sight (kind, o))) (list_any (λ (a : ArgumentSight). a.is_deleted) args) d in
+      let y = none_of (misses (kind, of_operand kind o)) (list_any misses (zip kinds args)) m in
+      let z = none_of (misfits classes (kind, of_operand kind o)) (list_any (misfits classes) (zip kinds args)) f in
       (one_known kind o fit.0 texts.0 x.0 y.0 z.0, all_known kinds operands fit.1 texts.1 x.1 y.1 z.1)

@@ -25,8 +25,9 @@ use Rattle.semantics.specs.Answer.{Answer, Region, with_region_got, with_region_
 use Rattle.semantics.specs.Answer as answer
 use Rattle.semantics.specs.Arguments.{Actual, reference_given, object_given, text_given, field_given, variable_given}
 use Rattle.semantics.specs.CallEffects.{CallResult, NoResult, ScalarResult, ReferenceResult, FieldResult, BufferResult, CallEffect, Throws, Halts, Leaves, Enters, with_capacity, frames_effect, heap_effect, new_effect, string_object, overwritten, local_array, begun_with, copy_effect, view_effect, copied_elements, freed, with_freed, with_message, throw_new_effect}
+use Rattle.semantics.specs.AnswerTable.{call_effect}
 use Rattle.semantics.specs.CallSight.{CallSight, elements_seen, sight_of_call}
-use Rattle.semantics.specs.CallTable.{go_together, call_effect}
+use Rattle.semantics.specs.Checks.{go_together}
 use Rattle.semantics.specs.Heap.{Heap, object_at, class_of, values_of, next_name, with_value_at, with_numbers, numbers_of, field_place, static_place, is_instance, fits_class}
 use Rattle.semantics.specs.Object.{ObjectValue, Number, Refers, Reference, Object}
 use Rattle.semantics.specs.Thread.{Thread, Shared, Frame, BuffersInUse, capacities}
@@ -34,10 +35,9 @@ use Rattle.semantics.specs.Value.{Int, convert}
 use Rattle.semantics.specs.Variable.{Variable, Scalar, LocalRef, FieldHandle, MethodHandle, Elements, LocalArray, NoBuffer, Copy, View, Variables, change}
 use Rattle.semantics.specs.Variable as variable
 use Rattle.semantics.specs.World.{fresh_object}
-use Rattle.semantics.proofs.Answers.{effect_is, fits_alike}
+use Rattle.semantics_typing.proofs.FitsAlike.{fits_alike, fits_field_alike}
 use Rattle.semantics.proofs.AnswerFacts.{AsField, AsNumber, AsReference, AsStatic, FitsField, IsMade, IsOfKind, IsRaised, IsRegion, IsWrite, NoClass, NoElement, NoField, NoMethod, NoOwner, NoSize, NoStore, NoUnit, OfArray, OfClass, OfField, OfNumbers, OfReferences, OfString, OfText, Takes, TakesNumbers, ToElement, ToField, ToStatic}
 use Rattle.semantics.proofs.AnswerKinds.{AnswersAs, CallKind, Calling, Copying, CopyingBack, Ensuring, Filling, FillingNone, Freeing, Giving, Halting, IsChecked, Making, Pending, Pushing, Raising, RaisingWith, SettingRegion, Viewing, Writing, answers_as}
-use Rattle.semantics.proofs.CallTraps.{fits_field_alike, together}
 use Rattle.world_values.specs.WorldRules.{is_in_range}
 use Rattle.semantics_typing.specs.Objects.{ReferenceFits, ValueFits, PlaceFits, element_type_of, type_at, IsTypedObject, AreTypedObjects, AreInRange, HasNumbers, IsTypedVariable, AreTypedVariables}
 use Rattle.world_values.specs.DeclaredFields.{DeclaresWell, IsDeclared}
@@ -280,7 +280,7 @@ module _ (unit : SourceUnit) (classes : Classes) (well : DeclaresWell classes) (
     Known f = AreKnownAs classes s.heap t.variables (parameters_for f (length args)) args
 
     abbrev Together : JniFunction → Type 0
-    Together f = go_together classes s.heap u args f ≡ true
+    Together f = go_together classes (sight_of_call s t f args) u f ≡ true
 
     abbrev f_given : FieldId
     f_given = field_given args 1
@@ -326,10 +326,10 @@ module _ (unit : SourceUnit) (classes : Classes) (well : DeclaresWell classes) (
     module _ (f : JniFunction) (h : Known f) (go : Together f) (ready : IsReady classes u t.variables f args) where
       -- what the call sees
       abbrev seen : CallSight
-      seen = sight_of_call s t u f args
+      seen = sight_of_call s t f args
 
       checked : IsChecked classes seen f
-      checked = sym (together classes s t u args f) ∙ go
+      checked = (u, go)
 
       buffer_numbers : (access : Access) → f ≡ jni.GetBuffer access → HasNumbers classes s.heap u (object_given args 0)
       buffer_numbers access is = got_numbers access (subst Known is h) (subst Together is go) (subst (λ (g : JniFunction). IsReady classes u t.variables g args) is ready)
@@ -356,7 +356,7 @@ module _ (unit : SourceUnit) (classes : Classes) (well : DeclaresWell classes) (
       field_value : {v : ObjectValue} → IsDeclared classes f_given → FitsField classes seen v → ValueFits classes s.heap f_given.field.type v
       field_value declared (AsNumber T z is) = subst (λ (x : FieldType). ValueFits classes s.heap x (Number (convert T z))) (sym (number_type T f_given.field.type is)) (convert_in_range T z)
       field_value declared (AsReference is) =
-          fits_field classes well g s.heap typed f_given declared (reference_given args 2) f_given.field.type refl (fits_field_alike classes s t u args 2 f_given.field.type ∙ is)
+          fits_field classes well g s.heap typed f_given declared (reference_given args 2) f_given.field.type refl (fits_field_alike classes s t args 2 f_given.field.type ∙ is)
 
       written : {n i : ℕ} {v : ObjectValue} → IsWrite classes seen f n i v → Fits (heap_effect s t (with_value_at s.heap n i v))
       written (ToField v takes has fits) =
@@ -527,4 +527,4 @@ module _ (unit : SourceUnit) (classes : Classes) (well : DeclaresWell classes) (
     -- ---- all functions
 
     pub effect_fits : (f : JniFunction) → Known f → Together f → IsReady classes u t.variables f args → Fits (call_effect unit classes in_use k s t args f)
-    effect_fits f h go ready = subst Fits (sym (effect_is unit classes in_use k s t args u f)) (answer_fits f h go ready (answers_as unit classes k (sight_of_call s t u f args) f))
+    effect_fits f h go ready = answer_fits f h go ready (answers_as unit classes k (sight_of_call s t f args) f)

@@ -149,9 +149,7 @@ pub keeps_values : (classes : Classes) (heap : Heap) → AreTypedObjects classes
     → ((i : ℕ) (v : ObjectValue) → slice_get vs i ≡ Some v → PlaceFits classes heap (type_at classes n o.class i) v) → Keeps classes heap (with_values heap n vs)
 unfolding written
 keeps_values classes heap typed zero o at vs same fits = absurd (cc)
-keeps_values classes heap typed (suc m) o at vs same fits =
-    let e : suc m - 1 ≡ m = omega arith in
-    subst (λ (i : ℕ). Keeps classes heap (slice_set heap i (record { class = class_of heap (suc m); values = vs }))) (sym e) (slot classes heap typed m o at vs same fits)
+keeps_values classes heap typed (suc m) o at vs same fits = slot classes heap typed m o at vs same fits
 
 -- ---- one object more
 

@@ -13,3 +13,4 @@ pub mod Steps
 pub mod Loads
 pub mod Runs
 pub mod TextsOfTrees
+pub mod FitsAlike

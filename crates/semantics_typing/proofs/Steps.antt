@@ -4,6 +4,7 @@ use Rattle.std.specs.Prelude.{slice_set, IsTrue, find}
 use Rattle.std.specs.List.{AllByRecursion, list_any}
 use Rattle.std.specs.Option.{option_map}
 use Rattle.std.specs.Str.{bytes_eq}
+use Rattle.std.proofs.lemmas.List.{length-map}
 use lib.ListN.{length-set}
 use Rattle.base.specs.Bytes.{Identifier, lookup}
 use Rattle.base.specs.Element.{ElementType, JInt}
@@ -21,9 +22,10 @@ use Rattle.type_rules.specs.ExprTypes as ty
 use Rattle.semantics.specs.Activation.{function_at, class_of_function, parameter_variables, entered, entered_function, enter, entry_advance}
 use Rattle.semantics.specs.Arguments.{Actual, ReferenceActual, actuals, object_given, variable_given, reference_in_actual, name_or_zero}
 use Rattle.semantics.specs.CallEffects.{CallResult, NoResult, NullResult, ScalarResult, ReferenceResult, WeakResult, FieldResult, MethodResult, BufferResult}
+use Rattle.semantics.specs.CallSight.{argument_seen, sight_of_call}
 use Rattle.semantics.specs.CallStep.{blank, put, received, element_type, target_element, trap_of_call, checked, makes_objects, effect_of_call, call_step}
-use Rattle.semantics.specs.CallTable.{call_effect}
-use Rattle.semantics.specs.Checks.{is_missing, is_misfit}
+use Rattle.semantics.specs.AnswerTable.{call_effect}
+use Rattle.semantics.specs.Checks.{misfits, misses}
 use Rattle.semantics.specs.Effect.{Effect, Becomes, Sets, SetsNull, SetsElement, MakesArray, Prints, Calls, Returns, TrapsAt, NoEffect, effect_of}
 use Rattle.semantics.specs.Heap.{Heap, with_value_at}
 use Rattle.semantics.specs.Object.{ObjectValue, Number, Refers, Reference}
@@ -46,7 +48,8 @@ use Rattle.semantics_safety.specs.Wanted.{CallFits, CallKeeps, DeclaresResult, A
 use Rattle.semantics_safety.proofs.EffectLaws.{effect_follows, call_fits}
 use Rattle.semantics_typing.specs.Objects.{PlaceFits, type_at, AreTypedObjects, AreInRange, HasNumbers, IsTypedVariable, AreTypedVariables}
 use Rattle.world_values.specs.DeclaredFields.{DeclaresWell}
-use Rattle.semantics_typing.proofs.Arguments.{AreKnownAs, HasActualText, ArePassed, passed, all_known, looked_up, variable_typed}
+use Rattle.semantics_typing.proofs.Arguments.{AreKnownAs, HasActualText, all_known, looked_up, variable_typed}
+use Rattle.semantics.proofs.CheckLaws.{ArePassed, passed}
 use Rattle.semantics_typing.proofs.Calls.{EffectFits, IsReady, ResultFits, effect_fits}
 use Rattle.semantics_typing.proofs.Heaps.{Keeps, keeps_same, variables_later}
 use Rattle.semantics_typing.proofs.Lists.{all_append, all_set}
@@ -229,13 +232,14 @@ module _ (methods : Bool) (unit : SourceUnit) (classes : Classes) (well : Declar
     call_fitting line target f args arg_texts target_texts may p stands operands is runs =
         after_fits methods unit classes in_use k s t typed vars line target f args rest texts target_texts own_texts (effect_of_call unit classes in_use k s t line target f args rest)
         (call_checked line target f args (trap_of_call classes s t target f args) refl (λ none.
-        let checks = passed classes s.heap t (target_element t.variables target) f args none in
+        let checks = passed classes (sight_of_call s t f args) (target_element t.variables target) f none in
         let fits = call_fits s.heap s.statics t.variables t.frames p stands rest line target f operands runs in
-        let with_args = subst (λ (l : List Actual). AllByRecursion HasActualText l × ArePassed classes s.heap (target_element t.variables target) f l) is (arg_texts, checks) in
-        let many = looked_up p (sight_of s t) (parameters_for f (length operands)) operands fits.types in
-        let asked : List Actual → ℕ → Type 0 = λ l n. (list_any is_missing (zip (parameters_for f n) l) ≡ false) × (list_any (is_misfit classes s.heap) (zip (parameters_for f n) l) ≡ false) in
+        let with_args = subst (λ (l : List Actual). AllByRecursion HasActualText l × ArePassed classes (sight_of_call s t f l) (target_element t.variables target) f) is (arg_texts, checks) in
+        let looked = looked_up p (sight_of s t) (parameters_for f (length operands)) operands fits.types in
+        let many = length-map (actuals (sight_of s t) f operands) (λ (a : Actual). argument_seen s.heap (Some a)) ∙ looked in
+        let asked : List Actual → ℕ → Type 0 = λ l n. (list_any misses (zip (parameters_for f n) (map (λ (a : Actual). argument_seen s.heap (Some a)) l)) ≡ false) × (list_any (misfits classes) (zip (parameters_for f n) (map (λ (a : Actual). argument_seen s.heap (Some a)) l)) ≡ false) in
         let checked = subst (asked (actuals (sight_of s t) f operands)) many (with_args.1.given, with_args.1.kinds) in
-        let known = subst (λ (n : ℕ). AreKnownAs classes s.heap t.variables (parameters_for f n) (actuals (sight_of s t) f operands)) (sym many)
+        let known = subst (λ (n : ℕ). AreKnownAs classes s.heap t.variables (parameters_for f n) (actuals (sight_of s t) f operands)) (sym looked)
         (all_known classes s.heap s.statics t.variables t.frames p stands vars (parameters_for f (length operands)) operands fits.types with_args.0 with_args.1.present checked.0 checked.1) in
         subst (λ (l : List Actual). EffectFits classes (target_element t.variables target) s.heap t.variables (call_effect unit classes in_use k s t l f)) (sym is)
         (effect_fits unit classes well g in_use k s t typed vars (target_element t.variables target) (actuals (sight_of s t) f operands) f known with_args.1.together

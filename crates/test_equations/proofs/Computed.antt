@@ -33,8 +33,9 @@ use Rattle.world_values.specs.WorldLines.{WorldLine, Lines, has_words, line_text
 use Rattle.world_values.specs.WorldMeaning.{has_methods, world_of}
 use Rattle.world_values.specs.WorldRules.{IsWorldText, IsNumberedLine, broken_after, first_lines, heap_words, is_thread_line}
 use Rattle.std.proofs.lemmas.Slice.Eq.{bytes_eq-Decides}
-use Rattle.semantics.specs.CallTable.{call_effect, go_together}
-use Rattle.semantics.specs.Checks.{call_trap}
+use Rattle.semantics.specs.Answer.{effect_of}
+use Rattle.semantics.specs.AnswerTable.{call_answer}
+use Rattle.semantics.specs.Checks.{go_together, trap_of}
 use Rattle.regions.specs.Findings.{first_fault}
 use Rattle.semantics.specs.Load.{first_load_fault}
 use Rattle.semantics.specs.Reachable.{live_size}
@@ -52,7 +53,7 @@ use Rattle.test_equations.proofs.Programs.{entry}
 
 -- what the computations unfold
 unfoldable pub opened : Unit {0}
-unfolding turn_step clearing_step call_trap go_together call_effect report report_text journal_line digits function_named unmangle built_ins
+unfolding turn_step clearing_step trap_of go_together call_answer effect_of report report_text journal_line digits function_named unmangle built_ins
 opened = tt
 
 -- what the reading of worlds and schedules unfolds beside
