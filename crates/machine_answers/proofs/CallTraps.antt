@@ -15,9 +15,9 @@ use Rattle.code.specs.declared.instr.Operand.TheVariants as operand
 use Rattle.heap.specs.Heap.{Block, Space, IsAddress, block_at, name_at}
 use Rattle.jni.specs.JniFunction.{JniFunction, is_allowed_pending, parameters_for, prototype}
 use Rattle.semantics.specs.Arguments.{Actual, field_given}
-use Rattle.semantics.specs.CallSight.{ArgumentSight}
+use Rattle.semantics.specs.CallSight.{ArgumentSight, sight_of_call}
+use Rattle.semantics.specs.Checks.{first_trap, go_together}
 use Rattle.semantics.specs.CallStep.{trap_of_call}
-use Rattle.semantics.specs.Checks.{first_trap}
 use Rattle.semantics.specs.Object.{Reference}
 use Rattle.semantics.specs.Task.{Target}
 use Rattle.semantics.specs.Thread.{Shared, Thread}
@@ -42,8 +42,6 @@ use Rattle.machine_scenes.specs.Scenes.{Scene}
 use Rattle.machine_scenes.specs.declared.handle.MethodHandle.{MethodHandle}
 use Rattle.semantics.specs.CallStep.{target_element}
 use Rattle.semantics.specs.Method.{MethodId}
-use Rattle.semantics.specs.CallTable.{go_together}
-use Rattle.semantics.proofs.CallTraps.{together, trap_is}
 use Rattle.machine_scenes.specs.Locals.{locals_after}
 use Rattle.tables.specs.Locals.{has_room}
 use Rattle.machine_scenes.specs.Given.{operand_at, field_at, field_there, method_at, operand_of, AreAddresses, AreHandles, IsGiven, ReferenceIsThere}
@@ -176,8 +174,7 @@ module _ (p : Lowered) (w : World) (store : Store) (pending : Option ℕ) (activ
   seen_is =
       subst (λ (g : JniFunction). with_depth (is_too_deep g (length s.callers)) (trap_seen scene activation.locals call) ≡ trap_of_call w.classes shared s target g args) h.same_function
       (deep_is_last scene activation.locals (length s.callers) call
-      ∙ same_trap p w store pending activation call others k owner shared s target args of_call
-      ∙ sym (trap_is w.classes shared s (target_element s.variables target) args call.function))
+      ∙ same_trap p w store pending activation call others k owner shared s target args of_call)
 
   found_is : with_depth (is_too_deep f (length s.callers)) found_trap ≡ trap_of_call w.classes shared s target f args
   found_is = ap (with_depth (is_too_deep f (length s.callers))) found_as_seen ∙ seen_is
@@ -223,9 +220,8 @@ module _ (p : Lowered) (w : World) (store : Store) (pending : Option ℕ) (activ
     room_left = (passed found_none).room
 
     -- so do the source's
-    pub goes_together : go_together w.classes shared.heap (target_element s.variables target) args f ≡ true
+    pub goes_together : go_together w.classes (sight_of_call shared s f args) (target_element s.variables target) f ≡ true
     goes_together =
-        subst (λ (g : JniFunction). go_together w.classes shared.heap (target_element s.variables target) args g ≡ true) h.same_function
-        (together w.classes shared s (target_element s.variables target) args call.function
-        ∙ sym (together_seen scene activation.locals (length s.callers) call pending_there objects_there method_there call.function refl ∙ same_together p w store pending activation call others k owner shared s target args of_call)
+        subst (λ (g : JniFunction). go_together w.classes (sight_of_call shared s g args) (target_element s.variables target) g ≡ true) h.same_function
+        (sym (together_seen scene activation.locals (length s.callers) call pending_there objects_there method_there call.function refl ∙ same_together p w store pending activation call others k owner shared s target args of_call)
         ∙ subst (λ (g : JniFunction). fit_together (unit_tree p.unit) w.classes store.heap (references_of store activation) activation.slots.fields.items call.operands (element_wanted call.target) g ≡ true) (sym h.same_function) has_passed)

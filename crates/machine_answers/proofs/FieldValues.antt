@@ -85,10 +85,7 @@ unchanged heap (suc m) i o u at past =
     let values : values_of heap (suc m) ≡ o.values = ap (λ (x : Option Object). option_map_or (λ (y : Object). y.values) x []) at in
     let same : record { class = class_of heap (suc m); values = slice_set (values_of heap (suc m)) i u } ≡ o =
     (λ j. let x : Object = record { class = class j; values = slice_set (values j) i u } in x) ∙ ap (λ (l : List ObjectValue). let x : Object = record { class = o.class; values = l } in x) (set_none o.values i u past) in
-    let before : suc m - 1 ≡ m = omega arith in
-    ap (λ (k : ℕ). slice_set heap k (record { class = class_of heap (suc m); values = slice_set (values_of heap (suc m)) i u })) before
-    ∙ ap (slice_set heap m) same
-    ∙ set_same heap m o at
+    ap (slice_set heap m) same ∙ set_same heap m o at
 
 -- ---- an object in memory
 

@@ -25,17 +25,16 @@ use Rattle.semantics.specs.Answer as source
 use Rattle.semantics.specs.Answer.{effect_of}
 use Rattle.semantics.specs.AnswerTable as table
 use Rattle.semantics.specs.AnswerTable.{call_answer, index_within, value_in}
+use Rattle.semantics.specs.CallSight.{CallSight}
 use Rattle.semantics.specs.Arguments.{Actual, name_or_zero, reference_given, variable_given}
 use Rattle.semantics.specs.CallEffects.{CallEffect, ScalarResult, same_reference, level_of}
 use Rattle.semantics.specs.CallSight as seen
-use Rattle.semantics.specs.CallSight.{CallSight}
 use Rattle.semantics.specs.CallStep.{target_element, trap_of_call}
 use Rattle.semantics.specs.Heap.{number_in, place_in, reference_in}
 use Rattle.semantics.specs.Method.{MethodId}
 use Rattle.semantics.specs.Object.{Object, ObjectValue, Number, Reference, Refers}
 use Rattle.semantics.specs.Value.{Int, convert}
 use Rattle.semantics.specs.Variable.{StaticReference, Weakly, Cleared}
-use Rattle.semantics.proofs.Answers.{effect_is}
 use Rattle.code_meaning.specs.Coding.{element_of}
 use Rattle.code_meaning.specs.Does.{OperandFits, words_given}
 use Rattle.code_meaning.specs.Slots.{static_index, word_of}
@@ -105,24 +104,20 @@ module _ (both : TwoCalls) where
   of_call : (f : JniFunction) → Asked both f → Asked both call.function
   of_call f h = subst (λ (g : JniFunction). Asked both g) (sym h.same_function) h
 
-  same_sight : (f : JniFunction) → Asked both f → IsHeld f → sight f ≡ seen.sight_of_call shared s (target_element s.variables target) f args
+  same_sight : (f : JniFunction) → Asked both f → IsHeld f → sight f ≡ seen.sight_of_call shared s f args
   same_sight f h held =
-      subst (λ (g : JniFunction). sight g ≡ seen.sight_of_call shared s (target_element s.variables target) g args) h.same_function
+      subst (λ (g : JniFunction). sight g ≡ seen.sight_of_call shared s g args) h.same_function
       (sights_agree p w store pending activation call others k owner shared s target args (of_call f h) (λ ends. held (ap deletes_static (sym h.same_function) ∙ ends)))
 
   -- an answer that stands for what the table says of the call is what the source's call does
   pub does : (f : JniFunction) → Asked both f → IsHeld f → {answer : Answer} → Stands answer (prototype f).result (call_answer (unit both) w.classes k (sight f) f) → Does both f answer
   does f h held {answer} it =
-      subst (λ (e : CallEffect). IsAnswer w.classes (brought both) store.heap activation.locals shared s answer (prototype f).result e)
-      (sym (effect_is (unit both) w.classes (in_use both) k shared s args (target_element s.variables target) f))
-      (subst (λ (x : CallSight). Stands answer (prototype f).result (call_answer (unit both) w.classes k x f)) (same_sight f h held) it)
+      subst (λ (x : CallSight). Stands answer (prototype f).result (call_answer (unit both) w.classes k x f)) (same_sight f h held) it
 
   -- and the other way round
   pub back : (f : JniFunction) → Asked both f → IsHeld f → {answer : Answer} → Does both f answer → Stands answer (prototype f).result (call_answer (unit both) w.classes k (sight f) f)
   back f h held {answer} it =
-      subst (λ (x : CallSight). Stands answer (prototype f).result (call_answer (unit both) w.classes k x f)) (sym (same_sight f h held))
-      (subst (λ (e : CallEffect). IsAnswer w.classes (brought both) store.heap activation.locals shared s answer (prototype f).result e)
-      (effect_is (unit both) w.classes (in_use both) k shared s args (target_element s.variables target) f) it)
+      subst (λ (x : CallSight). Stands answer (prototype f).result (call_answer (unit both) w.classes k x f)) (sym (same_sight f h held)) it
 
   -- ---- arguments
 

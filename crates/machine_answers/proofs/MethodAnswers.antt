@@ -1,13 +1,16 @@
 -- What calls of methods do.
 use Rattle.std.proofs.Common.{◌≡◌, Bool, true, false, ◌&&◌, drop, map, Option, Some, None, refl, sym, ap, ◌∙◌, subst}
 use Rattle.std.specs.Prelude.{◌==◌}
+use Rattle.std.proofs.lemmas.List.{drop-map}
 use Rattle.syntax.specs.Tree.{ResultType}
 use Rattle.jni.specs.JniFunction.{JniFunction, CallStaticVoidMethod, CallStaticIntMethod, CallStaticObjectMethod, calls_method, prototype}
-use Rattle.semantics.specs.Arguments.{method_given, object_given, passed_value}
-use Rattle.semantics.specs.CallEffects.{Enters, method_effect}
+use Rattle.semantics.specs.Arguments.{Actual, method_given, object_given, passed_value}
+use Rattle.semantics.specs.CallEffects.{CallEffect, Enters}
 use Rattle.semantics.specs.CallStep.{target_element, trap_of_call}
-use Rattle.semantics.specs.CallTable.{all_pass, call_effect, go_together, is_int, is_reference_result, is_void}
-use Rattle.semantics.specs.CallTable.{calls_well as source_calls_well}
+use Rattle.semantics.specs.Answer.{Answer, effect_of, Calls as Calling}
+use Rattle.semantics.specs.AnswerTable.{call_answer, call_effect, method_called as as_called}
+use Rattle.semantics.specs.CallSight.{ArgumentSight, argument_seen, sight_of_call}
+use Rattle.semantics.specs.Checks.{all_pass, calls_well, go_together, is_int, is_reference_result, is_void}
 use Rattle.semantics.specs.Method.{MethodId}
 use Rattle.machine_scenes.specs.declared.handle.MethodHandle.{MethodHandle}
 use Rattle.machine_scenes.specs.FieldIds.{IsMethod, MethodAgrees}
@@ -27,6 +30,10 @@ both_hold false b h = absurd (cc)
 module _ (both : TwoCalls) where
   open both use {p, w, store, pending, activation, call, others, k, owner, shared, s, target, args}
 
+  -- what is seen of an argument
+  abbrev pub of : Actual → ArgumentSight
+  of a = argument_seen shared.heap (Some a)
+
   -- the method of a call, which its method ID is of: it takes what it is passed, and is what the call does
   pub record CalledMethod (f : JniFunction) : Type 0 where
     pub method : MethodId
@@ -34,19 +41,27 @@ module _ (both : TwoCalls) where
     pub handle : MethodHandle
     pub at : method_at (fields both) (operand_of call.operands 1) ≡ Some handle
     pub is : IsMethod (unit both) w.classes handle method
-    pub passes : all_pass w.classes shared.heap (target_element s.variables target) args method.function.parameters (drop 2 args) ≡ true
+    pub passes : all_pass method.function.parameters (map of (drop 2 args)) ≡ true
     pub effect : call_effect (unit both) w.classes (in_use both) k shared s args f ≡ Enters method.function.name (map passed_value (drop 2 args))
 
+  -- the effect of an answer
+  abbrev Effect : Answer → CallEffect
+  Effect a = effect_of w.classes (in_use both) k shared s args a
+
+  enters : (m : MethodId) → Effect (Calling m) ≡ Enters m.function.name (map passed_value (drop 2 args))
+  unfolding effect_of
+  enters m = refl
+
   well_called : (f : JniFunction) (wants : ResultType → Bool) (h : Option MethodHandle) (m : Option MethodId) → method_at (fields both) (operand_of call.operands 1) ≡ h → method_given args 1 ≡ m → MethodAgrees (unit both) w.classes h m
-      → source_calls_well w.classes shared.heap (target_element s.variables target) args wants m ≡ true → call_effect (unit both) w.classes (in_use both) k shared s args f ≡ method_effect (method_given args 1) (map passed_value (drop 2 args)) → CalledMethod f
+      → calls_well w.classes (sight_of_call shared s f args) wants m ≡ true → call_effect (unit both) w.classes (in_use both) k shared s args f ≡ Effect (as_called (method_given args 1)) → CalledMethod f
   well_called f wants None None at given agrees well does = absurd (cc)
   well_called f wants None (Some m) at given agrees well does = absurd agrees
   well_called f wants (Some h) None at given agrees well does = absurd agrees
   well_called f wants (Some h) (Some m) at given agrees well does =
-      let last = both_hold (m.class == object_given args 0 && wants m.function.result) (all_pass w.classes shared.heap (target_element s.variables target) args m.function.parameters (drop 2 args)) well in
-      record { method = m; given = given; handle = h; at = at; is = agrees; passes = last.1; effect = does ∙ ap (λ (o : Option MethodId). method_effect o (map passed_value (drop 2 args))) given }
+      let last = both_hold (m.class == object_given args 0 && wants m.function.result) (all_pass m.function.parameters (drop 2 (map of args))) well in
+      record { method = m; given = given; handle = h; at = at; is = agrees; passes = ap (all_pass m.function.parameters) (sym (drop-map of 2 args)) ∙ last.1; effect = does ∙ ap (λ (o : Option MethodId). Effect (as_called o)) given ∙ enters m }
 
-  together : (f : JniFunction) → (h : Asked both f) → trap_of_call w.classes shared s target f args ≡ None → go_together w.classes shared.heap (target_element s.variables target) args f ≡ true
+  together : (f : JniFunction) → (h : Asked both f) → trap_of_call w.classes shared s target f args ≡ None → go_together w.classes (sight_of_call shared s f args) (target_element s.variables target) f ≡ true
   together f h free = goes_together p w store pending activation call others k owner shared s target f args h free
 
   agree : (f : JniFunction) → Asked both f → MethodAgrees (unit both) w.classes (method_at (fields both) (operand_of call.operands 1)) (method_given args 1)
@@ -54,7 +69,7 @@ module _ (both : TwoCalls) where
 
   -- a call of a method that has passed its checks
   pub called_method : (f : JniFunction) → calls_method f ≡ true → Asked both f → trap_of_call w.classes shared s target f args ≡ None → CalledMethod f
-  unfolding go_together call_effect
+  unfolding go_together call_answer
   called_method CallStaticVoidMethod is h free = well_called CallStaticVoidMethod is_void _ _ refl refl (agree CallStaticVoidMethod h) (together CallStaticVoidMethod h free) refl
   called_method CallStaticIntMethod is h free = well_called CallStaticIntMethod is_int _ _ refl refl (agree CallStaticIntMethod h) (together CallStaticIntMethod h free) refl
   called_method CallStaticObjectMethod is h free = well_called CallStaticObjectMethod is_reference_result _ _ refl refl (agree CallStaticObjectMethod h) (together CallStaticObjectMethod h free) refl

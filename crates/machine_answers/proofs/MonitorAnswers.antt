@@ -7,9 +7,10 @@ use Rattle.heap.specs.Heap.{name_at}
 use Rattle.jni.specs.JniFunction.{MonitorEnter, MonitorExit}
 use Rattle.jni.specs.Prototype.{NonNull, GivesInt}
 use Rattle.semantics.specs.Arguments.{object_given}
-use Rattle.semantics.specs.CallEffects.{enter_effect, exit_effect, CallEffect}
+use Rattle.semantics.specs.CallEffects.{CallEffect}
+use Rattle.machine_scenes.specs.SourceEffects.{enter_effect, exit_effect}
 use Rattle.semantics.specs.CallStep.{is_owned_by_other, trap_of_call}
-use Rattle.semantics.specs.CallTable.{call_effect}
+use Rattle.semantics.specs.AnswerTable.{call_answer}
 use Rattle.semantics.specs.Thread as source_state
 use Rattle.semantics.specs.Thread.{monitor_of}
 use Rattle.machine_answers.specs.declared.answer.Answer.{Answer}
@@ -29,7 +30,8 @@ use Rattle.machine_answers.specs.Answers as row
 use Rattle.machine_scenes.specs.Given.{name_there}
 use Rattle.machine_answers.specs.WorkedOut.{enters, entered_by, leaves, left_by}
 use Rattle.machine_answers.proofs.CallOperands.{same_number}
-use Rattle.machine_answers.proofs.TwoCalls.{TwoCalls, brought, Asked, Works, Does, built_in_class, object_given_at, object_there}
+use Rattle.machine_answers.proofs.TwoCalls.{TwoCalls, brought, Asked, Works, Does, built_in_class, in_use, object_given_at, object_there}
+use Rattle.machine_scenes.proofs.SourceEffects.{enters as source_enters, leaves as source_leaves}
 
 module _ (both : TwoCalls) where
   open both use {p, w, store, pending, activation, call, others, k, owner, shared, s, target, sound, args}
@@ -42,13 +44,14 @@ module _ (both : TwoCalls) where
   GivesNumber x effect = IsAnswer w.classes (brought both) store.heap activation.locals shared s x GivesInt effect
 
   pub answers_enter : Asked both MonitorEnter → trap_of_call w.classes shared s target MonitorEnter args ≡ None → (answer : Answer) → Works both MonitorEnter answer → Does both MonitorEnter answer
-  unfolding call_effect
+  unfolding call_answer
   answers_enter h free answer is =
       let g = object_given_at both MonitorEnter [] NonNull [] tt refl refl h free in
       let there = object_there both g in
       let name : name_there store.heap (Some g.address) ≡ n = ap (λ (o : Option ℕ). unwrap_or o 0) there in
-      subst (λ (x : Answer). Does both MonitorEnter x) (sym (is ∙ ap (enters store.heap store.monitors k) g.at ∙ ap (λ (m : ℕ). entered_by (record { name = m; address = g.address }) (entering k (table.monitor_of store.monitors m))) name))
-      (by_came g.address there (entering k (table.monitor_of store.monitors n)) refl)
+      subst (GivesNumber answer) (source_enters w.classes (in_use both) k shared s args n (monitor_of shared.monitors n) refl)
+      (subst (λ (x : Answer). GivesNumber x (enter_effect k shared s n (monitor_of shared.monitors n))) (sym (is ∙ ap (enters store.heap store.monitors k) g.at ∙ ap (λ (m : ℕ). entered_by (record { name = m; address = g.address }) (entering k (table.monitor_of store.monitors m))) name))
+      (by_came g.address there (entering k (table.monitor_of store.monitors n)) refl))
     where
       n : ℕ
       n = object_given args 0
@@ -64,12 +67,13 @@ module _ (both : TwoCalls) where
       by_came a there enter.Busy e = let other = busy k shared s store.monitors agree n (sym e) in absurd (other.2 (not_owned other.0 h free other.1))
 
   pub answers_exit : Asked both MonitorExit → trap_of_call w.classes shared s target MonitorExit args ≡ None → (answer : Answer) → Works both MonitorExit answer → Does both MonitorExit answer
-  unfolding call_effect
+  unfolding call_answer
   answers_exit h free answer is =
       let g = object_given_at both MonitorExit [] NonNull [] tt refl refl h free in
       let name : name_there store.heap (Some g.address) ≡ n = ap (λ (o : Option ℕ). unwrap_or o 0) (object_there both g) in
-      subst (λ (x : Answer). Does both MonitorExit x) (sym (is ∙ ap (leaves store.heap store.monitors k) g.at ∙ ap (λ (m : ℕ). left_by m (leaving k (table.monitor_of store.monitors m))) name))
-      (by_came (leaving k (table.monitor_of store.monitors n)) refl)
+      subst (GivesNumber answer) (source_leaves w.classes (in_use both) k shared s args n (monitor_of shared.monitors n))
+      (subst (λ (x : Answer). GivesNumber x (exit_effect k shared s n (monitor_of shared.monitors n))) (sym (is ∙ ap (leaves store.heap store.monitors k) g.at ∙ ap (λ (m : ℕ). left_by m (leaving k (table.monitor_of store.monitors m))) name))
+      (by_came (leaving k (table.monitor_of store.monitors n)) refl))
     where
       n : ℕ
       n = object_given args 0

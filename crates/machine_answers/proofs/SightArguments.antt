@@ -12,9 +12,8 @@ use Rattle.code.specs.declared.instr.Operand.TheVariants as operand
 use Rattle.jni.specs.Prototype.{ParameterKind, IntNumber, Passed}
 use Rattle.jni.specs.Prototype as jni
 use Rattle.semantics.specs.Arguments.{Actual, ReferenceActual, FieldActual, MethodActual, ReleaseMode, CopyBackAndFree, CopyBack, FreeUncopied, field_in_actual, number_in_actual, name_or_zero, reference_in_actual, text_in_actual}
-use Rattle.semantics.specs.Checks.{is_deleted}
+use Rattle.semantics.specs.CallSight.{is_deleted, ArgumentSight}
 use Rattle.semantics.specs.CallSight as source
-use Rattle.semantics.specs.CallSight.{ArgumentSight}
 use Rattle.semantics.specs.Heap.{Heap}
 use Rattle.semantics.specs.Method.{MethodId}
 use Rattle.semantics.specs.Object.{Object, Reference}

@@ -15,14 +15,14 @@ use Rattle.semantics.specs.CallEffects.{local_array}
 use Rattle.semantics.specs.CallSight as source
 use Rattle.semantics.specs.Thread as source_thread
 use Rattle.semantics.specs.CallSight.{ArgumentSight, CallSight}
-use Rattle.semantics.specs.CallTraps.{go_together, trap_of}
+use Rattle.semantics.specs.Checks.{go_together, trap_of}
 use Rattle.semantics.specs.Heap.{Heap}
 use Rattle.semantics.specs.Variable.{Variable, Variables}
 use Rattle.code_meaning.specs.Does.{ActualFits, OperandFits, texts_given, words_given}
 use Rattle.machine_scenes.specs.Given.{HasArray, IsGiven, operand_of, operand_or_null}
 use Rattle.machine_scenes.specs.HeapAgrees.{HeapAgrees}
 use Rattle.machine_scenes.specs.Scenes.{Scene}
-use Rattle.machine_answers.specs.Sights.{argument_seen, each_seen, elements_seen, kinds, number_at, operand_seen, takes_word, text_seen, texts_of, words_of}
+use Rattle.machine_answers.specs.Sights.{argument_seen, each_seen, element_wanted, elements_seen, kinds, number_at, operand_seen, takes_word, text_seen, texts_of, words_of}
 use Rattle.machine_answers.proofs.SightArguments.{sight_is}
 use Rattle.machine_answers.proofs.SightPlaces.{number_is, text_is}
 use Rattle.tables.specs.Locals.{LocalTable, popped}
@@ -57,7 +57,8 @@ use Rattle.machine_answers.specs.Asked.{IsAsked, references_of, scene_of}
 use Rattle.machine_answers.specs.Sights.{call_seen, class_object_seen, deleted_seen, held_seen, monitor_seen, object_seen}
 use Rattle.machine_answers.specs.WorkedOut.{array_in}
 use Rattle.machine_answers.proofs.LongTables.{classes_loaded}
-use Rattle.machine_answers.proofs.TrapsSeen.{depth_last, together_without, trap_without}
+use Rattle.machine_answers.proofs.TrapsSeen.{depth_last, trap_without}
+use Rattle.semantics.proofs.CheckLaws.{together_without}
 use Rattle.machine_answers.proofs.SightParts.{name_is, name_seen_is, object_there_is, still_kind}
 
 -- what stands at a place of a call's arguments, or that none does
@@ -316,42 +317,51 @@ module _ (p : Lowered) (w : World) (store : Store) (pending : Option ℕ) (activ
       (h.store_agrees.monitors.at (name_or_zero (reference_in_actual (slice_get args 0))))
 
   -- beside what the static holds that it deletes, it sees what the source's call sees
-  pub others_agree : {o o' : Option StaticReference} → o ≡ o' → record (call_seen scene activation.locals (length s.callers) call) { held = o } ≡ record (source.sight_of_call shared s (target_element s.variables target) call.function args) { held = o' }
+  pub others_agree : {o o' : Option StaticReference} → o ≡ o' → record (call_seen scene activation.locals (length s.callers) call) { held = o } ≡ record (source.sight_of_call shared s call.function args) { held = o' }
   others_agree held_alike =
       let declares = declaring_is (field_there w.classes (field_at scene.fields (operand_of call.operands 1))).class class_within_table ∙ ap (λ (a : ArgumentSight). source.object_seen shared.heap a.field.class) (same 1) in
       let all = arguments_are scene activation.locals (length s.callers) call shared.heap args h.store_agrees.heap h.kinds h.fit h.given h.words h.texts in
       let room = full_where store.heap activation.locals s.frames h.frames_agree in
       let below = full_where store.heap (popped activation.locals) (drop 1 s.frames) (frame_ended store.heap activation.locals s.frames h.frames_agree) in
-      whole all (same 0) (same 1) (same 2) declares monitor_alike elements_are held_alike (name_seen_is store.heap pending s.pending h.pending_agrees) (sym room) (sym below) h.wanted
+      whole all (same 0) (same 1) (same 2) declares monitor_alike elements_are held_alike (name_seen_is store.heap pending s.pending h.pending_agrees) (sym room) (sym below)
     where
-      sight : List ArgumentSight → (first second third : ArgumentSight) → Object → Option source_thread.Monitor → ℕ → Option StaticReference → Reference → (full below : Bool) → ElementType → CallSight
-      sight all first second third declaring monitor elements held pending full below element =
-          record { arguments = all; first = first; second = second; third = third; declaring = declaring; monitor = monitor; elements = elements; held = held; pending = pending; is_full = full; is_full_below = below; callers = length s.callers; element = element }
+      sight : List ArgumentSight → (first second third : ArgumentSight) → Object → Option source_thread.Monitor → ℕ → Option StaticReference → Reference → (full below : Bool) → CallSight
+      sight all first second third declaring monitor elements held pending full below =
+          record { arguments = all; first = first; second = second; third = third; declaring = declaring; monitor = monitor; elements = elements; held = held; pending = pending; is_full = full; is_full_below = below; callers = length s.callers }
 
-      whole : {a a' : List ArgumentSight} {b b' c c' d d' : ArgumentSight} {e e' : Object} {m m' : Option source_thread.Monitor} {n n' : ℕ} {o o' : Option StaticReference} {q q' : Reference} {r r' t t' : Bool} {u u' : ElementType}
-          → a ≡ a' → b ≡ b' → c ≡ c' → d ≡ d' → e ≡ e' → m ≡ m' → n ≡ n' → o ≡ o' → q ≡ q' → r ≡ r' → t ≡ t' → u ≡ u' → sight a b c d e m n o q r t u ≡ sight a' b' c' d' e' m' n' o' q' r' t' u'
-      whole a b c d e m n o q r t u = cc
+      whole : {a a' : List ArgumentSight} {b b' c c' d d' : ArgumentSight} {e e' : Object} {m m' : Option source_thread.Monitor} {n n' : ℕ} {o o' : Option StaticReference} {q q' : Reference} {r r' t t' : Bool}
+          → a ≡ a' → b ≡ b' → c ≡ c' → d ≡ d' → e ≡ e' → m ≡ m' → n ≡ n' → o ≡ o' → q ≡ q' → r ≡ r' → t ≡ t' → sight a b c d e m n o q r t ≡ sight a' b' c' d' e' m' n' o' q' r' t'
+      whole a b c d e m n o q r t = cc
 
   -- so its checks, which don't look at that, find the same
   abbrev mine : CallSight
   mine = call_seen scene activation.locals (length s.callers) call
 
   abbrev theirs : CallSight
-  theirs = source.sight_of_call shared s (target_element s.variables target) call.function args
+  theirs = source.sight_of_call shared s call.function args
 
-  pub same_together : go_together w.classes mine call.function ≡ go_together w.classes theirs call.function
+  -- the element types of the buffers that they are to fill
+  abbrev my_element : ElementType
+  my_element = element_wanted call.target
+
+  abbrev their_element : ElementType
+  their_element = target_element s.variables target
+
+  pub same_together : go_together w.classes mine my_element call.function ≡ go_together w.classes theirs their_element call.function
   same_together =
-      sym (together_without w.classes mine mine.monitor None mine.callers call.function)
-      ∙ ap (λ (sight : CallSight). go_together w.classes sight call.function) (others_agree {o = None} {o' = None} refl)
-      ∙ together_without w.classes theirs theirs.monitor None theirs.callers call.function
+      sym (together_without w.classes mine mine.monitor None mine.callers my_element call.function)
+      ∙ ap (λ (sight : CallSight). go_together w.classes sight my_element call.function) (others_agree {o = None} {o' = None} refl)
+      ∙ together_without w.classes theirs theirs.monitor None theirs.callers my_element call.function
+      ∙ ap (λ (element : ElementType). go_together w.classes theirs element call.function) h.wanted
 
-  pub same_trap : trap_of w.classes mine call.function ≡ trap_of w.classes theirs call.function
+  pub same_trap : trap_of w.classes mine my_element call.function ≡ trap_of w.classes theirs their_element call.function
   same_trap =
-      depth_last w.classes mine call.function
-      ∙ sym (trap_without w.classes mine mine.monitor None mine.callers call.function)
-      ∙ ap (λ (sight : CallSight). trap_of w.classes sight call.function) (others_agree {o = None} {o' = None} refl)
-      ∙ trap_without w.classes theirs theirs.monitor None theirs.callers call.function
-      ∙ sym (depth_last w.classes theirs call.function)
+      depth_last w.classes mine my_element call.function
+      ∙ sym (trap_without w.classes mine mine.monitor None mine.callers my_element call.function)
+      ∙ ap (λ (sight : CallSight). trap_of w.classes sight my_element call.function) (others_agree {o = None} {o' = None} refl)
+      ∙ trap_without w.classes theirs theirs.monitor None theirs.callers my_element call.function
+      ∙ sym (depth_last w.classes theirs my_element call.function)
+      ∙ ap (λ (element : ElementType). trap_of w.classes theirs element call.function) h.wanted
 
   -- the first operand of a function that ends the reference of a static is a static
   pub static_given : deletes_static call.function ≡ true → (i : ℕ) × (operand_of call.operands 0 ≡ operand.Static i)
@@ -388,5 +398,5 @@ module _ (p : Lowered) (w : World) (store : Store) (pending : Option ℕ) (activ
         by_function f is = refl
 
     -- it sees what the source's call sees
-    pub sights_agree : call_seen scene activation.locals (length s.callers) call ≡ source.sight_of_call shared s (target_element s.variables target) call.function args
+    pub sights_agree : call_seen scene activation.locals (length s.callers) call ≡ source.sight_of_call shared s call.function args
     sights_agree = others_agree held_alike

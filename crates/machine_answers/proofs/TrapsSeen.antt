@@ -3,6 +3,7 @@ use Rattle.std.proofs.Common.{◌≡◌, ℕ, zero, suc, ◌+◌, ◌-◌, ◌++
 use Rattle.std.specs.Prelude.{◌==◌, ◌&&◌, ◌||◌, if◌then◌else◌, nat_le, zip}
 use Rattle.std.specs.List.{list_any}
 use Rattle.std.specs.Option.{option_map, option_map_or}
+use Rattle.base.specs.Element.{ElementType}
 use Rattle.base.specs.Limits.{most_activations}
 use Rattle.syntax.specs.Tree.{Function, IntParameter, Parameter, ParameterType, ReferenceParameter, ResultType}
 use Rattle.class_rules.specs.BuiltIns.{has_own_making, throwable_class}
@@ -18,15 +19,15 @@ use Rattle.jni.specs.JniFunction.{JniFunction, AllocObject, CallStaticIntMethod,
 use Rattle.jni.specs.Prototype.{ParameterKind, Nullable, AnyReference, LocalVariable, StaticVariable, WeakVariable, Passed, ClassObject, NumberArray, AnyArray, ObjectArray, StringObject, MethodID, ResultKind, NewLocal}
 use Rattle.semantics.specs.Arguments.{name_or_zero}
 use Rattle.semantics.specs.CallSight.{ArgumentSight, CallSight, name_of_first}
-use Rattle.semantics.specs.CallTable.{is_int, is_reference_result, is_void}
-use Rattle.semantics.specs.CallTraps as source
-use Rattle.semantics.specs.Checks.{first_trap}
+use Rattle.semantics.specs.Checks.{is_int, is_reference_result, is_void, first_trap}
+use Rattle.semantics.specs.Checks as source
 use Rattle.semantics.specs.Heap.{holds_number, holds_reference}
 use Rattle.semantics.specs.Method.{MethodId}
 use Rattle.semantics.specs.Thread.{Monitor}
 use Rattle.semantics.specs.Variable.{StaticReference}
 use Rattle.monitors.specs.declared.monitors.Monitor.{Monitor as Owned}
 use Rattle.semantics.specs.Value.{Trap, CallsTooDeep, NullReference, ExceptionPending, WrongObject, DeletedReference, NoCapacity}
+use Rattle.semantics.proofs.CheckLaws.{lacks_without, together_without}
 use Rattle.tables.specs.Locals.{LocalTable, has_room}
 use Rattle.machine_scenes.specs.declared.handle.MethodHandle.{MethodHandle}
 use Rattle.machine_scenes.specs.FieldIds.{IsMethod}
@@ -71,25 +72,25 @@ undeep false (Some trap) h = refl
 -- ---- what no check looks at
 
 -- what the checks find, but that of how deep calls are
-module _ (classes : Classes) (sight : CallSight) (f : JniFunction) where
+module _ (classes : Classes) (sight : CallSight) (element : ElementType) (f : JniFunction) where
   abbrev found : Option Trap
   found =
       first_trap (
       (is_some sight.pending && not (is_allowed_pending f), ExceptionPending)
       ∷ (list_any (λ (a : ArgumentSight). a.is_deleted) sight.arguments, DeletedReference)
       ∷ (list_any source.misses (source.with_kinds classes sight f), NullReference)
-      ∷ (list_any (source.misfits classes) (source.with_kinds classes sight f) || not (source.go_together classes sight f), WrongObject)
+      ∷ (list_any (source.misfits classes) (source.with_kinds classes sight f) || not (source.go_together classes sight element f), WrongObject)
       ∷ (source.lacks_room classes sight f (prototype f).result, NoCapacity)
       ∷ [])
 
-  pub depth_last : source.trap_of classes sight f ≡ with_depth (is_too_deep f sight.callers) found
+  pub depth_last : source.trap_of classes sight element f ≡ with_depth (is_too_deep f sight.callers) found
   unfolding source.trap_of
   depth_last =
       deep_last (is_too_deep f sight.callers) (
       (is_some sight.pending && not (is_allowed_pending f), ExceptionPending)
       ∷ (list_any (λ (a : ArgumentSight). a.is_deleted) sight.arguments, DeletedReference)
       ∷ (list_any source.misses (source.with_kinds classes sight f), NullReference)
-      ∷ (list_any (source.misfits classes) (source.with_kinds classes sight f) || not (source.go_together classes sight f), WrongObject)
+      ∷ (list_any (source.misfits classes) (source.with_kinds classes sight f) || not (source.go_together classes sight element f), WrongObject)
       ∷ (source.lacks_room classes sight f (prototype f).result, NoCapacity)
       ∷ [])
 
@@ -98,23 +99,10 @@ module _ (classes : Classes) (sight : CallSight) (m : Option Monitor) (o : Optio
   abbrev other : CallSight
   other = record sight { monitor = m; held = o; callers = n }
 
-  pub together_without : (f : JniFunction) → source.go_together classes other f ≡ source.go_together classes sight f
-  unfolding source.go_together
-  together_without (GetBuffer (ElementsCopy T)) = refl
-  together_without (GetBuffer ArrayView) = refl
-  together_without (GetBuffer CharsCopy) = refl
-  together_without (GetBuffer CharsView) = refl
-  together_without f = refl
-
-  lacks_without : (f : JniFunction) (kind : ResultKind) → source.lacks_room classes other f kind ≡ source.lacks_room classes sight f kind
-  lacks_without PopLocalFrame NewLocal = refl
-  lacks_without f NewLocal = refl
-  lacks_without f kind = refl
-
-  found_without : (f : JniFunction) → found classes other f ≡ found classes sight f
-  found_without f =
-      let together = together_without f in
-      let lacks = lacks_without f (prototype f).result in
+  found_without : (element : ElementType) (f : JniFunction) → found classes other element f ≡ found classes sight element f
+  found_without element f =
+      let together = together_without classes sight m o n element f in
+      let lacks = lacks_without classes sight m o n f (prototype f).result in
       λ i. first_trap (
       (is_some sight.pending && not (is_allowed_pending f), ExceptionPending)
       ∷ (list_any (λ (a : ArgumentSight). a.is_deleted) sight.arguments, DeletedReference)
@@ -123,23 +111,23 @@ module _ (classes : Classes) (sight : CallSight) (m : Option Monitor) (o : Optio
       ∷ (lacks i, NoCapacity)
       ∷ [])
 
-  pub trap_without : (f : JniFunction) → source.trap_of classes other f ≡ with_depth (is_too_deep f n) (found classes sight f)
-  trap_without f = depth_last classes other f ∙ ap (with_depth (is_too_deep f n)) (found_without f)
+  pub trap_without : (element : ElementType) (f : JniFunction) → source.trap_of classes other element f ≡ with_depth (is_too_deep f n) (found classes sight element f)
+  trap_without element f = depth_last classes other element f ∙ ap (with_depth (is_too_deep f n)) (found_without element f)
 
 -- so whatever monitors are owned, they find the same
 pub whatever_monitors : (scene : Scene) (monitors : List Owned) (locals : LocalTable) (call : Call) → trap_seen (record scene { monitors = monitors }) locals call ≡ trap_seen scene locals call
 whatever_monitors scene monitors locals call =
     let sight = call_seen scene locals 0 call in
-    trap_without scene.classes sight (call_seen (record scene { monitors = monitors }) locals 0 call).monitor sight.held 0 call.function
-    ∙ sym (depth_last scene.classes sight call.function)
+    trap_without scene.classes sight (call_seen (record scene { monitors = monitors }) locals 0 call).monitor sight.held 0 (element_wanted call.target) call.function
+    ∙ sym (depth_last scene.classes sight (element_wanted call.target) call.function)
 
 -- a call for which others wait finds the same, or that calls are too deep
 pub deep_is_last : (scene : Scene) (locals : LocalTable) (callers : ℕ) (call : Call)
-    → with_depth (is_too_deep call.function callers) (trap_seen scene locals call) ≡ source.trap_of scene.classes (call_seen scene locals callers call) call.function
+    → with_depth (is_too_deep call.function callers) (trap_seen scene locals call) ≡ source.trap_of scene.classes (call_seen scene locals callers call) (element_wanted call.target) call.function
 deep_is_last scene locals callers call =
     let sight = call_seen scene locals 0 call in
-    ap (with_depth (is_too_deep call.function callers)) (depth_last scene.classes sight call.function ∙ undeep (is_too_deep call.function 0) (found scene.classes sight call.function) (not_alone call.function))
-    ∙ sym (trap_without scene.classes sight sight.monitor sight.held callers call.function)
+    ap (with_depth (is_too_deep call.function callers)) (depth_last scene.classes sight (element_wanted call.target) call.function ∙ undeep (is_too_deep call.function 0) (found scene.classes sight (element_wanted call.target) call.function) (not_alone call.function))
+    ∙ sym (trap_without scene.classes sight sight.monitor sight.held callers (element_wanted call.target) call.function)
 
 -- ---- one operand
 
@@ -362,7 +350,7 @@ module _ (scene : Scene) (locals : LocalTable) (callers : ℕ) (call : Call) (pe
       by_class true = let one = same it.0.function.result in let further = passed_seen of_method it.0.function.parameters in λ i. one i && further i
       by_class false = refl
 
-  pub together_seen : (f : JniFunction) → call.function ≡ f → fit_together scene.unit scene.classes scene.space scene.references scene.fields operands (element_wanted call.target) f ≡ source.go_together scene.classes sight f
+  pub together_seen : (f : JniFunction) → call.function ≡ f → fit_together scene.unit scene.classes scene.space scene.references scene.fields operands (element_wanted call.target) f ≡ source.go_together scene.classes sight (element_wanted call.target) f
   unfolding source.go_together
   together_seen AllocObject of = ap (λ n. not (has_own_making scene.classes n)) (name_at_place 0)
   together_seen SetObjectField of = ap (λ b. (not asked.is_static && assignable scene.classes sight.first.object.class asked.class) && b) (fits_field_seen asked.field.type)
@@ -398,7 +386,7 @@ module _ (scene : Scene) (locals : LocalTable) (callers : ℕ) (call : Call) (pe
   room_seen f kind = refl
 
   -- what is found is the trap by what is seen
-  pub trap_is_seen : with_depth (is_too_deep call.function callers) (trap_found scene (has_room (locals_after call.function locals)) (element_wanted call.target) call.function operands) ≡ source.trap_of scene.classes sight call.function
+  pub trap_is_seen : with_depth (is_too_deep call.function callers) (trap_found scene (has_room (locals_after call.function locals)) (element_wanted call.target) call.function operands) ≡ source.trap_of scene.classes sight (element_wanted call.target) call.function
   trap_is_seen =
       let deep = is_too_deep call.function callers in
       let all = kinds scene locals callers call in
@@ -416,7 +404,7 @@ module _ (scene : Scene) (locals : LocalTable) (callers : ℕ) (call : Call) (pe
       let together = together_seen call.function refl in
       let room = room_seen call.function (prototype call.function).result in
       (λ i. with_depth deep (first_trap ((exception i && not (is_allowed_pending call.function), ExceptionPending) ∷ (deleted i, DeletedReference) ∷ (missing i, NullReference) ∷ (misfit i || not (together i), WrongObject) ∷ (room i, NoCapacity) ∷ [])))
-      ∙ sym (depth_last scene.classes sight call.function)
+      ∙ sym (depth_last scene.classes sight (element_wanted call.target) call.function)
 
 -- what is found is the trap of a call for which none waits
 pub found_seen : (scene : Scene) (locals : LocalTable) (call : Call) → ReferenceIsThere scene.space scene.pending → AreAddresses scene.space scene.references call.operands → MethodIsThere scene.unit scene.classes (method_at scene.fields (operand_of call.operands 1))

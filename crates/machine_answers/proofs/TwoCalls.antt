@@ -12,7 +12,7 @@ use Rattle.jni.specs.JniFunction.{JniFunction, parameters_for, prototype}
 use Rattle.jni.specs.Prototype.{ParameterKind, ClassObject}
 use Rattle.semantics.specs.Arguments.{Actual, reference_given, object_given, name_or_zero}
 use Rattle.semantics.specs.CallStep.{trap_of_call}
-use Rattle.semantics.specs.CallTable.{call_effect}
+use Rattle.semantics.specs.AnswerTable.{call_effect}
 use Rattle.semantics.specs.Heap.{class_of, object_at}
 use Rattle.semantics.specs.Object.{Object, Reference}
 use Rattle.semantics.specs.Task.{Target}

@@ -16,6 +16,7 @@ use Rattle.heap.proofs.Names.{AreNamesUnique-with_changed, one_address}
 use Rattle.heap.proofs.Spaces.{IsLaidOut-with_changed, part-changed}
 use Rattle.heap.proofs.Staying.{stays_noted, stays_same}
 use Rattle.heap.specs.Marks.{noted_in}
+use Rattle.semantics.proofs.HeapGrows.{with_values_keeps}
 use Rattle.semantics.specs.Heap.{Heap, class_of, object_at, values_of, with_values}
 use Rattle.semantics.specs.Object.{Object, ObjectValue}
 use Rattle.semantics.specs.Thread.{Shared}
@@ -89,21 +90,17 @@ module _ (space : Space) (heap : Heap) (a : ℕ) (vs : List Value → List Value
   object_here : (o : Object) → object_at heap name ≡ Some o → object_at heap_after name ≡ Some new
   object_here o at = by_name name at
     where
-      by_name : (n : ℕ) → object_at heap n ≡ Some o → object_at (slice_set heap (n - 1) new) n ≡ Some new
+      by_name : (n : ℕ) → object_at heap n ≡ Some o → object_at (with_values heap n us) n ≡ Some (record { class = class_of heap n; values = us })
       by_name zero e = absurd (cc)
-      by_name (suc i) e =
-          let before : suc i - 1 ≡ i = omega arith in
-          subst (λ (k : ℕ). slice_get (slice_set heap k new) i ≡ Some new) (sym before) (get_set_same heap i new (slice_get_within heap i o e))
+      by_name (suc i) e = get_set_same heap i (record { class = class_of heap (suc i); values = us }) (slice_get_within heap i o e)
 
   object_elsewhere : (n : ℕ) (o x : Object) → object_at heap name ≡ Some x → n ≢ name → object_at heap n ≡ Some o → object_at heap_after n ≡ Some o
   object_elsewhere n o x is other at = by_name n name is other at
     where
-      by_name : (n m : ℕ) → object_at heap m ≡ Some x → n ≢ m → object_at heap n ≡ Some o → object_at (slice_set heap (m - 1) new) n ≡ Some o
+      by_name : (n m : ℕ) → object_at heap m ≡ Some x → n ≢ m → object_at heap n ≡ Some o → object_at (with_values heap m us) n ≡ Some o
       by_name n zero is ne e = absurd (cc (is))
       by_name zero (suc j) is ne e = absurd (cc (e))
-      by_name (suc i) (suc j) is ne e =
-          let before : suc j - 1 ≡ j = omega arith in
-          subst (λ (k : ℕ). slice_get (slice_set heap k new) i ≡ Some o) (sym before) (get_set_other heap j i new (λ same. ne (ap suc same)) ∙ e)
+      by_name (suc i) (suc j) is ne e = get_set_other heap j i (record { class = class_of heap (suc j); values = us }) (λ same. ne (ap suc same)) ∙ e
 
   -- each object keeps its class and its number of values
   pub shapes_after : (n : ℕ) (o x : Object) → length us ≡ length (values_of heap name) → object_at heap name ≡ Some x → object_at heap n ≡ Some o → (p : Object) × (object_at heap_after n ≡ Some p) × (p.class ≡ o.class) × (length p.values ≡ length o.values)
@@ -174,7 +171,7 @@ module _ (p : Lowered) (w : World) (store : Store) (shared : Shared) (a : ℕ) (
   heap_then = with_values shared.heap name us
 
   count : length heap_then ≡ length shared.heap
-  count = length-set shared.heap (name - 1) (record { class = class_of shared.heap name; values = us })
+  count = with_values_keeps shared.heap name us
 
   leaving : LeavesPlace (λ (b : Block). record b { values = vs b.values })
   leaving = record { address = λ b. refl; count = λ b. keeps b.values }

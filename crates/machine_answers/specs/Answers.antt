@@ -14,7 +14,8 @@ use Rattle.classes.specs.declared.class.FieldHandle.{FieldHandle}
 use Rattle.heap.specs.Heap.{Space, name_at, values_at}
 use Rattle.heap.specs.declared.value.Value.{Value}
 use Rattle.jni.specs.Prototype.{ResultKind, NewLocal, NewGlobal, GivesFlag, GivesInt, GivesField, GivesMethod, GivesNothing, NewWeak}
-use Rattle.semantics.specs.CallEffects.{CallResult, NoResult, NullResult, ScalarResult, ReferenceResult, WeakResult, FieldResult, MethodResult, CallEffect, copy_effect, new_effect, view_effect, release_effect, enter_effect, exit_effect, Halts, Enters, Leaves, Throws, throw_new_effect, delete_global_effect, frames_effect, refuses_frames, with_capacity, without_local, begun_with, heap_effect, overwritten}
+use Rattle.semantics.specs.CallEffects.{CallResult, NoResult, NullResult, ScalarResult, ReferenceResult, WeakResult, FieldResult, MethodResult, CallEffect, copy_effect, new_effect, view_effect, Halts, Enters, Leaves, Throws, throw_new_effect, frames_effect, refuses_frames, with_capacity, without_local, without_one, begun_with, heap_effect, overwritten}
+use Rattle.machine_scenes.specs.SourceEffects.{enter_effect, exit_effect, release_effect}
 use Rattle.semantics.specs.Heap.{numbers_of, values_of, with_numbers, with_value_at}
 use Rattle.semantics.specs.declared.trap.Trap.{Trap}
 use Rattle.semantics.specs.Method.{MethodId}
@@ -260,7 +261,8 @@ pub data IsAnswer (classes : Classes) (brought : Brought) (space : Space) (local
       (Leaves [] (record s { globals = option_to_list r ++ s.globals }) t (ReferenceResult r))
   -- the global reference that a static holds ends, and the static is marked
   deletes_global : {i : ℕ} (x : Identifier) (n : ℕ) → HoldsObject s x i n
-      → IsAnswer classes brought space locals s t (answer.DeletesGlobal i) GivesNothing (delete_global_effect s t x (Some (Live n)))
+      → IsAnswer classes brought space locals s t (answer.DeletesGlobal i) GivesNothing
+      (Leaves [] (record s { globals = without_one n s.globals; statics = assign x Deleted s.statics }) t NoResult)
   -- a weak global reference is made and given, and none for NULL
   makes_weak : {a : Option ℕ} (r : Reference) → ReferenceAgrees space a r
       → IsAnswer classes brought space locals s t (answer.MakesWeak a) NewWeak (Leaves [] s t (WeakResult r))

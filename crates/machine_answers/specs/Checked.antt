@@ -14,8 +14,7 @@ use Rattle.heap.specs.Heap.{Space}
 use Rattle.jni.specs.Access.{ArrayView}
 use Rattle.jni.specs.JniFunction.{is_allowed_pending, JniFunction, GetBuffer, AllocObject, GetField, SetField, GetStaticField, SetStaticField, GetObjectField, SetObjectField, GetStaticObjectField, SetStaticObjectField, NewObjectArray, Throw, ThrowNew, CallStaticVoidMethod, CallStaticIntMethod, CallStaticObjectMethod, prototype}
 use Rattle.jni.specs.Prototype.{ParameterKind, Nullable, AnyReference, LocalVariable, StaticVariable, WeakVariable, IsCopy, Passed, ResultKind, NewLocal}
-use Rattle.semantics.specs.CallTable.{is_int, is_reference_result, is_void}
-use Rattle.semantics.specs.Checks.{first_trap}
+use Rattle.semantics.specs.Checks.{is_int, is_reference_result, is_void, first_trap}
 use Rattle.semantics.specs.Heap.{holds_number, holds_reference}
 use Rattle.semantics.specs.Value.{Trap, NullReference, ExceptionPending, WrongObject, DeletedReference, NoCapacity}
 use Rattle.machine_scenes.specs.declared.handle.Handle.{Handle}

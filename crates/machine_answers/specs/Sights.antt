@@ -21,7 +21,7 @@ use Rattle.monitors.specs.declared.monitors.Monitor.{Monitor}
 use Rattle.monitors.specs.Monitors.{monitor_of}
 use Rattle.semantics.specs.Arguments.{ReleaseMode, CopyBackAndFree, CopyBack, FreeUncopied, name_or_zero}
 use Rattle.semantics.specs.CallSight.{ArgumentSight, CallSight}
-use Rattle.semantics.specs.CallTraps.{trap_of}
+use Rattle.semantics.specs.Checks.{trap_of}
 use Rattle.semantics.specs.Method.{MethodId}
 use Rattle.semantics.specs.Object.{Object, ObjectValue, Number, Reference, Refers}
 use Rattle.semantics.specs.Thread as source
@@ -238,12 +238,11 @@ module _ (scene : Scene) (locals : LocalTable) (callers : ℕ) (call : Call) whe
     is_full = not (has_room locals);
     is_full_below = not (has_room (popped locals));
     callers = callers;
-    element = element_wanted call.target;
   }
 
 -- the trap that the checks of a call find, but for that of how deep calls are: as if none waited for it
 abbrev pub trap_seen : Scene → LocalTable → Call → Option Trap
-trap_seen scene locals call = trap_of scene.classes (call_seen scene locals 0 call) call.function
+trap_seen scene locals call = trap_of scene.classes (call_seen scene locals 0 call) (element_wanted call.target) call.function
 
 -- a method ID is NULL or a handle of a method of the unit
 abbrev pub MethodIsThere : SourceUnit → Classes → Option MethodHandle → Type 0

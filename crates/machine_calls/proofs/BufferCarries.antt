@@ -20,7 +20,8 @@ use Rattle.heap.specs.declared.value.Value.TheVariants as value
 use Rattle.jni.specs.Prototype.{GivesNothing, ResultKind}
 use Rattle.syntax.specs.Views.{unit_tree}
 use Rattle.semantics.specs.Arguments.{ReleaseMode, CopyBackAndFree, CopyBack, FreeUncopied}
-use Rattle.semantics.specs.CallEffects.{CallEffect, CallResult, Leaves, NoResult, BufferResult, copied_elements, copy_effect, release_effect, view_effect, with_freed}
+use Rattle.semantics.specs.CallEffects.{CallEffect, CallResult, Leaves, NoResult, BufferResult, copied_elements, copy_effect, view_effect, with_freed}
+use Rattle.machine_scenes.specs.SourceEffects.{release_effect}
 use Rattle.semantics.specs.Heap.{Heap, numbers_of, object_at, values_of, with_numbers}
 use Rattle.semantics.specs.Object.{Object, Number, Reference}
 use Rattle.semantics.specs.Thread as source

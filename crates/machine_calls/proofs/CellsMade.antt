@@ -11,7 +11,8 @@ use Rattle.heap.specs.Heap.{Space, left_of}
 use Rattle.jni.specs.Prototype.{ResultKind}
 use Rattle.base.specs.Bytes.{Identifier}
 use Rattle.semantics.specs.Arguments.{ReleaseMode, CopyBackAndFree, CopyBack, FreeUncopied}
-use Rattle.semantics.specs.CallEffects.{enter_effect, exit_effect, release_effect, string_object, with_message, CallEffect, frames_effect, refuses_frames, with_capacity}
+use Rattle.semantics.specs.CallEffects.{string_object, with_message, CallEffect, frames_effect, refuses_frames, with_capacity}
+use Rattle.machine_scenes.specs.SourceEffects.{enter_effect, exit_effect, release_effect}
 use Rattle.semantics.specs.Heap.{next_name}
 use Rattle.semantics.specs.Object.{Object, Reference, Refers, size, sizes}
 use Rattle.semantics.specs.Thread as source

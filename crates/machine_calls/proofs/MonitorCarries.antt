@@ -7,7 +7,8 @@ use Rattle.heap.specs.Heap.{Space}
 use Rattle.heap.specs.Layout.{layout_of}
 use Rattle.machine_scenes.proofs.ObjectExtents.{none_laid}
 use Rattle.jni.specs.Prototype.{ResultKind, GivesInt}
-use Rattle.semantics.specs.CallEffects.{CallEffect, ScalarResult, enter_effect, exit_effect}
+use Rattle.semantics.specs.CallEffects.{CallEffect, ScalarResult}
+use Rattle.machine_scenes.specs.SourceEffects.{enter_effect, exit_effect}
 use Rattle.semantics.specs.Thread as source
 use Rattle.semantics.specs.Thread.{Shared, Thread}
 use Rattle.semantics.specs.Value.{Int}

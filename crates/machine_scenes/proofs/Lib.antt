@@ -19,3 +19,4 @@ pub mod OperandsThere
 pub mod MonitorPlaces
 pub mod Taken
 pub mod WeakLaws
+pub mod SourceEffects

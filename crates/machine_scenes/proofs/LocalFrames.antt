@@ -14,7 +14,7 @@ use Rattle.jni.specs.JniFunction.{JniFunction, PopLocalFrame}
 use Rattle.semantics.specs.CallEffects as effects
 use Rattle.semantics.specs.CallEffects.{with_capacity, with_local, without_local, without_one}
 use Rattle.semantics.specs.Checks as checks
-use Rattle.semantics.specs.Checks.{is_full}
+use Rattle.semantics.specs.CallSight.{is_full}
 use Rattle.semantics.specs.Thread as source
 use Rattle.tables.specs.Locals.{AreStacked, Frame, FrameSlots, IsMade, LocalTable, by_frame, capacities, current_frame, end_of, ensured, has_room, level_among, level_of, popped, pushed, slots_by_frame, without}
 use Rattle.tables.specs.References.{IsPut, address_at, references_in}

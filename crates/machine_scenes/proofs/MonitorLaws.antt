@@ -5,7 +5,8 @@ use Rattle.std.proofs.lemmas.Bool.Decides.{eqb_tells}
 use Rattle.class_rules.specs.BuiltIns.{illegal_monitor_state}
 use Rattle.semantics.specs.Thread as source
 use Rattle.semantics.specs.Value.{Int}
-use Rattle.semantics.specs.CallEffects.{CallEffect, Leaves, Throws, ScalarResult, enter_effect, exit_effect, monitor, monitors_effect}
+use Rattle.semantics.specs.CallEffects.{CallEffect, Leaves, Throws, ScalarResult, monitor, monitors_effect}
+use Rattle.machine_scenes.specs.SourceEffects.{enter_effect, exit_effect}
 use Rattle.monitors.specs.declared.monitors.Monitor.{Monitor}
 use Rattle.monitors.specs.declared.monitors.Object.{Object}
 use Rattle.monitors.specs.declared.monitors.Enter.TheVariants.{Entered, Limit, Busy}

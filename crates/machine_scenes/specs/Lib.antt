@@ -9,3 +9,4 @@ pub mod FieldIds
 pub mod Scenes
 pub mod Given
 pub mod NewObjects
+pub mod SourceEffects
