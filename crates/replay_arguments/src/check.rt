@@ -1,21 +1,20 @@
 //! What is checked of a call before it does anything, in one order for all functions.
 
-ghost use Rattle.std.specs.Prelude.{◌≡◌, ◌||◌, [], List, map, slice_get, zip};
+ghost use Rattle.std.specs.Prelude.{◌≡◌, ◌||◌, ◌&&◌, Some, map, not, slice_get, zip};
 ghost use Rattle.std.specs.List.{list_any};
 ghost use Rattle.std.specs.Option.{option_map};
 ghost use Rattle.class_rules.specs.BuiltIns.{throwable_class};
-ghost use Rattle.base.specs.Element.{ElementType as Element, JInt, element_value};
+ghost use Rattle.base.specs.Element.{element_value};
 ghost use Rattle.classes.specs.Views.{field_type_view};
 ghost use Rattle.jni.specs.Table.{function_value, parameter_value, result_value};
-ghost use Rattle.semantics.specs.Checks.{frames_after, is_deleted, is_full, is_misfit, is_missing, lacks_room};
-ghost use Rattle.class_rules.specs.Class.{Classes};
-ghost use Rattle.semantics.specs.Arguments.{Actual as ActualOfCall, method_given};
-ghost use Rattle.semantics.specs.CallTable.{all_pass, calls_well, go_together, has_field, has_static, passes};
-ghost use Rattle.semantics.specs.CallTraps.{trap_of};
-ghost use Rattle.semantics.specs.Heap.{Heap, fits_class, fits_type, is_instance};
+ghost use Rattle.semantics.specs.CallSight.{argument_seen, is_deleted, is_full};
+ghost use Rattle.semantics.specs.Checks.{all_pass, calls_well, frames_after, go_together, misfits, passes, trap_of};
+ghost use Rattle.class_rules.specs.Class.{assignable};
+ghost use Rattle.semantics.specs.Arguments.{field_given, method_given, object_given};
+ghost use Rattle.semantics.specs.Heap.{Heap, class_of, fits_class, fits_type, is_instance};
 ghost use Rattle.syntax.specs.Views.{parameter_tree, parameter_type_tree, result_tree};
 ghost use Rattle.replay_arguments.specs.Actuals.{actual_view};
-ghost use Rattle.replay_arguments.specs.Sights.{is_wanted, scene_sight};
+ghost use Rattle.replay_arguments.specs.Sights.{is_wanted, lacks, lacks_room, scene_sight, seen_with};
 ghost use Rattle.semantics.specs.EventViews.{trap_view};
 ghost use Rattle.semantics.specs.Views.{name_of};
 
@@ -44,7 +43,7 @@ pub fn check(
     actuals: &[Actual<'_>],
 ) -> Option<Trap>
     ensures { option_map trap_view result
-        ≡ trap_of scene.entry.classes.now (scene_sight scene.entry buffer function actuals.now) (function_value function) }
+        ≡ trap_of scene.entry.classes.now (scene_sight scene.entry function actuals.now) (element_value buffer) (function_value function) }
 {
     let asked = function.prototype();
     if scene.pending.is_some() && !asked.pending {
@@ -57,9 +56,10 @@ pub fn check(
         return Some(Trap::NullReference);
     }
     let (classes, store) = (scene.classes, &scene.shared.store);
-    if some_misfit(classes, store, asked.parameters, actuals)
-        || !go_together(classes, store, buffer, function, actuals)
-    {
+    if some_misfit(classes, store, asked.parameters, actuals) {
+        return Some(Trap::WrongObject);
+    }
+    if !go_together(scene, buffer, function, actuals) {
         return Some(Trap::WrongObject);
     }
     if lacks_room(function, asked.result, &scene.locals.frames) {
@@ -87,7 +87,7 @@ fn is_deleted(actual: Actual<'_>) -> bool
 
 /// Whether some argument is NULL where that isn't allowed.
 fn some_missing(parameters: &[ParameterKind], actuals: &[Actual<'_>]) -> bool
-    ensures { result ≡ list_any is_missing (zip (map parameter_value parameters.now) (map actual_view actuals.now)) }
+    ensures { result ≡ list_any lacks (zip (map parameter_value parameters.now) (map actual_view actuals.now)) }
 {
     match parameters {
         [parameter, parameters @ ..] => match actuals {
@@ -102,7 +102,7 @@ fn some_missing(parameters: &[ParameterKind], actuals: &[Actual<'_>]) -> bool
 
 /// Whether an argument is NULL where that isn't allowed.
 fn is_missing(parameter: ParameterKind, actual: Actual<'_>) -> bool
-    ensures { result ≡ is_missing (parameter_value parameter, actual_view actual.entry) }
+    ensures { result ≡ lacks (parameter_value parameter, actual_view actual.entry) }
 {
     match parameter {
         ParameterKind::Nullable | ParameterKind::AnyReference => false,
@@ -124,7 +124,7 @@ fn some_misfit(
     parameters: &[ParameterKind],
     actuals: &[Actual<'_>],
 ) -> bool
-    ensures { result ≡ list_any (is_misfit classes.now store.now) (zip (map parameter_value parameters.now) (map actual_view actuals.now)) }
+    ensures { result ≡ list_any (λ c. misfits classes.now (seen_with store.now c)) (zip (map parameter_value parameters.now) (map actual_view actuals.now)) }
 {
     match parameters {
         [parameter, parameters @ ..] => match actuals {
@@ -145,7 +145,7 @@ fn is_misfit(
     parameter: ParameterKind,
     actual: Actual<'_>,
 ) -> bool
-    ensures { result ≡ is_misfit classes.now store.now (parameter_value parameter, actual_view actual.entry) }
+    ensures { result ≡ misfits classes.now (seen_with store.now (parameter_value parameter, actual_view actual.entry)) }
 {
     match actual {
         Actual::Reference(_, held) => match held {
@@ -162,16 +162,17 @@ fn is_misfit(
 // ---- what a function asks beyond that
 
 /// Whether the arguments of a function, each of its kind, go together.
-#[tactic(auto, unfolding(semantics::specs::CallTable::go_together))]
+#[tactic(auto, unfolding(semantics::specs::Checks::go_together))]
 fn go_together(
-    classes: &ClassTable,
-    store: &Store,
+    scene: Scene<'_, '_>,
     buffer: syntax::ElementType,
     function: JniFunction,
     actuals: &[Actual<'_>],
 ) -> bool
-    ensures { result ≡ go_together classes.now store.now (element_value buffer) (map actual_view actuals.now) (function_value function) }
+    ensures { result
+        ≡ go_together scene.entry.classes.now (scene_sight scene.entry function actuals.now) (element_value buffer) (function_value function) }
 {
+    let (classes, store) = (scene.classes, &scene.shared.store);
     let field = field_given(actuals, 1);
     match function {
         JniFunction::AllocObject => !classes.has_own_making(class_given(actuals, 0)),
@@ -205,18 +206,19 @@ fn go_together(
         }
         JniFunction::Throw => is_throwable(classes, store, object_given(actuals, 0)),
         JniFunction::ThrowNew => classes.assignable(class_given(actuals, 0), THROWABLE),
-        JniFunction::CallStaticVoidMethod => calls_well(function, actuals),
-        JniFunction::CallStaticIntMethod => calls_well(function, actuals),
-        JniFunction::CallStaticObjectMethod => calls_well(function, actuals),
+        JniFunction::CallStaticVoidMethod => calls_well(scene, function, actuals),
+        JniFunction::CallStaticIntMethod => calls_well(scene, function, actuals),
+        JniFunction::CallStaticObjectMethod => calls_well(scene, function, actuals),
         _ => true,
     }
 }
 
 /// Whether the method of argument 1 was got from the class of argument 0, returns what the function that calls it wants, and takes
 /// what it is passed.
-fn calls_well(function: JniFunction, actuals: &[Actual<'_>]) -> bool
-    ensures { (classes : Classes) (heap : Heap) (buffer : Element) → result
-        ≡ calls_well classes heap buffer (map actual_view actuals.now) (is_wanted (function_value function)) (method_given (map actual_view actuals.now) 1) }
+fn calls_well(scene: Scene<'_, '_>, function: JniFunction, actuals: &[Actual<'_>]) -> bool
+    ensures { result
+        ≡ calls_well scene.entry.classes.now (scene_sight scene.entry function actuals.now) (is_wanted (function_value function))
+        (method_given (map actual_view actuals.now) 1) }
 {
     match method_given(actuals, 1) {
         Some(method) => {
@@ -241,8 +243,8 @@ fn is_wanted(function: JniFunction, returned: ResultType) -> bool
 
 /// Whether as many are passed as there are parameters, each of its kind.
 fn all_pass(parameters: &[Parameter], actuals: &[Actual<'_>]) -> bool
-    ensures { (classes : Classes) (heap : Heap) (buffer : Element) (args : List ActualOfCall) → result
-        ≡ all_pass classes heap buffer args (map parameter_tree parameters.entry.now) (map actual_view actuals.entry.now) }
+    ensures { (heap : Heap) → result
+        ≡ all_pass (map parameter_tree parameters.entry.now) (map (λ a. argument_seen heap (Some (actual_view a))) actuals.entry.now) }
 {
     match parameters {
         [] => actuals.is_empty(),
@@ -257,8 +259,7 @@ fn all_pass(parameters: &[Parameter], actuals: &[Actual<'_>]) -> bool
 
 /// Whether what is passed to a parameter is a number, or a reference, as it asks.
 fn passes(kind: ParameterType, actual: Actual<'_>) -> bool
-    ensures { (classes : Classes) (heap : Heap) (buffer : Element) (args : List ActualOfCall) → result
-        ≡ passes classes heap buffer args (parameter_type_tree kind) (actual_view actual.entry) }
+    ensures { (heap : Heap) → result ≡ passes (parameter_type_tree kind) (argument_seen heap (Some (actual_view actual.entry))) }
 {
     match kind {
         ParameterType::Jint => matches!(actual, Actual::Number(_)),
@@ -268,7 +269,8 @@ fn passes(kind: ParameterType, actual: Actual<'_>) -> bool
 
 /// Whether argument 0 is an object that has the field of argument 1.
 fn has_field(classes: &ClassTable, store: &Store, actuals: &[Actual<'_>]) -> bool
-    ensures { result ≡ has_field classes.now store.now JInt (map actual_view actuals.now) }
+    ensures { result ≡ (not (field_given (map actual_view actuals.now) 1).is_static
+        && assignable classes.now (class_of store.now (object_given (map actual_view actuals.now) 0)) (field_given (map actual_view actuals.now) 1).class) }
 {
     let field = field_given(actuals, 1);
     let class = store.class_of(object_given(actuals, 0));
@@ -277,7 +279,8 @@ fn has_field(classes: &ClassTable, store: &Store, actuals: &[Actual<'_>]) -> boo
 
 /// Whether argument 0 is a class that has the static of argument 1.
 fn has_static(classes: &ClassTable, actuals: &[Actual<'_>]) -> bool
-    ensures { result ≡ has_static classes.now [] JInt (map actual_view actuals.now) }
+    ensures { result ≡ ((field_given (map actual_view actuals.now) 1).is_static
+        && assignable classes.now (object_given (map actual_view actuals.now) 0) (field_given (map actual_view actuals.now) 1).class) }
 {
     let field = field_given(actuals, 1);
     is_static(field) && classes.assignable(class_given(actuals, 0), declaring(field))

@@ -9,9 +9,9 @@ use Rattle.jni.specs.JniFunction.{JniFunction, calls_method}
 use Rattle.jni.specs.Prototype.{ParameterKind, ArrayVariable, ResultKind}
 use Rattle.semantics.specs.Answer.{Answer, Calls, Region}
 use Rattle.semantics.specs.AnswerTable.{call_answer}
+use Rattle.semantics.specs.CallSight.{CallSight, call_seen, elements_seen}
 use Rattle.semantics.specs.Arguments.{Actual, variable_given}
 use Rattle.semantics.specs.CallEffects.{local_array}
-use Rattle.semantics.specs.CallSight.{CallSight, call_seen, elements_seen}
 use Rattle.semantics.specs.Heap.{values_of}
 use Rattle.semantics.specs.Method.{MethodId}
 use Rattle.semantics.specs.Object.{Reference}
@@ -26,13 +26,13 @@ few_there : (vs : Variables) (p : Option ParameterKind) (x : Identifier) (n : �
 few_there vs (Some (ArrayVariable T)) x n h = h
 few_there vs p x n h = omega (arith, h)
 
-module _ (unit : SourceUnit) (classes : Classes) (k : ℕ) (s : Shared) (vs : Variables) (frames : List Frame) (callers : ℕ) (pending : Reference) (element : ElementType) (args : List Actual) where
+module _ (unit : SourceUnit) (classes : Classes) (k : ℕ) (s : Shared) (vs : Variables) (frames : List Frame) (callers : ℕ) (pending : Reference) (args : List Actual) where
   -- the local array of the call
   abbrev array : List ℤ
   array = array_given vs args
 
   abbrev sight : JniFunction → CallSight
-  sight f = call_seen s vs frames callers pending element f args
+  sight f = call_seen s vs frames callers pending f args
 
   region_fits : (f : JniFunction) (r : Region) → IsRegion classes (sight f) f r → IsInside s.heap r × HasRoom array r
   region_fits f r is =

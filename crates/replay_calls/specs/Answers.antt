@@ -1,5 +1,5 @@
 -- Answers that lie in memory, as those of the language, and what their effects leave.
-use Rattle.std.specs.Prelude.{◌≡◌, ◌+◌, true, ℤ, List, [], ◌∷◌, ◌++◌, drop, length, map, nat_le, IsTrue, Option, Some}
+use Rattle.std.specs.Prelude.{◌≡◌, ◌+◌, true, ℤ, List, [], ◌∷◌, ◌++◌, drop, length, map, nat_le, IsTrue, Option, Some, None}
 use Rattle.base.specs.Bytes.{Identifier, lookup}
 use Rattle.class_rules.specs.Class.{Classes}
 use Rattle.jni.specs.JniFunction.{JniFunction, calls_method, prototype}
@@ -70,10 +70,15 @@ answer_view classes (answer.Disowns n) = Disowns n.number
 answer_view classes (answer.Calls m) = Calls (method_view m)
 answer_view classes (answer.Halts trap) = Halts (trap_view trap)
 
+-- what a call does: the run stops by the first check that fails, or else it does what its function answers
+abbrev pub answered : Option Trap → Answer → Answer
+answered (Some trap) a = Halts trap
+answered None a = a
+
 -- the answer of a function to a call that this caller makes in this scene, all checks being passed
 abbrev pub scene_answer : Scene → Caller → FunctionInMemory → List ActualInMemory → Answer
 scene_answer scene caller f actuals =
-    call_answer (unit_tree caller.unit.now) scene.classes.now caller.thread (scene_sight scene caller.element f actuals) (function_value f)
+    call_answer (unit_tree caller.unit.now) scene.classes.now caller.thread (scene_sight scene f actuals) (function_value f)
 
 -- ---- what the table gives of each answer
 

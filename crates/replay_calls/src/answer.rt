@@ -4,6 +4,7 @@ ghost use Rattle.std.specs.Prelude.{◌≡◌, [], false, length, map, pos, slic
 ghost use Rattle.std.specs.Option.{option_map};
 ghost use Rattle.classes.specs.FieldViews.{field_id_view};
 ghost use Rattle.base.specs.Bytes.{lookup};
+ghost use Rattle.base.specs.Element.{element_value};
 ghost use Rattle.class_rules.specs.Class.{Classes, class_kind, element_class};
 ghost use Rattle.class_rules.specs.ClassIds.{number_of};
 ghost use Rattle.class_rules.specs.Fields.{find_field, find_static};
@@ -13,17 +14,17 @@ ghost use Rattle.jni.specs.Table.{function_value};
 ghost use Rattle.jni.specs.declared.subject.Subject.TheVariants as subject;
 ghost use Rattle.syntax.specs.Views.{unit_tree};
 ghost use Rattle.semantics.specs.AnswerTable.{element_given, element_set, ensured, fits, found_class, found_field, found_method, global_deleted, index_within, local_deleted, method_called, new_array, pushed, weak_deleted};
+ghost use Rattle.semantics.specs.CallSight.{argument_seen};
+ghost use Rattle.semantics.specs.Checks.{trap_of};
 ghost use Rattle.semantics.specs.Arguments.{field_given, number_given, object_given, reference_given, text_given, variable_given};
 ghost use Rattle.semantics.specs.CallEffects.{same_reference};
-ghost use Rattle.semantics.specs.CallSight.{argument_seen};
-ghost use Rattle.semantics.specs.CallTraps.{answered, trap_of};
 ghost use Rattle.semantics.specs.Heap.{class_of, field_place, number_in, reference_in, static_place, values_of};
 ghost use Rattle.semantics.specs.Method.{find_method};
 ghost use Rattle.semantics.specs.Object.{Number, Refers};
 ghost use Rattle.semantics.specs.Views.{name_of};
 ghost use Rattle.replay_arguments.specs.Actuals.{actual_view};
 ghost use Rattle.replay_arguments.specs.Sights.{scene_sight};
-ghost use Rattle.replay_calls.specs.Answers.{FitsCall, answer_view, array_given, scene_answer};
+ghost use Rattle.replay_calls.specs.Answers.{answered, FitsCall, answer_view, array_given, scene_answer};
 ghost use Rattle.replay_objects.specs.New.{array_class};
 ghost use Rattle.replay_terms.specs.Views.{held_view, method_view, variables_view};
 ghost use Rattle.world_values.specs.Views.{object_value_view};
@@ -153,7 +154,8 @@ pub fn answer_or_trap<'a>(
 ) -> Answer<'a>
     requires { IsGrown scene.classes.now }
     ensures answer { answer_view scene.entry.classes.now result
-        ≡ answered (trap_of scene.entry.classes.now (scene_sight scene.entry caller.entry.element function actuals.now) (function_value function))
+        ≡ answered (trap_of scene.entry.classes.now (scene_sight scene.entry function actuals.now) (element_value caller.entry.element)
+        (function_value function))
         (scene_answer scene.entry caller.entry function actuals.now) }
     ensures fits { FitsCall scene.entry.shared.now.store
         (array_given (variables_view scene.entry.locals.now.variables) (map actual_view actuals.now)) (function_value function)

@@ -59,7 +59,7 @@ numbers_back heap zero start new o low at = absurd (low refl)
 numbers_back heap (suc i) start new o low at =
     let e : suc i - 1 ≡ i = omega arith in
     let there : object_at heap (suc i) ≡ Some o = ap (slice_get heap) (sym e) ∙ at in
-    rw there refl
+    rw (e, there) refl
 
 -- what holds of each element holds where one that it holds of is put among them
 pub each_set : {A : Type 0} (P : A → Type 0) (xs : List A) (p : ℕ) (y : A) → ((i : ℕ) (x : A) → slice_get xs i ≡ Some x → P x) → P y → (i : ℕ) (x : A) → slice_get (slice_set xs p y) i ≡ Some x → P x

@@ -3,7 +3,7 @@
 ghost use Rattle.std.specs.Prelude.{◌≡◌, ◌++◌, ◌∷◌, [], IfOk, IsTrue, OnErr, drop, length, nat_le, slice_get};
 ghost use Rattle.base.specs.Limits.{most_references};
 ghost use Rattle.semantics.specs.CallEffects.{with_capacity, with_local, without_local};
-ghost use Rattle.semantics.specs.Checks.{is_full};
+ghost use Rattle.semantics.specs.CallSight.{is_full};
 ghost use Rattle.semantics.specs.Thread.{capacities};
 ghost use Rattle.semantics.specs.Views.{names_of};
 ghost use Rattle.replay_objects.specs.Frames.{frame_view, frames_view, new_frame, references_in, without_in};

@@ -125,41 +125,32 @@ impl Store {
         }
     }
 
-    /// Puts a value into an object, if it has the place. The name is 0 in no accepted program: by the definitions the first
-    /// object is then left without a class and values.
+    /// Puts a value into an object, if there is one of this name and it has the place.
     pub fn set(&mut self, name: ObjectId, place: usize, value: ObjectValue)
         ensures { self.new ≡ with_value_at self.old name.number place (object_value_view value) }
     {
         let count = self.objects.len();
-        if name.number > count || count == 0 {
+        if name.number == 0 || name.number > count {
             return;
         }
-        if name.number == 0 {
-            empty(&mut self.objects[0]);
-        } else {
-            put_value(&mut self.objects[name.number - 1], place, value);
-        }
+        put_value(&mut self.objects[name.number - 1], place, value);
     }
 
-    /// Overwrites numbers of an object, from a place on; a reference in it, as in no accepted program, becomes 0. The
-    /// cost goes by the new numbers, and the first time by all of the object's. The name 0 is as in `set`.
+    /// Overwrites numbers of an object, from a place on, if there is one of this name; a reference in it, as in no accepted
+    /// program, becomes 0. The cost goes by the new numbers, and the first time by all of the object's.
     pub fn set_numbers(&mut self, name: ObjectId, start: usize, numbers: &[i32])
         requires { start + length numbers.now ≤ length (values_of self.old name.number) }
         ensures { self.new ≡ with_numbers self.old name.number (overwritten (numbers_of self.old name.number) start numbers.now) }
     {
         let count = self.objects.len();
-        if name.number > count || count == 0 {
+        if name.number == 0 || name.number > count {
             return;
         }
-        if name.number == 0 {
-            empty(&mut self.objects[0]);
-        } else {
-            overwrite(&mut self.objects[name.number - 1], start, numbers);
-        }
+        overwrite(&mut self.objects[name.number - 1], start, numbers);
     }
 
     /// Gives an object these numbers as its values. There is no memory for more or fewer than it has, as in no accepted
-    /// program. The name 0 is as in `set`.
+    /// program.
     pub fn put_numbers(&mut self, name: ObjectId, numbers: &[i32]) -> Result<(), AllocError>
         ensures ok { IfOk result (λ _. self.new ≡ with_numbers self.old name.number numbers.now) }
         ensures err { OnErr result (self.new ≡ self.old) }
@@ -206,15 +197,6 @@ impl Store {
         self.objects.push_reserved(second);
         Ok(())
     }
-}
-
-/// Takes an object's class and values away.
-fn empty(object: &mut Object)
-    ensures view { object_view object.new ≡ record { class = 0; values = [] } }
-    ensures length { length object.new.values.items ≡ 0 }
-{
-    object.class = NO_CLASS;
-    object.values.clear();
 }
 
 /// The numbers of values, with 0 for a reference.

@@ -32,6 +32,12 @@ returns-then-some_misfit c =
     as_found scene.classes.now (shared_view scene.shared.now) (variables_view scene.locals.now.variables) scene.locals.now.frames (name_of scene.pending) (element_value c.args.buffer) (function_value c.args.function) (map actual_view c.args.actuals.now)
     _ (is_some scene.pending) (is_some_name scene.pending) (search rules)
 
+pub returns-then-not-go_together : goal.returns-then-not-go_together
+returns-then-not-go_together c =
+    let scene = c.args.scene in
+    as_found scene.classes.now (shared_view scene.shared.now) (variables_view scene.locals.now.variables) scene.locals.now.frames (name_of scene.pending) (element_value c.args.buffer) (function_value c.args.function) (map actual_view c.args.actuals.now)
+    _ (is_some scene.pending) (is_some_name scene.pending) (search rules)
+
 pub returns-then-lacks_room : goal.returns-then-lacks_room
 returns-then-lacks_room c =
     let scene = c.args.scene in

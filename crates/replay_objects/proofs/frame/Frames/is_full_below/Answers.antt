@@ -1,7 +1,7 @@
 use Rattle.std.proofs.Common.{◌≡◌, ◌+◌, ◌-◌, List, length, drop, slice_get, refl, sym, ap, ◌∙◌, arith}
 use Rattle.std.specs.Prelude.{nat_le}
 use Rattle.std.proofs.lemmas.Option.{slice_get_read}
-use Rattle.semantics.specs.Checks.{is_full}
+use Rattle.semantics.specs.CallSight.{is_full}
 use Rattle.semantics.specs.Thread.{Frame}
 use Rattle.replay_objects.proofs.FrameLemmas.{below_at}
 use Rattle.replay_objects.proofs.frame.Frames.is_full_below.Goals as goal

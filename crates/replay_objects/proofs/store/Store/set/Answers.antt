@@ -15,15 +15,15 @@ put_back heap zero place o v low at = absurd (low refl)
 put_back heap (suc i) place o v low at =
     let e : suc i - 1 ≡ i = omega arith in
     let there : object_at heap (suc i) ≡ Some o = ap (slice_get heap) (sym e) ∙ at in
-    rw there refl
+    rw (e, there) refl
 
-pub returns-else-name-eq0 : goal.returns-else-name-eq0
-returns-else-name-eq0 c =
+pub returns : goal.returns
+returns c =
     let objects = c.self.inside.objects.items in
     let place = c.args.name.number - 1 in
-    let o = c.index_mut-else-name-eq0.result.now in
+    let o = c.index_mut.result.now in
     let v = object_value_view c.args.value in
-    let here : slice_get objects place ≡ Some o = slice_get_read objects (length objects) place o refl (omega (arith, c.if-name-eq0.false, c.if-name-count.false, c.len-count.ensures, c.self.inside.objects.ok)) c.index_mut-else-name-eq0.ensures.value in
+    let here : slice_get objects place ≡ Some o = slice_get_read objects (length objects) place o refl (omega (arith, c.if-name-eq0.false, c.if-name-count.false, c.len-count.ensures, c.self.inside.objects.ok)) c.index_mut.ensures.value in
     let at : slice_get (map object_view objects) place ≡ Some (object_view o) = slice_get-map object_view objects place ∙ ap (option_map object_view) here in
     map-set object_view objects place c.put_value.new.object
     ∙ ap (λ (x : Object). slice_set (map object_view objects) place x) c.put_value.ensures.view

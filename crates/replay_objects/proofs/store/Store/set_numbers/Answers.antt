@@ -24,29 +24,29 @@ pub overwrite-requires-clause-room : goal.overwrite-requires-clause-room
 overwrite-requires-clause-room c =
     let objects = c.self.inside.objects.items in
     let place = c.args.name.number - 1 in
-    let o = c.index_mut-else-name-eq0.result.now in
-    let here : slice_get objects place ≡ Some o = slice_get_read objects (length objects) place o refl (omega (arith, c.if-name-eq0.false, c.if-name-count.false, c.len-count.ensures, c.self.inside.objects.ok)) c.index_mut-else-name-eq0.ensures.value in
+    let o = c.index_mut.result.now in
+    let here : slice_get objects place ≡ Some o = slice_get_read objects (length objects) place o refl (omega (arith, c.if-name-eq0.false, c.if-name-count.false, c.len-count.ensures, c.self.inside.objects.ok)) c.index_mut.ensures.value in
     let at : slice_get (map object_view objects) place ≡ Some (object_view o) = slice_get-map object_view objects place ∙ ap (option_map object_view) here in
     let values = ap (λ (h : Heap). values_of h c.args.name.number) (sym c.self.view_is) ∙ values_there (map object_view objects) c.args.name.number (object_view o) c.if-name-eq0.false at in
     omega (arith, c.requires, ap (λ (vs : List ObjectValue). length vs) values, length-map o.values.items object_value_view)
 
-pub invariant_of-self-else-name-eq0 : goal.invariant_of-self-else-name-eq0
-invariant_of-self-else-name-eq0 c =
+pub invariant_of-self : goal.invariant_of-self
+invariant_of-self c =
     let objects = c.self.inside.objects.items in
     let place = c.args.name.number - 1 in
-    let o = c.index_mut-else-name-eq0.result.now in
-    let here : slice_get objects place ≡ Some o = slice_get_read objects (length objects) place o refl (omega (arith, c.if-name-eq0.false, c.if-name-count.false, c.len-count.ensures, c.self.inside.objects.ok)) c.index_mut-else-name-eq0.ensures.value in
+    let o = c.index_mut.result.now in
+    let here : slice_get objects place ≡ Some o = slice_get_read objects (length objects) place o refl (omega (arith, c.if-name-eq0.false, c.if-name-count.false, c.len-count.ensures, c.self.inside.objects.ok)) c.index_mut.ensures.value in
     let short : length o.values.items < 2 ^ 31 = c.self.invariant.0 place o here in (
       each_set (λ (p : InMemory). length p.values.items < 2 ^ 31) objects place c.overwrite.new.object c.self.invariant.0 (omega (arith, short, c.overwrite.ensures.length)),
       each_set IsMarked objects place c.overwrite.new.object c.self.invariant.1 c.overwrite.ensures.mark,
     )
 
-pub returns-else-name-eq0 : goal.returns-else-name-eq0
-returns-else-name-eq0 c =
+pub returns : goal.returns
+returns c =
     let objects = c.self.inside.objects.items in
     let place = c.args.name.number - 1 in
-    let o = c.index_mut-else-name-eq0.result.now in
-    let here : slice_get objects place ≡ Some o = slice_get_read objects (length objects) place o refl (omega (arith, c.if-name-eq0.false, c.if-name-count.false, c.len-count.ensures, c.self.inside.objects.ok)) c.index_mut-else-name-eq0.ensures.value in
+    let o = c.index_mut.result.now in
+    let here : slice_get objects place ≡ Some o = slice_get_read objects (length objects) place o refl (omega (arith, c.if-name-eq0.false, c.if-name-count.false, c.len-count.ensures, c.self.inside.objects.ok)) c.index_mut.ensures.value in
     let at : slice_get (map object_view objects) place ≡ Some (object_view o) = slice_get-map object_view objects place ∙ ap (option_map object_view) here in
     map-set object_view objects place c.overwrite.new.object
     ∙ ap (λ (x : Object). slice_set (map object_view objects) place x) c.overwrite.ensures.view
