@@ -12,14 +12,12 @@ use Rattle.jni.specs.Prototype.{ResultKind, NewLocal}
 use Rattle.jni.specs.Table.{function_value}
 use Rattle.semantics.specs.Answer.{Answer, Calls, Ensures, Halts, Pushes, effect_of}
 use Rattle.semantics.specs.AnswerTable.{call_answer, method_called}
+use Rattle.semantics.specs.CallSight.{ArgumentSight, CallSight, call_seen}
+use Rattle.semantics.specs.Checks.{is_int, is_reference_result, is_void, calls_well, go_together, lacks_room, misfits, misses, trap_of, with_kinds, first_trap}
 use Rattle.semantics.specs.Arguments.{Actual, address_given, method_given, passed_value}
 use Rattle.semantics.specs.CallEffects.{CallResult, BufferResult, CallEffect, ScalarResult, Throws, Enters, Leaves, out_of_memory, refuses_frames, with_capacity}
 use Rattle.semantics.specs.CallEffects as effects
-use Rattle.semantics.specs.CallSight.{ArgumentSight, CallSight, call_seen}
-use Rattle.semantics.specs.CallStep.{after_call, after_refusal, call_step, effect_of_call, failure, is_zero, makes_objects, put, received, resumed, target_element, tell_copy}
-use Rattle.semantics.specs.CallTable.{is_int, is_reference_result, is_void}
-use Rattle.semantics.specs.CallTraps.{answered, calls_well, go_together, lacks_room, misfits, misses, trap_of, with_kinds}
-use Rattle.semantics.specs.Checks.{first_trap}
+use Rattle.semantics.specs.CallStep.{checked, after_call, after_refusal, call_step, effect_of_call, failure, is_zero, makes_objects, put, received, resumed, target_element, tell_copy}
 use Rattle.semantics.specs.Effect.{tasks_after}
 use Rattle.semantics.specs.Heap.{Heap}
 use Rattle.semantics.specs.Method.{MethodId}
@@ -29,8 +27,8 @@ use Rattle.semantics.specs.Thread.{BuffersInUse, Frame, Thread, Shared, Quiet, T
 use Rattle.semantics.specs.ThreadStep.{with_tasks}
 use Rattle.semantics.specs.Value.{Int, Trap, CallsTooDeep, DeletedReference, ExceptionPending, NoCapacity, NullReference, WrongObject}
 use Rattle.semantics.specs.Variable.{Buffer, Variables}
-use Rattle.semantics.proofs.CallTraps.{does_effect}
-use Rattle.replay_calls.specs.Answers.{Coming, Gave, Left, Stops, FitsCall, array_given, frames_with, left_of}
+use Rattle.semantics.proofs.CheckLaws.{lacks_without, passed, together_without}
+use Rattle.replay_calls.specs.Answers.{answered, Coming, Gave, Left, Stops, FitsCall, array_given, frames_with, left_of}
 use Rattle.replay_calls.specs.Answers as replay
 use Rattle.replay_steps.specs.Calls.{HasAnswer, MakesCall, lent_outcome, seen_by, wanted_element}
 use Rattle.replay_steps.specs.Steps.{Scene, Sees, calling_by, left_by, scene_with, waiting}
@@ -92,7 +90,7 @@ makes_as_many (Leaves made s t given) deep = refl
 
 module _ (unit : SourceUnit) (classes : Classes) (k : ℕ) (s : Shared) (vs : Variables) (frames : List Frame) (pending : Reference) (element : ElementType) (args : List Actual) where
   abbrev seen : ℕ → JniFunction → CallSight
-  seen callers f = call_seen s vs frames callers pending element f args
+  seen callers f = call_seen s vs frames callers pending f args
 
   answer_alike : (n : ℕ) (f : JniFunction) → call_answer unit classes k (seen n f) f ≡ call_answer unit classes k (seen 0 f) f
   unfolding call_answer
@@ -106,21 +104,7 @@ module _ (unit : SourceUnit) (classes : Classes) (k : ℕ) (s : Shared) (vs : Va
   answer_alike n (ReleaseBuffer CharsView) = refl
   answer_alike n f = refl
 
-  together_alike : (n : ℕ) (f : JniFunction) → go_together classes (seen n f) f ≡ go_together classes (seen 0 f) f
-  unfolding go_together
-  together_alike n (GetBuffer (ElementsCopy T)) = refl
-  together_alike n (GetBuffer ArrayView) = refl
-  together_alike n (GetBuffer CharsCopy) = refl
-  together_alike n (GetBuffer CharsView) = refl
-  together_alike n f = refl
-
-  room_alike : (n : ℕ) (f : JniFunction) (kind : ResultKind) → lacks_room classes (seen n f) f kind ≡ lacks_room classes (seen 0 f) f kind
-  room_alike n PopLocalFrame NewLocal = refl
-  room_alike n PopLocalFrame kind = refl
-  room_alike n f NewLocal = refl
-  room_alike n f kind = refl
-
-  trap_deep : (n : ℕ) (f : JniFunction) → trap_of classes (seen n f) f ≡ with_depth (trap_of classes (seen 0 f) f) (calls_method f && nat_le 64 (n + 1))
+  trap_deep : (n : ℕ) (f : JniFunction) → trap_of classes (seen n f) element f ≡ with_depth (trap_of classes (seen 0 f) element f) (calls_method f && nat_le 64 (n + 1))
   unfolding trap_of
   trap_deep n f =
       let tests : Bool → Bool → Option Trap = λ fit full. first_trap (
@@ -131,26 +115,9 @@ module _ (unit : SourceUnit) (classes : Classes) (k : ℕ) (s : Shared) (vs : Va
       ∷ (full, NoCapacity)
       ∷ (calls_method f && nat_le 64 (n + 1), CallsTooDeep)
       ∷ []) in
-      ap (λ (b : Bool). tests b (lacks_room classes (seen n f) f (prototype f).result)) (together_alike n f)
-      ∙ ap (tests (go_together classes (seen 0 f) f)) (room_alike n f (prototype f).result)
+      ap (λ (b : Bool). tests b (lacks_room classes (seen n f) f (prototype f).result)) (together_without classes (seen 0 f) (seen 0 f).monitor (seen 0 f).held n element f)
+      ∙ ap (tests (go_together classes (seen 0 f) element f)) (lacks_without classes (seen 0 f) (seen 0 f).monitor (seen 0 f).held n f (prototype f).result)
       ∙ last_check _ _ _ _ _ (calls_method f) (nat_le 64 (n + 1))
-
-  -- where the checks pass, a function that calls a method is given one
-  fourth_passes : (a b c d e g : Bool) → first_trap ((a, ExceptionPending) ∷ (b, DeletedReference) ∷ (c, NullReference) ∷ (d, WrongObject) ∷ (e, NoCapacity) ∷ (g, CallsTooDeep) ∷ []) ≡ None → d ≡ false
-  fourth_passes true b c d e g h = absurd (cc)
-  fourth_passes false true c d e g h = absurd (cc)
-  fourth_passes false false true d e g h = absurd (cc)
-  fourth_passes false false false true e g h = absurd (cc)
-  fourth_passes false false false false e g h = refl
-
-  fits_so : (a b : Bool) → (a || not b) ≡ false → b ≡ true
-  fits_so true b h = absurd (cc)
-  fits_so false true h = refl
-  fits_so false false h = absurd (cc)
-
-  passes_together : (f : JniFunction) → trap_of classes (seen 0 f) f ≡ None → go_together classes (seen 0 f) f ≡ true
-  unfolding trap_of
-  passes_together f none = fits_so _ (go_together classes (seen 0 f) f) (fourth_passes _ _ _ _ _ _ none)
 
 -- ---- the effect of an answer
 
@@ -159,7 +126,7 @@ module _ (unit : SourceUnit) (classes : Classes) (in_use : BuffersInUse) (k : �
   effect a = effect_of classes in_use k s t args a
 
   abbrev sight : JniFunction → CallSight
-  sight f = call_seen s t.variables t.frames 0 t.pending element f args
+  sight f = call_seen s t.variables t.frames 0 t.pending f args
 
   -- only a call of a method can be too deep
   abbrev either : List Frame → Bool → CallEffect
@@ -187,7 +154,7 @@ module _ (unit : SourceUnit) (classes : Classes) (in_use : BuffersInUse) (k : �
   method_there f returns None h = absurd (cc)
   method_there f returns (Some m) h = refl
 
-  by_calling : (f : JniFunction) (deep : Bool) → calls_method f ≡ true → go_together classes (sight f) f ≡ true
+  by_calling : (f : JniFunction) (deep : Bool) → calls_method f ≡ true → go_together classes (sight f) element f ≡ true
       → effect (answered (with_depth None deep) (call_answer unit classes k (sight f) f)) ≡ deepened (effect (call_answer unit classes k (sight f) f)) deep
   unfolding call_answer go_together
   by_calling CallStaticVoidMethod deep calls fit = by_method (method_given args 1) deep (method_there CallStaticVoidMethod is_void (method_given args 1) fit)
@@ -199,12 +166,12 @@ module _ (unit : SourceUnit) (classes : Classes) (in_use : BuffersInUse) (k : �
   unfolding effect_of
   halted trap deep = refl
 
-  by_checks : (f : JniFunction) (a : Answer) (deep : Bool) (o : Option Trap) → trap_of classes (sight f) f ≡ o → FitsCall s.heap (array_given t.variables args) f a
+  by_checks : (f : JniFunction) (a : Answer) (deep : Bool) (o : Option Trap) → trap_of classes (sight f) element f ≡ o → FitsCall s.heap (array_given t.variables args) f a
       → a ≡ answered o (call_answer unit classes k (sight f) f) → (b : Bool) → calls_method f ≡ b
       → effect (answered (with_depth o (b && deep)) (call_answer unit classes k (sight f) f)) ≡ deepened (effect a) deep
   by_checks f a deep (Some trap) trapped fits is b calls = halted trap deep ∙ ap (λ (x : Answer). deepened (effect x) deep) (sym is)
   by_checks f a deep None trapped fits is true calls =
-      by_calling f deep calls (passes_together unit classes k s t.variables t.frames t.pending element args f trapped)
+      by_calling f deep calls (passed classes (sight f) element f trapped).together
       ∙ ap (λ (x : Answer). deepened (effect x) deep) (sym is)
   by_checks f a deep None trapped fits is false calls = ap effect (sym is) ∙ never_deep a f deep fits calls
 
@@ -330,14 +297,27 @@ module _ (unit : SourceUnit) (classes : Classes) (in_use : BuffersInUse) (k : �
     steps false = refl
     steps true = refl
 
+    -- what the call sees
+    abbrev sees_here : CallSight
+    sees_here = call_seen s (variables_view vs) frames (length t.callers) pending f args
+
+    -- what it does, by what its checks find
+    abbrev by_found : Option Trap → Answer → CallEffect
+    by_found o b = effect_of classes in_use k s calls args (answered o b)
+
+    as_answered : (o : Option Trap) (b : Answer) → checked o (effect_of classes in_use k s calls args b) ≡ by_found o b
+    unfolding effect_of
+    as_answered (Some trap) b = refl
+    as_answered None b = refl
+
     -- the effect is that of the answer
     answers : effect_of_call unit classes in_use k s calls line target f args rest ≡ deepened answer_effect deep
     answers =
-        does_effect unit classes in_use k s calls line target f args rest
-        ∙ ap (λ (T : ElementType). effect_of classes in_use k s calls args (answered (trap_of classes (call_seen s (variables_view vs) frames (length t.callers) pending T f args) f) (call_answer unit classes k (call_seen s (variables_view vs) frames (length t.callers) pending T f args) f))) (any_line vs line i.purpose)
-        ∙ ap (λ (o : Option Trap). effect_of classes in_use k s calls args (answered o (call_answer unit classes k (call_seen s (variables_view vs) frames (length t.callers) pending (wanted_element vs i.purpose) f args) f))) (trap_deep unit classes k s (variables_view vs) frames pending (wanted_element vs i.purpose) args (length t.callers) f)
-        ∙ ap (λ (b : Answer). effect_of classes in_use k s calls args (answered (with_depth (trap_of classes (seen_by before i args) f) (calls_method f && deep)) b)) (answer_alike unit classes k s (variables_view vs) frames pending (wanted_element vs i.purpose) args (length t.callers) f)
-        ∙ by_checks unit classes in_use k s calls (wanted_element vs i.purpose) args f a deep (trap_of classes (seen_by before i args) f) refl has.fits has.is (calls_method f) refl
+        as_answered (trap_of classes sees_here (target_element (variables_view vs) target) f) (call_answer unit classes k sees_here f)
+        ∙ ap (λ (T : ElementType). by_found (trap_of classes sees_here T f) (call_answer unit classes k sees_here f)) (any_line vs line i.purpose)
+        ∙ ap (λ (o : Option Trap). by_found o (call_answer unit classes k sees_here f)) (trap_deep unit classes k s (variables_view vs) frames pending (wanted_element vs i.purpose) args (length t.callers) f)
+        ∙ ap (by_found (with_depth (trap_of classes (seen_by before i args) (wanted_element vs i.purpose) f) (calls_method f && deep))) (answer_alike unit classes k s (variables_view vs) frames pending (wanted_element vs i.purpose) args (length t.callers) f)
+        ∙ by_checks unit classes in_use k s calls (wanted_element vs i.purpose) args f a deep (trap_of classes (seen_by before i args) (wanted_element vs i.purpose) f) refl has.fits has.is (calls_method f) refl
 
     step_is : (refused : Bool) → call_step unit classes in_use k s t line target f args rest refused ≡ by_effect refused (deepened answer_effect deep)
     step_is refused =

@@ -7,3 +7,4 @@ mod WaitLemmas
 mod CallerLemmas
 mod AttemptLemmas
 pub mod SameLists
+mod FinishedTasks

@@ -26,8 +26,7 @@ use Rattle.replay_steps.specs.declared.activation.Outer.{Outer}
 use Rattle.replay_steps.specs.declared.activation.Work.{Work}
 use Rattle.replay_steps.proofs.ThreadLocals.{as_it_is, in_locals}
 use Rattle.semantics.specs.CallSight.{call_seen, sight_of_call}
-use Rattle.semantics.specs.CallTraps.{go_together, trap_of}
-use Rattle.semantics.proofs.CallTraps.{trap_is}
+use Rattle.semantics.specs.Checks.{go_together, trap_of}
 use Rattle.base.specs.Element.{JInt}
 use Rattle.replay_tasks.specs.Outcomes.{purpose_view}
 use Rattle.replay_tasks.specs.Tasks.{end_view, tasks_of_statements, task_view}
@@ -182,8 +181,8 @@ module _ (classes : Classes) (k : ℕ) (s : Shared) (vs : Contents) (frames : Li
   free_tasks (u ∷ rest) h = free_task u h
 
   -- a call of MonitorEnter is never too deep, and fills no buffer
-  entering_alike : (target : Target) (args : List Actual) → trap_of classes (call_seen s (variables_view vs) frames 0 pending JInt MonitorEnter args) MonitorEnter
-      ≡ trap_of classes (sight_of_call s caller (target_element (variables_view vs) target) MonitorEnter args) MonitorEnter
+  entering_alike : (target : Target) (args : List Actual) → trap_of classes (call_seen s (variables_view vs) frames 0 pending MonitorEnter args) JInt MonitorEnter
+      ≡ trap_of classes (sight_of_call s caller MonitorEnter args) (target_element (variables_view vs) target) MonitorEnter
   unfolding trap_of go_together
   entering_alike target args = refl
 
@@ -192,7 +191,7 @@ module _ (classes : Classes) (k : ℕ) (s : Shared) (vs : Contents) (frames : Li
       → (b && is_kept_out classes k s vs frames pending args) ≡ waits_with classes k s caller (cond b (Calls line target MonitorEnter args) (goes_on line (Invoke line target MonitorEnter) o))
   enters line target true args o =
       ap (λ (found : Option Trap). is_none found && is_owned_by_other k (monitor_of s.monitors (object_given args 0)))
-      (entering_alike target args ∙ sym (trap_is classes s caller (target_element (variables_view vs) target) args MonitorEnter))
+      (entering_alike target args)
   enters line target false args (Gives operands) = refl
   enters line target false args (Traps trap) = refl
   enters line target false args Stuck = refl

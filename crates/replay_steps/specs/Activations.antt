@@ -6,6 +6,7 @@ use Rattle.syntax.specs.declared.stmt.Stmt.{Stmt as StmtInMemory}
 use Rattle.syntax.specs.Views.{expr_tree, block_tree, stmt_tree}
 use Rattle.semantics.specs.Return.{return_step}
 use Rattle.semantics.specs.Heap.{Heap}
+use Rattle.semantics.specs.Sight.{Sight}
 use Rattle.semantics.specs.Task.{Task, Loop, task_of}
 use Rattle.semantics.specs.Term.{term_of}
 use Rattle.semantics.specs.Thread.{Thread, Shared, Quiet, PrintedNumber, Trapped, Advance, NoAdvance}
@@ -21,6 +22,7 @@ use Rattle.replay_tasks.specs.declared.outcome.Outcome.{Outcome}
 use Rattle.replay_tasks.specs.declared.outcome.Outcome.TheVariants as outcome
 use Rattle.replay_tasks.specs.declared.task.Task.{Task as TaskInMemory}
 use Rattle.replay_steps.specs.Steps.{Scene, calling_by, in_scene, scene_at, Sees, Does}
+use Rattle.replay_tasks.specs.Effects.{HasEffect}
 use Rattle.replay_tasks.specs.Outcomes.{result_view, variable_step, LeavesVariables, LeavesIf}
 use Rattle.replay_tasks.specs.Tasks.{branch_task, task_view, end_view, statements_in, tasks_of_statements, StatementsInRange, TaskInRange, EndInRange}
 use Rattle.replay_terms.specs.declared.term.Term.TheVariants as term
@@ -94,6 +96,17 @@ abbrev pub AdvancesAt : Turn → SharedInMemory → Activation → Option Object
 AdvancesAt turn shared old pending took shared' new pending' =
     Advances turn.refused (scene_at turn shared old.locals pending) old.work took
     (scene_at turn shared' new.locals pending') new.work
+
+-- a call goes on after a block whose statements are all done, or there is no block around it
+abbrev pub Leaves : Scene → Work → (possible : Bool) → Work → Type 0
+Leaves scene old true new = Advances false scene old outcome.Stays scene new
+Leaves scene old false new = Advances false scene old outcome.Impossible scene new
+
+-- the task that is begun has its value, and so it does this, whatever can be seen
+pub record IsSettled (w : Work) (took : Outcome) : Type 0 where
+  pub task : TaskInMemory
+  pub begun : w.task ≡ Some task
+  pub does : (sight : Sight) → HasEffect sight task took task
 
 -- a task is the one that a statement begins as
 pub record HasBegun (s : StmtInMemory) (o : Option TaskInMemory) : Type 0 where

@@ -21,11 +21,11 @@ use Rattle.replay_tasks.specs.declared.task.Task.{Task as TaskInMemory}
 use Rattle.replay_terms.specs.declared.reduction.Reduction.{Reduction as ReductionInMemory}
 use Rattle.replay_terms.specs.declared.reduction.Reduction.TheVariants as reduction
 use Rattle.replay_tasks.specs.Outcomes.{purpose_view}
-use Rattle.replay_calls.specs.Answers.{FitsCall, array_given}
+use Rattle.replay_calls.specs.Answers.{answered, FitsCall, array_given}
 use Rattle.semantics.specs.Answer.{Answer}
 use Rattle.semantics.specs.AnswerTable.{call_answer}
 use Rattle.semantics.specs.CallSight.{CallSight, call_seen}
-use Rattle.semantics.specs.CallTraps.{answered, trap_of}
+use Rattle.semantics.specs.Checks.{trap_of}
 use Rattle.replay_steps.specs.Steps.{Scene, Sees, in_scene, left_by}
 use Rattle.semantics.specs.EventViews.{trap_view}
 use Rattle.replay_terms.specs.Views.{Contents, operand_view, variables_view}
@@ -89,12 +89,11 @@ wanted_element vs p = target_element (variables_view vs) (purpose_view 0 p)
 -- what an invocation with these arguments sees in this scene, where no other call waits for it
 abbrev pub seen_by : Scene → Invocation → List Actual → CallSight
 seen_by scene i args =
-    call_seen scene.shared (variables_view scene.variables) scene.frames 0 scene.pending (wanted_element scene.variables i.purpose)
-    (function_value i.function) args
+    call_seen scene.shared (variables_view scene.variables) scene.frames 0 scene.pending (function_value i.function) args
 
 -- this is the answer to an invocation with these arguments, in this scene
 pub record HasAnswer (scene : Scene) (i : Invocation) (args : List Actual) (a : Answer) : Type 0 where
   pub is : a
-      ≡ answered (trap_of scene.classes (seen_by scene i args) (function_value i.function))
+      ≡ answered (trap_of scene.classes (seen_by scene i args) (wanted_element scene.variables i.purpose) (function_value i.function))
       (call_answer scene.unit scene.classes scene.thread (seen_by scene i args) (function_value i.function))
   pub fits : FitsCall scene.shared.heap (array_given (variables_view scene.variables) args) (function_value i.function) a

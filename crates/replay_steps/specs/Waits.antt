@@ -12,7 +12,7 @@ use Rattle.semantics.specs.Task.{Operand}
 use Rattle.semantics.specs.Thread.{Frame, Shared, Thread, monitor_of}
 use Rattle.semantics.specs.ThreadStep.{waits}
 use Rattle.semantics.specs.CallSight.{call_seen}
-use Rattle.semantics.specs.CallTraps.{trap_of}
+use Rattle.semantics.specs.Checks.{trap_of}
 use Rattle.replay_arguments.specs.Shares.{sight_in}
 use Rattle.replay_steps.specs.Activations.{IsAtStatement, tasks_left}
 use Rattle.replay_steps.specs.Steps.{Scene, Sees}
@@ -24,7 +24,7 @@ use Rattle.replay_terms.specs.Views.{Contents, operand_view, variables_view}
 -- a call of MonitorEnter passes all checks, and another thread than k owns its object
 abbrev pub is_kept_out : Classes → (k : ℕ) → Shared → Contents → List Frame → Reference → List Actual → Bool
 is_kept_out classes k s vs frames pending args =
-    is_none (trap_of classes (call_seen s (variables_view vs) frames 0 pending JInt MonitorEnter args) MonitorEnter)
+    is_none (trap_of classes (call_seen s (variables_view vs) frames 0 pending MonitorEnter args) JInt MonitorEnter)
     && is_owned_by_other k (monitor_of s.monitors (object_given args 0))
 
 -- Thread k, with these variables, frames and pending exception.

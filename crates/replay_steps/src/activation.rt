@@ -1,10 +1,11 @@
 //! Activations: calls in progress.
 
-ghost use Rattle.std.specs.Prelude.{◌≡◌, IfOk, IsSome, Some, None, []};
+ghost use Rattle.std.specs.Prelude.{◌≡◌, IfOk, IfSome, IsSome, Some, None, [], false};
 ghost use Rattle.class_rules.specs.Grown.{IsGrown};
 ghost use Rattle.semantics.specs.Task.{tasks_of};
-ghost use Rattle.replay_steps.specs.Activations.{tasks_left, IsAtStatement, IsInRange, AreSet, IsApplied, HasBegun, HasTurned, StepsTask, Advances, AdvancesAt};
-ghost use Rattle.replay_steps.specs.Attempts.{AttemptsCall};
+ghost use Rattle.replay_steps.specs.Activations.{tasks_left, IsAtStatement, IsInRange, IsSettled, AreSet, IsApplied, HasBegun, HasTurned, Leaves, StepsTask, Advances, AdvancesAt};
+ghost use Rattle.semantics.specs.Thread.{Shared as SharedOfThreads};
+ghost use Rattle.replay_steps.specs.Attempts.{AdvancesAnywhere, AttemptsCall};
 ghost use Rattle.replay_arguments.specs.Shares.{shared_view};
 ghost use Rattle.replay_steps.specs.Steps.{Scene, scene_at};
 ghost use Rattle.syntax.specs.Views.{expr_tree, block_tree};
@@ -18,11 +19,11 @@ use crate::step::step;
 use replay_arguments::{Locals, Shared, Turn};
 use replay_objects::Store;
 use replay_tasks::{Choice, End, Outcome, Statements, Task, loop_task, set_variables, task_of};
-use replay_terms::{Statics, Term, Value};
+use replay_terms::{Content, Statics, Term, Value};
 use semantics::ObjectId;
 use std::alloc::{AllocError, Global};
 use std::mem;
-use syntax::{Block, Expr, Stmt};
+use syntax::{Block, Expr, Name, Stmt};
 
 /// What is still to do around a block: what comes at the block's end, and the statements after it.
 #[derive(Drop)]
@@ -171,7 +172,29 @@ fn begin_branch<'a>(
     put_task(place, Some(Task::Branch(choice)));
 }
 
-/// Goes on after a block whose statements are all done: after an `if`, or with its loop's test.
+/// Goes on after a block whose statements are all done: after an `if`, or with its loop's test. False where no block is around it.
+fn leave<'a>(alloc: Global, work: &mut Work<'a>) -> Result<bool, AllocError>
+    requires range { IsInRange work.old }
+    requires task { work.old.task ≡ None }
+    requires rest { work.old.rest ≡ [] }
+    ensures step { IfOk result (λ possible. (scene : Scene) → Leaves scene work.old possible work.new) }
+    ensures range { IfOk result (λ _. IsInRange work.new) }
+{
+    let Some(outer) = work.outer.pop() else {
+        return Ok(false);
+    };
+    let Outer { end, rest } = outer;
+    work.rest = rest;
+    match end {
+        End::If => Ok(true),
+        End::Turn { line, test, body } => {
+            begin_turn(alloc, &mut work.task, line, test, body)?;
+            Ok(true)
+        }
+    }
+}
+
+/// The same at a turn, or with the turn's object refused.
 fn leave_block<'a>(turn: Turn<'a>, work: &mut Work<'a>) -> Result<Outcome<'a>, AllocError>
     requires range { IsInRange work.old }
     requires task { work.old.task ≡ None }
@@ -182,18 +205,10 @@ fn leave_block<'a>(turn: Turn<'a>, work: &mut Work<'a>) -> Result<Outcome<'a>, A
     if turn.refused {
         return Ok(Outcome::Impossible);
     }
-    let Some(outer) = work.outer.pop() else {
-        return Ok(Outcome::Impossible);
-    };
-    let Outer { end, rest } = outer;
-    work.rest = rest;
-    match end {
-        End::If => Ok(Outcome::Ends),
-        End::Turn { line, test, body } => {
-            begin_turn(turn.alloc, &mut work.task, line, test, body)?;
-            Ok(Outcome::Stays)
-        }
+    if leave(turn.alloc, work)? {
+        return Ok(Outcome::Stays);
     }
+    Ok(Outcome::Impossible)
 }
 
 /// Begins a block, with what comes at its end.
@@ -343,10 +358,140 @@ pub fn advance<'a>(
     Ok(outcome)
 }
 
-/// Lets the term of the task that is begun take a step, where that is all the call's next step does, and nothing is refused: most
-/// steps are such, and none of them needs to know whose turn it is, or has an outcome to hand on.
+/// Sets a variable to the value of the task that is begun, and begins what comes next.
 #[inline]
-pub fn attempt_step<'a>(shared: &Shared<'a>, activation: &mut Activation<'a>) -> Attempt
+fn finish_set<'a>(
+    alloc: Global,
+    activation: &mut Activation<'a>,
+    name: &'a Name,
+    value: Value,
+) -> Result<(), AllocError>
+    requires range { IsAtStatement activation.old.work }
+    requires settled { IsSettled activation.old.work (outcome.Sets name value) }
+    ensures step { IfOk result (λ _. (s : SharedOfThreads) → AdvancesAnywhere s activation.old outcome.Stays activation.new) }
+    ensures range { IfOk result (λ _. IsAtStatement activation.new.work) }
+{
+    activation
+        .locals
+        .variables
+        .set(name, Content::Number(value))?;
+    put_task(&mut activation.work.task, None);
+    begin(alloc, &mut activation.work)
+}
+
+/// Begins the block that the test of the task that is begun has chosen, and its first statement.
+#[inline]
+fn finish_test<'a>(
+    alloc: Global,
+    work: &mut Work<'a>,
+    block: Option<&'a Block>,
+    end: End<'a>,
+) -> Result<(), AllocError>
+    requires range { IsAtStatement work.old }
+    requires settled { IsSettled work.old (outcome.Enters block end) }
+    requires entered { OutcomeInRange (outcome.Enters block end) }
+    ensures step { IfOk result (λ _. (scene : Scene) → Advances false scene work.old outcome.Stays scene work.new) }
+    ensures range { IfOk result (λ _. IsAtStatement work.new) }
+{
+    enter_block(work, block, end)?;
+    begin(alloc, work)
+}
+
+/// Ends the task that is begun, a loop, and begins what comes next.
+#[inline]
+fn finish_loop<'a>(alloc: Global, work: &mut Work<'a>) -> Result<(), AllocError>
+    requires range { IsAtStatement work.old }
+    requires settled { IsSettled work.old outcome.Ends }
+    ensures step { IfOk result (λ _. (scene : Scene) → Advances false scene work.old outcome.Stays scene work.new) }
+    ensures range { IfOk result (λ _. IsAtStatement work.new) }
+{
+    put_task(&mut work.task, None);
+    begin(alloc, work)
+}
+
+/// Goes on after a block whose statements are all done, and begins what comes next.
+#[inline]
+fn finish_block<'a>(alloc: Global, work: &mut Work<'a>) -> Result<bool, AllocError>
+    requires range { IsAtStatement work.old }
+    requires task { work.old.task ≡ None }
+    ensures step { IfOk result (λ possible. (scene : Scene) → Leaves scene work.old possible work.new) }
+    ensures range { IfOk result (λ _. IsAtStatement work.new) }
+{
+    let possible = leave(alloc, work)?;
+    begin(alloc, work)?;
+    Ok(possible)
+}
+
+/// The truth that a term is, if it has its value and that is one.
+#[inline]
+fn truth_of(t: &Term<'_>) -> Option<bool>
+    ensures { IfSome result (λ b. t.now ≡ term.Done (value.Truth b)) }
+{
+    match t {
+        Term::Done(value) => match value {
+            Value::Truth(b) => Some(*b),
+            Value::Word(_) | Value::Int(_) | Value::Flag(_) => None,
+        },
+        _ => None,
+    }
+}
+
+/// Lets the task that is begun, or the end of the block, take its step, where the step is neither a term's nor a call's and changes nothing but
+/// the variables and the tasks.
+#[inline]
+fn finish<'a>(alloc: Global, activation: &mut Activation<'a>) -> Result<Attempt, AllocError>
+    requires { IsAtStatement activation.old.work }
+    ensures step { IfOk result (λ took. (s : SharedOfThreads) → AttemptsCall s activation.old took activation.new) }
+    ensures range { IfOk result (λ _. IsAtStatement activation.new.work) }
+{
+    let Some(task) = &activation.work.task else {
+        if finish_block(alloc, &mut activation.work)? {
+            return Ok(Attempt::Reduced);
+        }
+        return Ok(Attempt::Stuck);
+    };
+    match task {
+        Task::Set(a) => match a.term {
+            Term::Done(value) => {
+                let name = a.name;
+                finish_set(alloc, activation, name, value)?;
+            }
+            _ => return Ok(Attempt::Left),
+        },
+        Task::Loop(i) => {
+            let Some(goes) = truth_of(&i.term) else {
+                return Ok(Attempt::Left);
+            };
+            if goes {
+                let line = i.line;
+                let test = i.test;
+                let body = i.body;
+                let end = End::Turn { line, test, body };
+                finish_test(alloc, &mut activation.work, Some(body), end)?;
+            } else {
+                finish_loop(alloc, &mut activation.work)?;
+            }
+        }
+        Task::Branch(choice) => {
+            let Some(taken) = truth_of(&choice.test) else {
+                return Ok(Attempt::Left);
+            };
+            if taken {
+                let block = choice.block;
+                finish_test(alloc, &mut activation.work, Some(block), End::If)?;
+            } else {
+                let block = choice.otherwise;
+                finish_test(alloc, &mut activation.work, block, End::If)?;
+            }
+        }
+        _ => return Ok(Attempt::Left),
+    }
+    Ok(Attempt::Reduced)
+}
+
+/// Lets the term of the task that is begun take a step.
+#[inline]
+fn attempt_begun<'a>(shared: &Shared<'a>, activation: &mut Activation<'a>) -> Attempt
     requires { IsAtStatement activation.old.work }
     ensures step { AttemptsCall (shared_view shared.now) activation.old result activation.new }
     ensures range { IsAtStatement activation.new.work }
@@ -354,5 +499,23 @@ pub fn attempt_step<'a>(shared: &Shared<'a>, activation: &mut Activation<'a>) ->
     match &mut activation.work.task {
         Some(task) => attempt_task(shared, &activation.locals.variables, task),
         None => Attempt::Left,
+    }
+}
+
+/// Lets a call take its next step, where that is a term's, or changes nothing but the variables and the tasks, and nothing is refused: most
+/// steps are such, and none of them needs to know whose turn it is, or has an outcome to hand on.
+#[inline]
+pub fn attempt_step<'a>(
+    alloc: Global,
+    shared: &Shared<'a>,
+    activation: &mut Activation<'a>,
+) -> Result<Attempt, AllocError>
+    requires { IsAtStatement activation.old.work }
+    ensures step { IfOk result (λ took. AttemptsCall (shared_view shared.now) activation.old took activation.new) }
+    ensures range { IfOk result (λ _. IsAtStatement activation.new.work) }
+{
+    match attempt_begun(shared, activation) {
+        Attempt::Left => finish(alloc, activation),
+        took => Ok(took),
     }
 }

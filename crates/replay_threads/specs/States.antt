@@ -69,7 +69,7 @@ Leads unit w s e new false = world_step unit w s e ≡ None
 abbrev pub TakesEntry : SourceUnit → StateInMemory → Entry → (possible : Bool) → StateInMemory → Type 0
 TakesEntry unit old e possible new = (w : World) (s : State) → Stands unit w old s → Leads unit w s e new possible
 
--- where nothing is refused, a term's step of thread k is possible and leaves this, or isn't possible, or all is as it was
+-- where nothing is refused, a step of thread k that needs no turn is possible and leaves this, or isn't possible, or all is as it was
 abbrev pub AttemptsTurn : StateInMemory → ℕ → Attempt → StateInMemory → Type 0
 AttemptsTurn old k attempt.Reduced new = (unit : SourceUnit) → TakesEntry unit old (entry.Step k false) true new
 AttemptsTurn old k attempt.Stuck new = (unit : SourceUnit) → TakesEntry unit old (entry.Step k false) false new

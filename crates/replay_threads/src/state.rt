@@ -224,16 +224,16 @@ fn take_whole_turn<'a>(
     note(state, k, took)
 }
 
-/// Takes the step of thread `k`, which is at this place and can step, where it is a term's alone; false where it isn't possible, and
-/// none where there is more to do.
+/// Takes the step of thread `k`, which is at this place and can step, where it is a term's or changes nothing but variables and tasks; all
+/// is as it was where there is more to do.
 #[inline]
-fn attempt_turn(state: &mut State<'_>, place: usize) -> Attempt
+fn attempt_turn(alloc: Global, state: &mut State<'_>, place: usize) -> Result<Attempt, AllocError>
     requires range { AreInRange state.old.threads.items }
     requires there { place < length state.old.threads.items }
-    ensures step { (k : ℕ) → IsLiveAt state.old k place → AttemptsTurn state.old k result state.new }
-    ensures range { AreInRange state.new.threads.items }
+    ensures step { IfOk result (λ took. (k : ℕ) → IsLiveAt state.old k place → AttemptsTurn state.old k took state.new) }
+    ensures range { IfOk result (λ _. AreInRange state.new.threads.items) }
 {
-    try_step(&state.shared, &mut state.threads[place])
+    try_step(alloc, &state.shared, &mut state.threads[place])
 }
 
 /// The same, whatever the step does.
@@ -257,7 +257,7 @@ fn take_turn<'a>(
     if refused {
         return take_whole_turn(alloc, functions, state, k, place, true);
     }
-    match attempt_turn(state, place) {
+    match attempt_turn(alloc, state, place)? {
         Attempt::Reduced => Ok(true),
         Attempt::Stuck => Ok(false),
         Attempt::Left => take_whole_turn(alloc, functions, state, k, place, false),

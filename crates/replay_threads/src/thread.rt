@@ -495,16 +495,20 @@ pub(crate) fn is_waiting<'a>(
     }
 }
 
-/// Lets the term of a thread's task take a step, where that is all that the thread's next step does, and nothing is refused.
+/// Lets a thread take its next step, where that is a term's, or changes nothing but variables and tasks, and nothing is refused.
 #[inline]
-pub(crate) fn try_step<'a>(shared: &Shared<'a>, thread: &mut Thread<'a>) -> Attempt
+pub(crate) fn try_step<'a>(
+    alloc: Global,
+    shared: &Shared<'a>,
+    thread: &mut Thread<'a>,
+) -> Result<Attempt, AllocError>
     requires { ThreadInRange thread.old }
-    ensures step { AttemptsStep (shared_view shared.now) thread.old result thread.new }
-    ensures range { ThreadInRange thread.new }
+    ensures step { IfOk result (λ took. AttemptsStep (shared_view shared.now) thread.old took thread.new) }
+    ensures range { IfOk result (λ _. ThreadInRange thread.new) }
 {
     match &mut thread.activation {
-        Some(activation) => attempt_step(shared, activation),
-        None => Attempt::Left,
+        Some(activation) => attempt_step(alloc, shared, activation),
+        None => Ok(Attempt::Left),
     }
 }
 

@@ -1,15 +1,16 @@
-use Rattle.std.proofs.Common.{subst}
+use Rattle.std.proofs.Common.{◌≡◌, IfOk, subst}
+use Rattle.std.proofs.lemmas.Result.{IfOk-weaker}
 use Rattle.replay_arguments.specs.Shares.{shared_view}
-use Rattle.replay_steps.specs.Activations.{BegunInRange}
-use Rattle.replay_steps.proofs.AttemptLemmas.{call_attempted, range_kept}
+use Rattle.replay_steps.specs.declared.activation.Activation.{Activation}
+use Rattle.replay_steps.specs.declared.attempt.Attempt.{Attempt}
+use Rattle.replay_steps.specs.Attempts.{AttemptsCall}
 use Rattle.replay_steps.proofs.activation.attempt_step.Goals as goal
 
-pub attempt_task-requires : goal.attempt_task-requires
-attempt_task-requires c = subst BegunInRange c.in-Some.is c.requires.range.begun
-
-pub returns-in-Some-clause-step : goal.returns-in-Some-clause-step
-returns-in-Some-clause-step c =
-    call_attempted (shared_view c.args.shared.now) c.args.activation.now c.in-Some.task c.attempt_task.new.task c.in-Some.is c.attempt_task.result c.attempt_task.ensures.step
-
-pub returns-in-Some-clause-range : goal.returns-in-Some-clause-range
-returns-in-Some-clause-range c = range_kept c.args.activation.now.work c.attempt_task.new.task c.requires c.attempt_task.ensures.range
+pub returns-in-Left-clause-step : goal.returns-in-Left-clause-step
+returns-in-Left-clause-step c =
+    let s = shared_view c.args.shared.now in
+    let old = c.args.activation.now in
+    let stood = c.attempt_begun.new.activation in
+    let new = c.finish.new.activation in
+    let same : stood ≡ old = subst (λ (r : Attempt). AttemptsCall s old r stood) c.in-Left.is c.attempt_begun.ensures.step in
+    subst (λ (a : Activation). IfOk c.finish.result (λ took. AttemptsCall s a took new)) same (IfOk-weaker c.finish.result _ _ (λ took does. does s) c.finish.ensures.step)

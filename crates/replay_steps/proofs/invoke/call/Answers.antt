@@ -4,29 +4,27 @@ use Rattle.jni.specs.Table.{Facts, function_value, result_value}
 use Rattle.syntax.specs.Views.{unit_tree}
 use Rattle.semantics.specs.Answer.{Answer}
 use Rattle.semantics.specs.AnswerTable.{call_answer}
+use Rattle.semantics.specs.Checks.{trap_of}
 use Rattle.semantics.specs.Arguments.{Actual}
-use Rattle.semantics.specs.CallSight.{call_seen}
-use Rattle.semantics.specs.CallTraps.{answered, trap_of}
 use Rattle.semantics.specs.Views.{name_of}
 use Rattle.replay_arguments.specs.Actuals.{actual_view}
 use Rattle.replay_arguments.specs.Shares.{shared_view}
-use Rattle.replay_calls.specs.Answers.{CarriesOut, FitsCall, answer_view, array_given}
+use Rattle.replay_calls.specs.Answers.{answered, CarriesOut, FitsCall, answer_view, array_given}
 use Rattle.replay_calls.specs.declared.carry_out.Done.{Done}
 use Rattle.replay_tasks.specs.declared.task.Invocation.{Invocation}
 use Rattle.replay_terms.specs.Views.{in_use_view, variables_view}
-use Rattle.replay_steps.specs.Calls.{HasAnswer, MakesCall, wanted_element}
+use Rattle.replay_steps.specs.Calls.{HasAnswer, MakesCall, seen_by, wanted_element}
 use Rattle.replay_steps.specs.Steps.{Scene, scene_of}
 use Rattle.replay_steps.proofs.CallLemmas.{call_gives, call_halts, call_lends, call_waits}
 use Rattle.replay_steps.proofs.invoke.call.Goals as goal
 
 -- the answer, by the element type that is wanted
 has_answer : (scene : Scene) (i : Invocation) (args : List Actual) (a : Answer) (T : ElementType) → T ≡ wanted_element scene.variables i.purpose
-    → a ≡ answered (trap_of scene.classes (call_seen scene.shared (variables_view scene.variables) scene.frames 0 scene.pending T (function_value i.function) args) (function_value i.function))
-    (call_answer scene.unit scene.classes scene.thread (call_seen scene.shared (variables_view scene.variables) scene.frames 0 scene.pending T (function_value i.function) args) (function_value i.function))
+    → a ≡ answered (trap_of scene.classes (seen_by scene i args) T (function_value i.function))
+    (call_answer scene.unit scene.classes scene.thread (seen_by scene i args) (function_value i.function))
     → FitsCall scene.shared.heap (array_given (variables_view scene.variables) args) (function_value i.function) a → HasAnswer scene i args a
 has_answer scene i args a T same is fits = record {
-  is = is ∙ ap (λ (V : ElementType). answered (trap_of scene.classes (call_seen scene.shared (variables_view scene.variables) scene.frames 0 scene.pending V (function_value i.function) args) (function_value i.function))
-      (call_answer scene.unit scene.classes scene.thread (call_seen scene.shared (variables_view scene.variables) scene.frames 0 scene.pending V (function_value i.function) args) (function_value i.function))) same;
+  is = is ∙ ap (λ (V : ElementType). answered (trap_of scene.classes (seen_by scene i args) V (function_value i.function)) (call_answer scene.unit scene.classes scene.thread (seen_by scene i args) (function_value i.function))) same;
   fits = fits;
 }
 

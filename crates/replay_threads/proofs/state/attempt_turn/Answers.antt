@@ -1,5 +1,6 @@
 use Rattle.std.proofs.Common.{length, refl}
 use Rattle.std.proofs.lemmas.Option.{slice_get_read}
+use Rattle.std.proofs.lemmas.Result.{IfOk-weaker}
 use Rattle.replay_threads.proofs.AttemptedSteps.{turn_attempted}
 use Rattle.replay_threads.proofs.StateLemmas.{range_at, range_set}
 use Rattle.replay_threads.proofs.state.attempt_turn.Goals as goal
@@ -15,7 +16,9 @@ returns-clause-step c =
     let ts = c.args.state.now.threads.items in
     let t = c.index_mut.result.now in
     let at = slice_get_read ts (length ts) c.args.place t refl c.requires.there c.index_mut.ensures.value in
-    λ k live. turn_attempted c.args.state.now k c.args.place t c.try_step.new.thread c.requires.range at live _ c.try_step.result c.try_step.ensures.step
+    IfOk-weaker c.try_step.result _ _ (λ took does. λ k live.
+    turn_attempted c.args.state.now k c.args.place t c.try_step.new.thread c.requires.range at live _ took does) c.try_step.ensures.step
 
 pub returns-clause-range : goal.returns-clause-range
-returns-clause-range c = range_set c.args.state.now.threads.items c.args.place c.try_step.new.thread c.requires.range c.try_step.ensures.range
+returns-clause-range c =
+    IfOk-weaker c.try_step.result _ _ (λ took range. range_set c.args.state.now.threads.items c.args.place c.try_step.new.thread c.requires.range range) c.try_step.ensures.range

@@ -1,4 +1,5 @@
 use Rattle.std.proofs.Common.{refl, subst}
+use Rattle.std.proofs.lemmas.Result.{IfOk-weaker}
 use Rattle.replay_arguments.specs.Shares.{shared_view}
 use Rattle.replay_threads.specs.Threads.{WorkInRange}
 use Rattle.replay_threads.proofs.AttemptedSteps.{attempted}
@@ -10,7 +11,8 @@ attempt_step-requires c = subst WorkInRange c.in-Some.is c.requires.work
 
 pub returns-in-Some-clause-step : goal.returns-in-Some-clause-step
 returns-in-Some-clause-step c =
-    attempted (shared_view c.args.shared.now) c.args.thread.now c.in-Some.activation c.attempt_step.new.activation c.in-Some.is c.attempt_step.result c.attempt_step.ensures.step
+    IfOk-weaker c.attempt_step.result _ _ (λ took does.
+    attempted (shared_view c.args.shared.now) c.args.thread.now c.in-Some.activation c.attempt_step.new.activation c.in-Some.is took does) c.attempt_step.ensures.step
 
 pub returns-in-Some-clause-range : goal.returns-in-Some-clause-range
-returns-in-Some-clause-range c = range_begun c.args.thread.now _ refl c.attempt_step.ensures.range c.requires
+returns-in-Some-clause-range c = IfOk-weaker c.attempt_step.result _ _ (λ took range. range_begun c.args.thread.now _ refl range c.requires) c.attempt_step.ensures.range
