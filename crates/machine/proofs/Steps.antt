@@ -91,10 +91,10 @@ threads_next s k shared t (event.Trapped trap line) = refl
 abbrev pub StepsAlways : Lowered → World → (k : ℕ) → (store store' : Store) → Thread → Thread → (refused : Bool) → Event → Type 0
 StepsAlways p w k store store' t after refused e = HoldsAlways p w k store t (λ others own shared s. Advances p w store store' others k own shared s after refused e)
 
--- the same of a step without a refusal that is known not to wait, and leaves the store as it was
-abbrev pub StepsFreely : Lowered → World → (k : ℕ) → Store → Thread → Thread → Event → Type 0
-StepsFreely p w k store t after e =
-    (others : Acquired) (own : ThreadOwners) (shared : Shared) (s : source.Thread) → Stands p w store others k own shared s t → (waits w.classes k shared s ≡ false) × Advances p w store store others k own shared s after false e
+-- the same of a step without a refusal that is known not to wait
+abbrev pub StepsFreely : Lowered → World → (k : ℕ) → (store later : Store) → Thread → Thread → Event → Type 0
+StepsFreely p w k store later t after e =
+    (others : Acquired) (own : ThreadOwners) (shared : Shared) (s : source.Thread) → Stands p w store others k own shared s t → (waits w.classes k shared s ≡ false) × Advances p w store later others k own shared s after false e
 
 -- what prints nothing
 pub none_printed : (printed : List Printed) (k : ℕ) (e : Event) → IsSilent e → printed_after printed k e ≡ printed
@@ -399,20 +399,20 @@ module _ (p : Lowered) (world : World) (store : Store) (ts : List Thread) (print
   steps_by store' after advanced.Refused goes live free advances left = steps_on store' after true event.Quiet goes live free advances (λ h. refl) (λ h. left refl)
 
   -- the same of a step that is known not to wait
-  module _ (after : Thread) (e : Event) (freely : StepsFreely p world k store t after e) where
+  module _ (later : Store) (after : Thread) (e : Event) (freely : StepsFreely p world k store later t after e) where
     pub is_free : Free
     is_free = waits_here ∙ (freely rest (owners k) c.state.shared the_thread.source stands).0
 
-    advances_freely : StepsAlways p world k store store t after false e
+    advances_freely : StepsAlways p world k store later t after false e
     advances_freely others own shared s shares h steady free = (freely others own shared s (shares, h, steady)).1
 
     pub make_freely : stop ≡ None → t.ending ≡ Unfinished
-        → (sizes (made (unit_tree p.unit) world c.state k) ≤ left_of store.heap) × (layout_of store.heap ≡ with_objects (layout_of store.heap) (next_name c.state.shared.heap) (made (unit_tree p.unit) world c.state k))
-        × (slices_of store.heap.marking ≡ slices_of store.heap.marking)
-    make_freely goes live = did_make store after e goes live is_free advances_freely
+        → (sizes (made (unit_tree p.unit) world c.state k) ≤ left_of store.heap) × (layout_of later.heap ≡ with_objects (layout_of store.heap) (next_name c.state.shared.heap) (made (unit_tree p.unit) world c.state k))
+        × (slices_of later.heap.marking ≡ slices_of store.heap.marking)
+    make_freely goes live = did_make later after e goes live is_free advances_freely
 
-    pub steps_freely : stop ≡ None → t.ending ≡ Unfinished → Corresponds p world store (slice_set ts i after) (printed_after printed k e) (stop_after stop k e) (journal ++ Step k false ∷ [])
-    steps_freely goes live = steps_on store after false e goes live is_free advances_freely (λ h. absurd (cc)) (λ h. absurd (cc))
+    pub steps_freely : stop ≡ None → t.ending ≡ Unfinished → Corresponds p world later (slice_set ts i after) (printed_after printed k e) (stop_after stop k e) (journal ++ Step k false ∷ [])
+    steps_freely goes live = steps_on later after false e goes live is_free advances_freely (λ h. absurd (cc)) (λ h. absurd (cc))
 
   -- a step that was refused had no room, and left the heap as it was
   pub short_by : (store' : Store) (after : Thread) (x : Advanced) → stop ≡ None → t.ending ≡ Unfinished → Free → AdvancesAlways p world k store store' t after x

@@ -51,6 +51,7 @@ use Rattle.machine.specs.declared.turn.Turn.{Turn as Answer}
 use Rattle.machine.specs.declared.turn.Turn.TheVariants as turn
 use Rattle.machine.specs.Writing.{Writing}
 use Rattle.semantics.specs.declared.event.Stop.{Stop}
+use Rattle.machine_threads.specs.Callers.{owner_at}
 use Rattle.machine_scenes.specs.declared.activation.Activation.{Activation}
 use Rattle.machine_scenes.specs.declared.store.Store.{Store}
 use Rattle.machine_scenes.specs.Buffers.{Acquired}
@@ -426,18 +427,20 @@ pub record CanGoOn (p : Lowered) (w : World) (store : Store) (threads : List Thr
   pub at : slice_get threads index ≡ Some thread
   pub lives : thread.ending ≡ Unfinished
 
--- and this call of it is in progress, in a function of this code
+-- and this call of it is in progress, in a function of this code, with this exception pending, or none; what the call copies has this owner
 pub record CanGoOnIn (p : Lowered) (w : World) (store : Store) (threads : List Thread) (index : ℕ) (printed : List Printed)
-    (journal : List Entry) (k : ℕ) (thread : Thread) (code : Listing) (call : Activation) : Type 0 where
+    (journal : List Entry) (k : ℕ) (thread : Thread) (code : Listing) (call : Activation) (pending : Option ℕ) (owner : ℕ) : Type 0 where
   pub goes_on : CanGoOn p w store threads index printed journal k thread
   pub in_progress : thread.call ≡ Some call
   pub of_function : slice_get p.codes call.function ≡ Some code
+  pub pending_is : thread.pending ≡ pending
+  pub owner_is : owner ≡ owner_at k (length thread.callers.items)
 
--- it took so many turns, each with a step that changed no other thread, nor the store, and printed nothing
-pub record WentOn (p : Lowered) (w : World) (store : Store) (threads : List Thread) (index : ℕ) (printed : List Printed)
+-- it took so many turns, each with a step that changed no other thread, and printed nothing
+pub record WentOn (p : Lowered) (w : World) (first store : Store) (threads : List Thread) (index : ℕ) (printed : List Printed)
     (old : List Entry) (k turns : ℕ) (after : Thread) (stop : Option Stop) (journal : List Entry) : Type 0 where
   pub stands : Corresponds p w store (slice_set threads index after) printed stop journal
-  pub along : RunsAlong (seen p w store old) (seen p w store journal) (replicate turns (Turn k))
+  pub along : RunsAlong (seen p w first old) (seen p w store journal) (replicate turns (Turn k))
 
 -- the steps of a beginning of the schedule were taken, and the next word is one at which a run ends by this fault
 pub record RunsInto (old new : Run) (schedule : Schedule) (fault : RunFault) : Type 0 where

@@ -95,7 +95,8 @@ impl Machine<'_> {
     /// Lets thread `k` take steps one after another, no more than this many, and answers how many it took, and whether it goes on
     /// with an instruction of another kind.
     /// They go on as long as its next instruction works on the stack and the number slots alone, or reads beside them whether
-    /// a variable is NULL or an element of a buffer, and the journal has memory for its entry.
+    /// a variable is NULL or an element of a buffer, or calls a function of the JNI whose answer is seen at once, and the journal
+    /// has memory for its entry.
     #[inline(always)]
     fn run_plainly(&mut self, k: u8, most: u32) -> Ran
         requires counted { 0 < k }
@@ -116,7 +117,8 @@ impl Machine<'_> {
         let most = self.journal.most_steps(most);
         take_plainly(
             &self.program,
-            &self.store,
+            &self.world,
+            &mut self.store,
             thread,
             &mut self.stop,
             &mut self.journal,

@@ -7,7 +7,7 @@ use Rattle.jni.specs.Table.{function_value}
 use Rattle.syntax.specs.Views.{unit_tree}
 use Rattle.semantics.specs.CallEffects.{CallEffect, Halts}
 use Rattle.semantics.specs.CallStep.{effect_of_call, trap_of_call}
-use Rattle.semantics.specs.CallTable.{call_effect}
+use Rattle.semantics.specs.AnswerTable.{call_effect}
 use Rattle.semantics.specs.Effect.{Effect, effect_of}
 use Rattle.semantics.specs.Task.{Task}
 use Rattle.semantics.specs.Thread.{BuffersInUse, Shared, Thread, sight_of}

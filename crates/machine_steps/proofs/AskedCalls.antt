@@ -53,7 +53,9 @@ use Rattle.tables.specs.Locals.{LocalTable}
 use Rattle.machine_scenes.specs.Locals.{locals_after}
 use Rattle.machine_scenes.proofs.LocalFrames.{full_where}
 use Rattle.machine_steps.proofs.StaticArguments.{static_held}
-use Rattle.semantics.specs.Checks.{is_full}
+use Rattle.semantics.specs.AnswerTable.{call_effect}
+use Rattle.semantics.specs.CallSight.{is_full}
+use Rattle.semantics.specs.Checks.{frames_after as source_frames_after}
 use Rattle.semantics.specs.ThreadStep.{next_effect}
 use Rattle.machine_calls.proofs.HeldStatics.{place_below}
 use Rattle.std.specs.Prelude.{◌&&◌}
@@ -61,7 +63,6 @@ use Rattle.jni.specs.Prototype.{NewGlobal, NewWeak, GivesFlag, GivesInt, GivesFi
 use Rattle.semantics.specs.Object.{sizes}
 use Rattle.semantics.specs.CallEffects.{Halts}
 use Rattle.semantics.specs.CallStep.{after_call, checked, effect_of_call}
-use Rattle.semantics.specs.CallTable.{call_effect}
 use Rattle.semantics.specs.Value.{Trap as SourceTrap}
 use Rattle.machine_answers.specs.declared.answer.Answer.{Answer}
 use Rattle.machine_answers.specs.declared.answer.Given.{Given}
@@ -76,7 +77,6 @@ use Rattle.semantics.specs.EventViews.{trap_view}
 use Rattle.machine_answers.proofs.CallTraps.{room_left}
 use Rattle.machine_steps.proofs.EffectFrames.{left_is}
 use Rattle.machine_scenes.proofs.LocalFrames.{frames_left as frames_after_agree}
-use Rattle.semantics.specs.Checks.{frames_after as source_frames_after}
 use Rattle.semantics.specs.ThreadStep.{after_effect}
 use Rattle.semantics.proofs.HeapGrows.{effect_keeps}
 use Rattle.machine_steps.proofs.CellsMade.{call_cells}

@@ -13,7 +13,7 @@ use Rattle.syntax.specs.Views.{unit_tree}
 use Rattle.semantics.specs.Arguments.{Actual, address_given}
 use Rattle.semantics.specs.CallEffects.{CallEffect, CallResult}
 use Rattle.semantics.specs.CallStep.{call_step, tell_copy, trap_of_call}
-use Rattle.semantics.specs.CallTable.{call_effect}
+use Rattle.semantics.specs.AnswerTable.{call_effect}
 use Rattle.semantics.specs.Checks.{frames_after as source_frames_after}
 use Rattle.semantics.specs.Effect.{Calls, Effect, NoEffect, effect_of}
 use Rattle.semantics.specs.Object.{sizes}

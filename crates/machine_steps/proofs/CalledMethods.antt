@@ -41,7 +41,8 @@ use Rattle.machine_threads.specs.declared.thread.Entering.{Entering}
 use Rattle.semantics.specs.Activation.{class_of_function}
 use Rattle.semantics.specs.Arguments.{Actual, NumberActual, ReferenceActual, method_given, passed_value}
 use Rattle.semantics.specs.CallStep.{target_element, trap_of_call}
-use Rattle.semantics.specs.CallTable.{all_pass, passes}
+use Rattle.semantics.specs.CallSight.{argument_seen}
+use Rattle.semantics.specs.Checks.{all_pass, passes}
 use Rattle.semantics.specs.Effect.{Calls, effect_of}
 use Rattle.semantics.specs.Heap.{Heap}
 use Rattle.semantics.specs.Method.{MethodId}
@@ -65,21 +66,21 @@ both_hold true b h = (refl, h)
 both_hold false b h = absurd (cc)
 
 -- what passes fits
-one_fits : (classes : Classes) (heap : Heap) (buffer : ElementType) (args : List Actual) (space : Space) (type : ParameterType) (a : Actual) (x : Value) → passes classes heap buffer args type a ≡ true → ValueAgrees space x (passed_value a) → ArgumentFits type (passed_value a)
-one_fits classes heap buffer args space IntParameter (NumberActual z) (Word n) h agrees = agrees.0
-one_fits classes heap buffer args space IntParameter (NumberActual z) Null h agrees = absurd agrees
-one_fits classes heap buffer args space IntParameter (NumberActual z) (Address b) h agrees = absurd agrees
-one_fits classes heap buffer args space (ReferenceParameter type) (ReferenceActual y r) x h agrees = tt
-one_fits classes heap buffer args space type a x h agrees = absurd (cc)
+one_fits : (heap : Heap) (space : Space) (type : ParameterType) (a : Actual) (x : Value) → passes type (argument_seen heap (Some a)) ≡ true → ValueAgrees space x (passed_value a) → ArgumentFits type (passed_value a)
+one_fits heap space IntParameter (NumberActual z) (Word n) h agrees = agrees.0
+one_fits heap space IntParameter (NumberActual z) Null h agrees = absurd agrees
+one_fits heap space IntParameter (NumberActual z) (Address b) h agrees = absurd agrees
+one_fits heap space (ReferenceParameter type) (ReferenceActual y r) x h agrees = tt
+one_fits heap space type a x h agrees = absurd (cc)
 
-all_fit : (classes : Classes) (heap : Heap) (buffer : ElementType) (args : List Actual) (space : Space) (ps : List Parameter) (more : List Actual) (values : List Value) → all_pass classes heap buffer args ps more ≡ true → ValuesAgree space values (map passed_value more) → ArgumentsFit ps (map passed_value more)
-all_fit classes heap buffer args space [] [] values h agree = tt
-all_fit classes heap buffer args space [] (a ∷ more) values h agree = absurd (cc)
-all_fit classes heap buffer args space (p ∷ ps) [] values h agree = absurd (cc)
-all_fit classes heap buffer args space (p ∷ ps) (a ∷ more) [] h agree = absurd agree
-all_fit classes heap buffer args space (p ∷ ps) (a ∷ more) (x ∷ values) h agree =
-    let parts = both_hold (passes classes heap buffer args p.type a) (all_pass classes heap buffer args ps more) h in
-    (one_fits classes heap buffer args space p.type a x parts.0 agree.0, all_fit classes heap buffer args space ps more values parts.1 agree.1)
+all_fit : (heap : Heap) (space : Space) (ps : List Parameter) (more : List Actual) (values : List Value) → all_pass ps (map (λ (a : Actual). argument_seen heap (Some a)) more) ≡ true → ValuesAgree space values (map passed_value more) → ArgumentsFit ps (map passed_value more)
+all_fit heap space [] [] values h agree = tt
+all_fit heap space [] (a ∷ more) values h agree = absurd (cc)
+all_fit heap space (p ∷ ps) [] values h agree = absurd (cc)
+all_fit heap space (p ∷ ps) (a ∷ more) [] h agree = absurd agree
+all_fit heap space (p ∷ ps) (a ∷ more) (x ∷ values) h agree =
+    let parts = both_hold (passes p.type (argument_seen heap (Some a))) (all_pass ps (map (λ (b : Actual). argument_seen heap (Some b)) more)) h in
+    (one_fits heap space p.type a x parts.0 agree.0, all_fit heap space ps more values parts.1 agree.1)
 
 -- a class that is found is among the objects made at load
 class_made : (w : World) (o : Option Identifier) (c : ℕ) → option_and_then (class_named w.classes) o ≡ Some c → (0 < c) × (c ≤ length (loaded_objects w))
@@ -160,7 +161,7 @@ module _ (p : Lowered) (w : World) (store : Store) (activation : Activation) (fu
         of_class = of_class;
         class_made = class_made w (native_class the_method.method.function.name) x.class.number of_class;
         arguments = subst (λ (l : List Value). ValuesAgree store.heap l (map passed_value (drop 2 it.args))) (sym of_arguments) values;
-        fit = all_fit w.classes shared.heap (target_element s.variables it.target) it.args store.heap the_method.method.function.parameters (drop 2 it.args) _ the_method.passes values;
+        fit = all_fit shared.heap store.heap the_method.method.function.parameters (drop 2 it.args) _ the_method.passes values;
         few = few_given it.args count;
       }))
     where

@@ -9,7 +9,8 @@ use Rattle.jni.specs.JniFunction.{JniFunction, prototype}
 use Rattle.jni.specs.Prototype.{ResultKind}
 use Rattle.syntax.specs.Tree.{SourceUnit}
 use Rattle.semantics.specs.Arguments.{Actual}
-use Rattle.semantics.specs.CallEffects.{CallEffect, Enters, Halts, Leaves, Throws, enter_effect, exit_effect, frames_effect, refuses_frames, release_effect, with_capacity}
+use Rattle.semantics.specs.CallEffects.{CallEffect, Enters, Halts, Leaves, Throws, frames_effect, refuses_frames, with_capacity}
+use Rattle.machine_scenes.specs.SourceEffects.{enter_effect, exit_effect, release_effect}
 use Rattle.semantics.specs.CallStep.{after_call, after_refusal, call_step, effect_of_call, makes_objects, put}
 use Rattle.semantics.specs.Heap.{Heap}
 use Rattle.semantics.specs.Task.{Target, Task}

@@ -14,9 +14,12 @@ use Rattle.jni.specs.JniFunction.{JniFunction, parameters_for, DeleteLocalRef, P
 use Rattle.jni.specs.Prototype.{ParameterKind, BufferVariable, IsCopy, Mode, ResultKind, GivesNothing, owner as owner_kind}
 use Rattle.syntax.specs.Views.{unit_tree}
 use Rattle.semantics.specs.Arguments.{Actual, ReleaseMode, CopyBackAndFree, CopyBack, FreeUncopied, mode_given, object_given, variable_given, variable_in_actual, address_given, address_in_actual}
-use Rattle.semantics.specs.CallEffects.{CallEffect, CallResult, NoResult, NullResult, ScalarResult, ReferenceResult, WeakResult, FieldResult, MethodResult, BufferResult, begun_with, freed, release_effect}
+use Rattle.semantics.specs.CallEffects.{CallEffect, CallResult, NoResult, NullResult, ScalarResult, ReferenceResult, WeakResult, FieldResult, MethodResult, BufferResult, begun_with, freed}
+use Rattle.machine_scenes.specs.SourceEffects.{release_effect}
 use Rattle.semantics.specs.CallStep.{makes_objects, tell_copy}
-use Rattle.semantics.specs.CallTable.{call_effect}
+use Rattle.semantics.specs.Answer as source_answer
+use Rattle.semantics.specs.AnswerTable.{call_answer, call_effect}
+use Rattle.machine_scenes.proofs.SourceEffects.{releases as source_releases}
 use Rattle.semantics.specs.Effect.{effect_of}
 use Rattle.semantics.specs.Task.{Task}
 use Rattle.semantics.specs.Thread as source
@@ -354,10 +357,11 @@ module _ (p : Lowered) (w : World) (store : Store) (pending : Option ℕ) (call 
         }
 
     frees_as : (release : Release) (access : Access) → called.f ≡ ReleaseBuffer access → Fits (parameters_for (ReleaseBuffer access) (length called.args)) → IsWorkedOut (scene_of (unit_tree p.unit) w.classes store call k pending) function (ReleaseBuffer access) (answers.Releases release) → Frees release
-    unfolding call_effect
+    unfolding call_answer source_answer.effect_of
     frees_as release (ElementsCopy T) same kinds is =
         frees_by release (ElementsCopy T) (Mode ∷ []) same kinds is (mode_given called.args 2)
-        (given_mode (unit_tree p.unit) w.classes store.heap (references_of store call) call.slots.fields.items T (owner_kind (ElementsCopy T)) (BufferVariable (ElementsCopy T)) function.operands called.args kinds called.asked.given) refl
+        (given_mode (unit_tree p.unit) w.classes store.heap (references_of store call) call.slots.fields.items T (owner_kind (ElementsCopy T)) (BufferVariable (ElementsCopy T)) function.operands called.args kinds called.asked.given)
+        (sym (source_releases w.classes (in_use_with others s) k shared s called.args (object_given called.args 0) (mode_given called.args 2)))
     frees_as release ArrayView same kinds is = frees_by release ArrayView (Mode ∷ []) same kinds is FreeUncopied refl refl
     frees_as release CharsCopy same kinds is = frees_by release CharsCopy [] same kinds is FreeUncopied refl refl
     frees_as release CharsView same kinds is = frees_by release CharsView [] same kinds is FreeUncopied refl refl

@@ -24,7 +24,8 @@ use Rattle.code_meaning.specs.Slots.{Shows, ShowsElement, Slots, Visible, type_o
 use Rattle.code_meaning.proofs.SlotLaws.{fewer_shown, known_among, with_changed}
 use Rattle.code_meaning.proofs.StaticPlaces.{statics_stay}
 use Rattle.semantics.specs.Arguments.{Actual, VariableActual}
-use Rattle.semantics.specs.CallEffects.{CallEffect, Leaves, NoResult, begun_with, enter_effect, exit_effect, frames_effect, overwritten, refuses_frames, release_effect, with_capacity}
+use Rattle.semantics.specs.CallEffects.{CallEffect, Leaves, NoResult, begun_with, frames_effect, overwritten, refuses_frames, with_capacity}
+use Rattle.machine_scenes.specs.SourceEffects.{enter_effect, exit_effect, release_effect}
 use Rattle.semantics.specs.Sight.{in_range}
 use Rattle.semantics.specs.Thread as source
 use Rattle.semantics.specs.Thread.{Shared}

@@ -6,16 +6,14 @@ use Rattle.jni.specs.JniFunction.{JniFunction, PopLocalFrame, prototype}
 use Rattle.jni.specs.Prototype.{ResultKind, NewLocal}
 use Rattle.syntax.specs.Tree.{SourceUnit}
 use Rattle.semantics.specs.Answer.{Answer, effect_of}
-use Rattle.semantics.specs.AnswerTable.{call_answer}
-use Rattle.semantics.specs.Arguments.{Actual}
+use Rattle.semantics.specs.AnswerTable.{call_answer, call_effect}
 use Rattle.semantics.specs.CallSight.{CallSight, sight_of_call}
-use Rattle.semantics.specs.CallStep.{makes_objects}
-use Rattle.semantics.specs.CallTable.{call_effect}
 use Rattle.semantics.specs.Checks.{frames_after}
+use Rattle.semantics.specs.Arguments.{Actual}
+use Rattle.semantics.specs.CallStep.{makes_objects}
 use Rattle.semantics.specs.Thread.{BuffersInUse, Shared, Thread}
 use Rattle.semantics.proofs.AnswerFacts.{OfReference}
 use Rattle.semantics.proofs.AnswerKinds.{AnswersAs, CallKind, Calling, Giving, Halting, Making, Pending, Popping, PopsFrame, Raising, answers_as, call_kind}
-use Rattle.semantics.proofs.Answers.{effect_is}
 use Rattle.machine_calls.specs.CarriedOut.{frames_left}
 
 -- calls of a kind leave all frames
@@ -38,11 +36,10 @@ module _ (unit : SourceUnit) (classes : Classes) (in_use : BuffersInUse) (k : �
   -- it is put into the frames that the call leaves, which are the frames that were checked for room
   pub left_is : (f : JniFunction) → (prototype f).result ≡ NewLocal → (refused : Bool) → (refused ≡ true → makes_objects (call_effect unit classes in_use k shared s args f) ≡ true)
       → frames_left refused s (call_effect unit classes in_use k shared s args f) ≡ frames_after f s.frames
-  unfolding call_effect
+  unfolding call_answer effect_of
   left_is PopLocalFrame n true could = absurd (let e = could refl in cc)
   left_is PopLocalFrame n false could = refl
   left_is f n true could = refl
   left_is f n false could =
-      let sight = sight_of_call shared s JInt f args in
-      ap (frames_left false s) (effect_is unit classes in_use k shared s args JInt f)
-      ∙ kept refl (subst (λ (kind : ResultKind). AnswersAs unit classes sight f (call_kind f) kind (call_answer unit classes k sight f)) n (answers_as unit classes k sight f))
+      let sight = sight_of_call shared s f args in
+      kept refl (subst (λ (kind : ResultKind). AnswersAs unit classes sight f (call_kind f) kind (call_answer unit classes k sight f)) n (answers_as unit classes k sight f))

@@ -22,7 +22,7 @@ use Rattle.machine_steps.specs.declared.invoke.Invoked.{Invoked}
 use Rattle.machine_steps.specs.declared.invoke.Invoked.TheVariants as invoked
 use Rattle.semantics.specs.CallEffects.{Enters}
 use Rattle.semantics.specs.CallStep.{after_call, checked, effect_of_call, trap_of_call}
-use Rattle.semantics.specs.CallTable.{call_effect}
+use Rattle.semantics.specs.AnswerTable.{call_effect}
 use Rattle.semantics.specs.Effect.{effect_of}
 use Rattle.semantics.specs.Task.{Task}
 use Rattle.semantics.specs.Thread.{Shared, Thread, sight_of}

@@ -3,7 +3,8 @@ use Rattle.std.proofs.Common.{ℕ, ◌+◌, ◌-◌, List, [], ◌∷◌, Option
 use Rattle.std.specs.Prelude.{◌==◌, nat_lt, negsuc, if◌then◌else◌}
 use Rattle.std.proofs.lemmas.Bool.{cond_both}
 use Rattle.class_rules.specs.BuiltIns.{illegal_monitor_state}
-use Rattle.semantics.specs.CallEffects.{CallEffect, Leaves, Throws, ScalarResult, enter_effect, exit_effect, monitor, monitors_effect}
+use Rattle.semantics.specs.CallEffects.{CallEffect, Leaves, Throws, ScalarResult, monitor, monitors_effect}
+use Rattle.machine_scenes.specs.SourceEffects.{enter_effect, exit_effect}
 use Rattle.semantics.specs.Thread.{Monitor, Shared, Thread, without_monitor}
 use Rattle.semantics.specs.Value.{Int}
 

@@ -11,10 +11,12 @@ use Rattle.syntax.specs.Views.{unit_tree}
 use Rattle.class_rules.specs.Class.{Classes}
 use Rattle.jni.specs.JniFunction.{JniFunction, CallStaticVoidMethod, CallStaticIntMethod, CallStaticObjectMethod, calls_method, is_allowed_pending, prototype}
 use Rattle.semantics.specs.Arguments.{Actual, method_given, passed_value}
-use Rattle.semantics.specs.CallEffects.{Enters, method_effect}
+use Rattle.semantics.specs.CallEffects.{Enters}
 use Rattle.semantics.specs.CallStep.{after_call, calling, checked, effect_of_call, target_element, trap_of_call}
-use Rattle.semantics.specs.CallTable.{call_effect, calls_well, go_together}
-use Rattle.semantics.specs.Checks.{call_trap, first_trap}
+use Rattle.semantics.specs.AnswerTable.{call_answer, call_effect, method_called}
+use Rattle.semantics.specs.CallSight.{CallSight, sight_of_call}
+use Rattle.semantics.specs.Answer as answer
+use Rattle.semantics.specs.Checks.{calls_well, first_trap, go_together, trap_of}
 use Rattle.semantics.specs.Effect.{Effect, effect_of}
 use Rattle.semantics.specs.Method.{MethodId}
 use Rattle.semantics.specs.Object.{Reference, sizes}
@@ -63,34 +65,38 @@ none_of false false false false false false h = (refl, refl, refl)
 -- a call that no check stops
 pub record Unstopped (classes : Classes) (shared : Shared) (s : source.Thread) (target : Target) (f : JniFunction) (args : List Actual) : Type 0 where
   pub pending : (is_some s.pending && not (is_allowed_pending f)) ≡ false
-  pub together : go_together classes shared.heap (target_element s.variables target) args f ≡ true
+  pub together : go_together classes (sight_of_call shared s f args) (target_element s.variables target) f ≡ true
   pub shallow : (calls_method f && nat_le 64 (length s.callers + 1)) ≡ false
 
 pub unstopped : (classes : Classes) (shared : Shared) (s : source.Thread) (target : Target) (f : JniFunction) (args : List Actual) → trap_of_call classes shared s target f args ≡ None → Unstopped classes shared s target f args
-unfolding call_trap
+unfolding trap_of
 unstopped classes shared s target f args free =
     let none = none_of _ _ _ _ _ _ free in
-    record { pending = none.0; together = (neither _ (go_together classes shared.heap (target_element s.variables target) args f) none.1).1; shallow = none.2 }
+    record { pending = none.0; together = (neither _ (go_together classes (sight_of_call shared s f args) (target_element s.variables target) f) none.1).1; shallow = none.2 }
 
 -- its method ID is of a method
-method_there : (classes : Classes) (shared : Shared) (s : source.Thread) (target : Target) (args : List Actual) (returns : _) (o : Option MethodId) → calls_well classes shared.heap (target_element s.variables target) args returns o ≡ true → (m : MethodId) × (o ≡ Some m)
-method_there classes shared s target args returns None h = absurd (cc)
-method_there classes shared s target args returns (Some m) h = (m, refl)
+method_there : (classes : Classes) (sight : CallSight) (returns : _) (o : Option MethodId) → calls_well classes sight returns o ≡ true → (m : MethodId) × (o ≡ Some m)
+method_there classes sight returns None h = absurd (cc)
+method_there classes sight returns (Some m) h = (m, refl)
 
-pub method_of : (classes : Classes) (shared : Shared) (s : source.Thread) (target : Target) (args : List Actual) (f : JniFunction) → calls_method f ≡ true → go_together classes shared.heap (target_element s.variables target) args f ≡ true → (m : MethodId) × (method_given args 1 ≡ Some m)
+pub method_of : (classes : Classes) (shared : Shared) (s : source.Thread) (target : Target) (args : List Actual) (f : JniFunction) → calls_method f ≡ true → go_together classes (sight_of_call shared s f args) (target_element s.variables target) f ≡ true → (m : MethodId) × (method_given args 1 ≡ Some m)
 unfolding go_together
-method_of classes shared s target args CallStaticVoidMethod calls h = method_there classes shared s target args _ (method_given args 1) h
-method_of classes shared s target args CallStaticIntMethod calls h = method_there classes shared s target args _ (method_given args 1) h
-method_of classes shared s target args CallStaticObjectMethod calls h = method_there classes shared s target args _ (method_given args 1) h
+method_of classes shared s target args CallStaticVoidMethod calls h = method_there classes (sight_of_call shared s CallStaticVoidMethod args) _ (method_given args 1) h
+method_of classes shared s target args CallStaticIntMethod calls h = method_there classes (sight_of_call shared s CallStaticIntMethod args) _ (method_given args 1) h
+method_of classes shared s target args CallStaticObjectMethod calls h = method_there classes (sight_of_call shared s CallStaticObjectMethod args) _ (method_given args 1) h
 method_of classes shared s target args f calls h = absurd (cc)
 
 -- and is called
-does_method : (unit : SourceUnit) (classes : Classes) (in_use : BuffersInUse) (k : ℕ) (shared : Shared) (s : source.Thread) (args : List Actual) (f : JniFunction) → calls_method f ≡ true → call_effect unit classes in_use k shared s args f ≡ method_effect (method_given args 1) (map passed_value (drop 2 args))
-unfolding call_effect
+does_method : (unit : SourceUnit) (classes : Classes) (in_use : BuffersInUse) (k : ℕ) (shared : Shared) (s : source.Thread) (args : List Actual) (f : JniFunction) → calls_method f ≡ true → call_effect unit classes in_use k shared s args f ≡ answer.effect_of classes in_use k shared s args (method_called (method_given args 1))
+unfolding call_answer
 does_method unit classes in_use k shared s args CallStaticVoidMethod calls = refl
 does_method unit classes in_use k shared s args CallStaticIntMethod calls = refl
 does_method unit classes in_use k shared s args CallStaticObjectMethod calls = refl
 does_method unit classes in_use k shared s args f calls = absurd (cc)
+
+enters : (classes : Classes) (in_use : BuffersInUse) (k : ℕ) (shared : Shared) (s : source.Thread) (args : List Actual) (m : MethodId) → answer.effect_of classes in_use k shared s args (answer.Calls m) ≡ Enters m.function.name (map passed_value (drop 2 args))
+unfolding answer.effect_of
+enters classes in_use k shared s args m = refl
 
 -- no exception is pending
 never_pending : (f : JniFunction) → calls_method f ≡ true → is_allowed_pending f ≡ false
@@ -171,7 +177,8 @@ module _ (p : Lowered) (w : World) (store : Store) (others : Acquired) (k : ℕ)
   effect =
       ap (λ (o : Option Trap). checked o (call_effect (unit_tree p.unit) w.classes in_use k shared s c.args c.f)) c.free
       ∙ does_method (unit_tree p.unit) w.classes in_use k shared s c.args c.f c.method
-      ∙ ap (λ (o : Option MethodId). method_effect o (map passed_value (drop 2 c.args))) method.1
+      ∙ ap (λ (o : Option MethodId). answer.effect_of w.classes in_use k shared s c.args (method_called o)) method.1
+      ∙ enters w.classes in_use k shared s c.args method.0
 
   steps : step_within (unit_tree p.unit) w.classes in_use k shared s false s.tasks ≡ source.Advances shared next source.Quiet
   steps =

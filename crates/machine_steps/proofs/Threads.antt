@@ -12,11 +12,12 @@ use Rattle.semantics.specs.Object.{Object, ObjectValue, Reference}
 use Rattle.semantics.specs.World.{Invocation, World, loaded_objects}
 use Rattle.semantics.specs.Heap.{Heap, class_of}
 use Rattle.semantics.specs.Arguments.{Actual, method_given, passed_value}
-use Rattle.semantics.specs.CallEffects.{CallEffect, CallResult, Enters, Halts, Leaves, Throws, method_effect}
+use Rattle.semantics.specs.CallEffects.{CallEffect, CallResult, Enters, Halts, Leaves, Throws}
 use Rattle.semantics.specs.Return.{given_back, return_by, return_step, resumed_in, monitors_after}
 use Rattle.semantics.specs.Return as activation
 use Rattle.semantics.specs.CallStep.{after_call as after_effect_of_call, after_refusal, checked, effect_of_call, makes_objects, received, trap_of_call}
-use Rattle.semantics.specs.CallTable.{call_effect}
+use Rattle.semantics.specs.Answer as answer
+use Rattle.semantics.specs.AnswerTable.{call_answer, call_effect, method_called}
 use Rattle.semantics.specs.Effect.{Effect, Calls, Returns, effect_of}
 use Rattle.semantics.specs.Task.{Target, Task}
 use Rattle.semantics.specs.Thread as source
@@ -126,15 +127,16 @@ IsOfMethod (Halts trap) = Unit {0}
 IsOfMethod (Enters function arguments) = Unit {0}
 IsOfMethod e = ⊥
 
-method_or_trap : (m : Option MethodId) (arguments : List ObjectValue) → IsOfMethod (method_effect m arguments)
-method_or_trap None arguments = tt
-method_or_trap (Some m) arguments = tt
+method_or_trap : (classes : Classes) (in_use : BuffersInUse) (k : ℕ) (shared : Shared) (s : source.Thread) (args : List Actual) (m : Option MethodId) → IsOfMethod (answer.effect_of classes in_use k shared s args (method_called m))
+unfolding answer.effect_of
+method_or_trap classes in_use k shared s args None = tt
+method_or_trap classes in_use k shared s args (Some m) = tt
 
 of_method : (unit : SourceUnit) (classes : Classes) (in_use : BuffersInUse) (k : ℕ) (shared : Shared) (s : source.Thread) (args : List Actual) (f : JniFunction) → calls_method f ≡ true → IsOfMethod (call_effect unit classes in_use k shared s args f)
-unfolding call_effect
-of_method unit classes in_use k shared s args CallStaticVoidMethod calls = method_or_trap (method_given args 1) (map passed_value (drop 2 args))
-of_method unit classes in_use k shared s args CallStaticIntMethod calls = method_or_trap (method_given args 1) (map passed_value (drop 2 args))
-of_method unit classes in_use k shared s args CallStaticObjectMethod calls = method_or_trap (method_given args 1) (map passed_value (drop 2 args))
+unfolding call_answer
+of_method unit classes in_use k shared s args CallStaticVoidMethod calls = method_or_trap classes in_use k shared s args (method_given args 1)
+of_method unit classes in_use k shared s args CallStaticIntMethod calls = method_or_trap classes in_use k shared s args (method_given args 1)
+of_method unit classes in_use k shared s args CallStaticObjectMethod calls = method_or_trap classes in_use k shared s args (method_given args 1)
 of_method unit classes in_use k shared s args f calls = absurd (cc)
 
 checked_method : (o : Option Trap) (e : CallEffect) → IsOfMethod e → IsOfMethod (checked o e)

@@ -15,7 +15,9 @@ use Rattle.jni.specs.Table.{function_value}
 use Rattle.jni.specs.declared.function.JniFunction.{JniFunction as FunctionInMemory}
 use Rattle.jni.specs.declared.function.JniFunction.TheVariants as function
 use Rattle.semantics.specs.Arguments.{Actual, name_or_zero, object_given}
-use Rattle.semantics.specs.CallStep.{is_owned_by_other, trap_of_call, waits_with}
+use Rattle.semantics.specs.CallSight.{CallSight, sight_of_call}
+use Rattle.semantics.specs.CallStep.{is_owned_by_other, target_element, trap_of_call, waits_with}
+use Rattle.semantics.proofs.CheckLaws.{trap_without}
 use Rattle.semantics.specs.Effect.{Effect, Calls, effect_of}
 use Rattle.semantics.specs.Task.{Target, Task}
 use Rattle.semantics.specs.Thread as source
@@ -225,7 +227,10 @@ module _ (p : Lowered) (w : World) (store : Store) (pending : Option ℕ) (call 
   waits_as = sym (at_enter it.f enters_it) ∙ ap (waits_with w.classes k shared s) (sym it.is)
     where
       at_enter : (f : JniFunction) → f ≡ MonitorEnter → waits_with w.classes k shared s (Calls it.line it.target f it.args) ≡ (is_none (trap_of_call w.classes (unowned shared) s it.target f it.args) && is_owned_by_other k (source.monitor_of shared.monitors (object_given it.args 0)))
-      at_enter MonitorEnter is = refl
+      at_enter MonitorEnter is =
+          let sight : CallSight = sight_of_call shared s MonitorEnter it.args in
+          ap (λ (o : Option Trap). is_none o && is_owned_by_other k (source.monitor_of shared.monitors (object_given it.args 0)))
+          (sym (trap_without w.classes sight None sight.held (target_element s.variables it.target) MonitorEnter))
       at_enter f is = absurd (cc)
 
   -- a check stops it

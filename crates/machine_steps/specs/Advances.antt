@@ -51,6 +51,17 @@ pub record StandsInCode (p : Lowered) (w : World) (store : Store) (others : Acqu
 abbrev pub with_call : Activation → Thread → Thread
 with_call call t = record t { call = Some call }
 
+-- The same of a thread with this exception pending, or none. What its call in progress copies has this owner.
+pub record StandsWithin (p : Lowered) (w : World) (store : Store) (others : Acquired) (k : ℕ) (own : ThreadOwners)
+    (shared : Shared) (s : source.Thread) (t : Thread) (code : Listing) (call : Activation) (pending : Option ℕ) (owner : ℕ) : Type 0 where
+  pub in_code : StandsInCode p w store others k own shared s t code call
+  pub pending_is : t.pending ≡ pending
+  pub owner_is : owner ≡ owner_at k (length t.callers.items)
+
+-- the thread with this call in progress, and with this exception pending, or none
+abbrev pub within : Activation → Option ℕ → Thread → Thread
+within call pending t = record t { call = Some call; pending = pending }
+
 -- Thread k took the step that the source's thread takes, or the same with its allocation refused, where too few cells were left. The
 -- buffers of the other threads, which take this, are as they were, and so are the copies of all other calls.
 pub record Advances (p : Lowered) (w : World) (old store : Store) (others : Acquired) (k : ℕ) (own : ThreadOwners)

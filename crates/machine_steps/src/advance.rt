@@ -9,7 +9,7 @@ ghost use Rattle.semantics.specs.World.{World as SourceWorld};
 ghost use Rattle.semantics_safety.specs.Owners.{ThreadOwners};
 ghost use Rattle.code_meaning.specs.Lowered.{IsLowered, Lowered};
 ghost use Rattle.machine_scenes.specs.Buffers.{Acquired};
-ghost use Rattle.machine_steps.specs.Advances.{Advances, AdvancesAlways, IsHinderedAlways, LeavesMonitors, StandsInCode, StandsReady, calls_after, ending_after, ends_with, with_call};
+ghost use Rattle.machine_steps.specs.Advances.{Advances, AdvancesAlways, IsHinderedAlways, LeavesMonitors, StandsReady, StandsWithin, calls_after, ending_after, ends_with, within};
 ghost use Rattle.machine_threads.specs.Callers.{owner_at};
 ghost use Rattle.machine_steps.specs.Moved.{IsSilent};
 ghost use Rattle.machine_steps.specs.Resumed.{HasCalled, Resumes};
@@ -20,6 +20,7 @@ use crate::buffer_elements::load_element;
 use crate::enter::enter;
 use crate::execute::{Executed, ReturnValue, execute, run_plain, test_null};
 use crate::fault::StepFault;
+use crate::invoke::call_at_once;
 use crate::push::push;
 use crate::receive::receive;
 use code::code::Code;
@@ -108,28 +109,40 @@ pub fn advance(
 
 /// The owner of what a call of this thread copies, where so many calls are below it.
 #[inline(always)]
-fn owner_at(thread: u8, below: usize) -> u16
+pub fn owner_at(thread: u8, below: usize) -> u16
     requires { below ≤ 63 }
     ensures { result ≡ owner_at thread below }
 {
     thread as u16 + 8 * below as u16
 }
 
-/// Takes one step of a call in progress, whose function has this code, if its next instruction works on the stack and the
-/// number slots alone, or reads beside them whether a variable is NULL, or an element of a buffer.
-/// It answers what is seen of it. None leaves all as it was. It takes no host memory.
+/// Takes one step of a call in progress, whose function has this code, in the thread of this number, if its next instruction works on the
+/// stack and the number slots alone, or reads beside them whether a variable is NULL, or an element of a buffer, or calls a function of
+/// the JNI whose answer is seen at once. What the call copies has this owner. It answers what is seen of it. None leaves all as it was,
+/// and says nothing of the step. Only a monitor that is entered takes host memory.
 #[inline(always)]
-pub fn advance_plainly(code: &Code, store: &Store, activation: &mut Activation) -> Option<Event>
-    requires stands { (p : Lowered) × (w : SourceWorld) × (others : Acquired) × (k : ℕ) × (own : ThreadOwners)
-        × (shared : Shared) × (s : SourceThread) × (t : Thread)
-        × StandsInCode p w store.now others k own shared s t code.now activation.old }
-    ensures advances { IfSome result (λ event. (p : Lowered) (w : SourceWorld) (others : Acquired) (k : ℕ)
-        (own : ThreadOwners) (shared : Shared) (s : SourceThread) (t : Thread)
-        → StandsInCode p w store.now others k own shared s t code.now activation.old
-        → (waits w.classes k shared s ≡ false)
-        × Advances p w store.now store.now others k own shared s (with_call activation.new t) false event) }
+pub fn advance_at_once(
+    program: &Program<'_>,
+    world: &World,
+    code: &Code,
+    store: &mut Store,
+    pending: &mut Option<Addr>,
+    activation: &mut Activation,
+    number: u8,
+    owner: u16,
+) -> Option<Event>
+    requires few { store.old.births + 2 < 2 ^ 32 }
+    requires stands { (others : Acquired) × (own : ThreadOwners) × (shared : Shared) × (s : SourceThread) × (t : Thread)
+        × StandsWithin program.now world.now store.old others number own shared s t code.now activation.old pending.old owner }
+    ensures advances { IfSome result (λ event. (others : Acquired) (own : ThreadOwners) (shared : Shared) (s : SourceThread) (t : Thread)
+        → StandsWithin program.now world.now store.old others number own shared s t code.now activation.old pending.old owner
+        → (waits world.now.classes number shared s ≡ false)
+        × Advances program.now world.now store.old store.new others number own shared s
+        (within activation.new pending.new t) false event) }
     ensures silent { IfSome result IsSilent }
-    ensures none { IfNone result (activation.new ≡ activation.old) }
+    ensures store { IfNone result (store.new ≡ store.old) }
+    ensures pending { IfNone result (pending.new ≡ pending.old) }
+    ensures activation { IfNone result (activation.new ≡ activation.old) }
     ensures function { activation.new.function ≡ activation.old.function }
 {
     // The proof reads off this call that no object has as many elements as a `jint` can say.
@@ -141,10 +154,19 @@ pub fn advance_plainly(code: &Code, store: &Store, activation: &mut Activation) 
             Some(Event::Quiet)
         }
         Instr::LoadBuffer { slot, line } => Some(load_element(store, activation, *slot, *line)),
+        Instr::Call(boxed) => {
+            let call = boxed.call();
+            if call_at_once(
+                program, world, store, pending, activation, call, number, owner,
+            ) {
+                Some(Event::Quiet)
+            } else {
+                None
+            }
+        }
         Instr::StoreNull(_)
         | Instr::StoreBuffer { .. }
         | Instr::PutJint
-        | Instr::Call(_)
         | Instr::Return
         | Instr::ReturnJint
         | Instr::ReturnReference(_) => None,

@@ -1,6 +1,6 @@
 //! Calls of functions of the JNI (JNI Specification, chapter 4).
 
-ghost use Rattle.std.specs.Prelude.{◌≡◌, ℕ, ◌+◌, ◌<◌, ◌^◌, ◌||◌, nat_le, false, true, Option, Some, Ok, slice_get, IfOk, IfErr, IfSome, OnOk, OnErr};
+ghost use Rattle.std.specs.Prelude.{◌≡◌, ◌⊎◌, ℕ, Bool, ◌+◌, ◌<◌, ◌^◌, ◌||◌, nat_le, false, true, Option, Some, Ok, slice_get, length, IfOk, IfErr, IfSome, OnOk, OnErr};
 ghost use Rattle.code.specs.Call.{IsPrepared};
 ghost use Rattle.code_meaning.specs.Lowered.{Lowered};
 ghost use Rattle.heap.specs.Heap.{left_of};
@@ -17,7 +17,7 @@ ghost use Rattle.machine_threads.specs.Callers.{owner_at};
 ghost use Rattle.machine_steps.specs.Invoked.{called_from, is_halt, DoesCall, IsAnswered, IsHinderedAtCall, IsStopped, StandsAtCall, done_or_refused};
 
 use crate::fault::StepFault;
-use crate::monitor::{answer_at_once, change_monitor, is_of_monitors};
+use crate::monitor::{answer_at_once, change_monitor, could_wait, is_of_methods, is_of_monitors};
 use crate::receive::{receive, receive_number};
 use crate::scene::scene_of;
 use base::limits::MOST_ACTIVATIONS;
@@ -193,6 +193,133 @@ fn invoke_apart(
     )
 }
 
+/// Makes a call whose answer is seen at once, which no check stops, and answers whether it did: where it doesn't, or could wait for a monitor, all
+/// is as before. It stands apart from the loop over steps, which is faster without its variables.
+#[inline(never)]
+pub(crate) fn call_at_once(
+    program: &Program<'_>,
+    world: &World,
+    store: &mut Store,
+    pending: &mut Option<Addr>,
+    activation: &mut Activation,
+    call: &Call,
+    thread: u8,
+    owner: u16,
+) -> bool
+    requires at_call { (call.now.function ≡ JniFunction.MonitorEnter → ⊥) ⊎ (length store.old.monitors ≡ 0)
+        → StandsAtCall program.now world.now store.old pending.old activation.old call.now thread owner }
+    requires place { activation.old.place + 1 < 2 ^ 64 }
+    requires few { store.old.births + 2 < 2 ^ 32 }
+    requires prepared { IsPrepared call.now }
+    ensures free { result ≡ true → (call.now.function ≡ JniFunction.MonitorEnter → ⊥) ⊎ (length store.old.monitors ≡ 0) }
+    ensures done { result ≡ true → DoesCall program.now world.now store.old store.new pending.old pending.new
+        activation.old activation.new call.now thread owner Invoked.Done }
+    ensures store { result ≡ false → store.new ≡ store.old }
+    ensures pending { result ≡ false → pending.new ≡ pending.old }
+    ensures activation { result ≡ false → activation.new ≡ activation.old }
+    ensures function { activation.new.function ≡ activation.old.function }
+{
+    if is_of_methods(call.function) {
+        return false;
+    }
+    if could_wait(&store.monitors, call.function) {
+        return false;
+    }
+    if is_of_monitors(call.function) {
+        return change_at_once(program, world, store, *pending, activation, call, thread);
+    }
+    call_seen(
+        program, world, store, pending, activation, call, thread, owner,
+    )
+}
+
+/// Makes a call that enters and leaves no monitor, likewise.
+#[inline(always)]
+fn call_seen(
+    program: &Program<'_>,
+    world: &World,
+    store: &mut Store,
+    pending: &mut Option<Addr>,
+    activation: &mut Activation,
+    call: &Call,
+    thread: u8,
+    owner: u16,
+) -> bool
+    requires at_call { StandsAtCall program.now world.now store.old pending.old activation.old call.now thread owner }
+    requires place { activation.old.place + 1 < 2 ^ 64 }
+    requires few { store.old.births + 2 < 2 ^ 32 }
+    requires prepared { IsPrepared call.now }
+    ensures done { result ≡ true → DoesCall program.now world.now store.old store.new pending.old pending.new
+        activation.old activation.new call.now thread owner Invoked.Done }
+    ensures store { result ≡ false → store.new ≡ store.old }
+    ensures pending { result ≡ false → pending.new ≡ pending.old }
+    ensures activation { result ≡ false → activation.new ≡ activation.old }
+    ensures function { activation.new.function ≡ activation.old.function }
+{
+    match call.function {
+        JniFunction::GetField(_)
+        | JniFunction::GetStaticField(_)
+        | JniFunction::GetArrayLength
+        | JniFunction::IsSameObject
+        | JniFunction::ExceptionCheck => match number_seen(
+            program, world, store, *pending, activation, call, thread,
+        ) {
+            Some(word) => {
+                let answer = Answer::Gives(Given::Number(word));
+                finish_at_once(
+                    program, world, store, pending, activation, call, thread, owner, answer,
+                )
+            }
+            None => false,
+        },
+        JniFunction::NewLocalRef
+        | JniFunction::GetObjectField
+        | JniFunction::GetStaticObjectField
+        | JniFunction::GetObjectArrayElement
+        | JniFunction::ExceptionOccurred => match reference_seen(
+            program, world, store, *pending, activation, call, thread,
+        ) {
+            Some(reference) => {
+                let answer = Answer::Gives(Given::Reference(reference));
+                finish_at_once(
+                    program, world, store, pending, activation, call, thread, owner, answer,
+                )
+            }
+            None => false,
+        },
+        JniFunction::SetField(_)
+        | JniFunction::SetObjectField
+        | JniFunction::SetStaticField(_)
+        | JniFunction::SetStaticObjectField => match write_seen(
+            program, world, store, *pending, activation, call, thread,
+        ) {
+            Some(write) => {
+                let answer = Answer::Writes {
+                    object: write.object,
+                    place: write.place,
+                    value: write.value,
+                };
+                finish_at_once(
+                    program, world, store, pending, activation, call, thread, owner, answer,
+                )
+            }
+            None => false,
+        },
+        JniFunction::DeleteLocalRef => match deleted_seen(
+            program, world, store, *pending, activation, call, thread,
+        ) {
+            Some(key) => {
+                let answer = Answer::Deletes(key);
+                finish_at_once(
+                    program, world, store, pending, activation, call, thread, owner, answer,
+                )
+            }
+            None => false,
+        },
+        _ => false,
+    }
+}
+
 /// The number that a call gives, where that is seen at once, and that no check stops it.
 #[inline(always)]
 fn number_seen(
@@ -285,6 +412,7 @@ fn change_at_once(
     ensures done { result ≡ true → (owner : ℕ) → DoesCall program.now world.now store.old store.new pending pending
         activation.old activation.new call.now thread owner Invoked.Done }
     ensures kept { result ≡ false → (store.new ≡ store.old) × (activation.new ≡ activation.old) }
+    ensures function { activation.new.function ≡ activation.old.function }
 {
     match unchecked_answer(program, world, store, pending, activation, call, thread) {
         Some(answer) => finish_monitor(store, activation, call, thread, answer),
@@ -471,6 +599,8 @@ fn finish(
     ensures store { OnErr result (store.new ≡ store.old) }
     ensures pending { OnErr result (pending.new ≡ pending.old) }
     ensures activation { OnErr result (activation.new ≡ activation.old) }
+    ensures function { activation.new.function ≡ activation.old.function }
+    ensures ended { IfOk result (λ done. (refused : Bool) × (done ≡ done_or_refused refused)) }
 {
     match carry_out(
         world, store, pending, activation, call, thread, owner, answer,
@@ -529,6 +659,44 @@ fn finish_seen(
     )?)
 }
 
+/// The same of an answer that takes no host memory, and whether it did so. Else all is as before.
+#[inline(always)]
+fn finish_at_once(
+    program: &Program<'_>,
+    world: &World,
+    store: &mut Store,
+    pending: &mut Option<Addr>,
+    activation: &mut Activation,
+    call: &Call,
+    thread: u8,
+    owner: u16,
+    answer: Answer,
+) -> bool
+    requires at_call { StandsAtCall program.now world.now store.old pending.old activation.old call.now thread owner }
+    requires place { activation.old.place + 1 < 2 ^ 64 }
+    requires few { store.old.births + 2 < 2 ^ 32 }
+    requires prepared { IsPrepared call.now }
+    requires answered { IsAnswered program.now world.now store.old pending.old activation.old thread call.now answer }
+    requires runs { is_carried answer ≡ true }
+    requires makes { cells_of world.now.classes (texts_in call.now.texts.items) answer ≡ 0 }
+    ensures done { result ≡ true → DoesCall program.now world.now store.old store.new pending.old pending.new
+        activation.old activation.new call.now thread owner Invoked.Done }
+    ensures store { result ≡ false → store.new ≡ store.old }
+    ensures pending { result ≡ false → pending.new ≡ pending.old }
+    ensures activation { result ≡ false → activation.new ≡ activation.old }
+    ensures function { activation.new.function ≡ activation.old.function }
+{
+    match finish(
+        program, world, store, pending, activation, call, thread, owner, answer,
+    ) {
+        Ok(invoked) => match invoked {
+            Invoked::Done => true,
+            _ => unreachable!(),
+        },
+        Err(_) => false,
+    }
+}
+
 /// Enters or leaves a monitor, as a call answers, puts 0 where it goes, and answers whether it did so: where the thread may not, or
 /// where host memory for it was refused, all is as it was.
 #[inline(always)]
@@ -549,6 +717,7 @@ fn finish_monitor(
         → DoesCall p w store.old store.new pending pending activation.old activation.new call.now thread owner
         Invoked.Done }
     ensures kept { result ≡ false → (store.new ≡ store.old) × (activation.new ≡ activation.old) }
+    ensures function { activation.new.function ≡ activation.old.function }
 {
     if !change_monitor(&mut store.monitors, thread, answer) {
         return false;

@@ -1,6 +1,6 @@
 //! Functions of monitors that no check stops (JNI Specification, chapter 4, "Monitor Operations").
 
-ghost use Rattle.std.specs.Prelude.{◌≡◌, ℕ, Bool, true, false, [], ◌∷◌, None, Some, slice_get, IfSome};
+ghost use Rattle.std.specs.Prelude.{◌≡◌, ◌⊎◌, ℕ, Bool, true, false, [], ◌∷◌, None, Some, length, slice_get, IfSome};
 ghost use Rattle.base.specs.Element.{ElementType};
 ghost use Rattle.syntax.specs.Tree.{SourceUnit};
 ghost use Rattle.class_rules.specs.Class.{Classes};
@@ -133,4 +133,25 @@ pub(crate) fn change_monitor(monitors: &mut Monitors, thread: u8, answer: Answer
         },
         _ => unreachable!(),
     }
+}
+
+/// Whether a call of a function of monitors could wait for one: it enters one, while some monitor has an owner.
+#[inline(always)]
+pub(crate) fn could_wait(monitors: &Monitors, function: JniFunction) -> bool
+    ensures { result ≡ false → (function ≡ JniFunction.MonitorEnter → ⊥) ⊎ (length monitors.now ≡ 0) }
+{
+    matches!(function, JniFunction::MonitorEnter) && monitors.len() > 0
+}
+
+/// Whether a function calls a method.
+#[inline(always)]
+pub(crate) fn is_of_methods(function: JniFunction) -> bool
+    ensures { result ≡ true → function ≡ JniFunction.MonitorEnter → ⊥ }
+{
+    matches!(
+        function,
+        JniFunction::CallStaticVoidMethod
+            | JniFunction::CallStaticIntMethod
+            | JniFunction::CallStaticObjectMethod
+    )
 }

@@ -97,6 +97,7 @@ fn keep_number(activation: &mut Activation, target: &Target, word: u32)
 }
 
 /// Makes a local reference of what is given, unless it is NULL, where a function of this kind of result does.
+#[inline(always)]
 fn make_local(locals: &mut Locals, kind: ResultKind, given: &Given) -> Option<Local>
     requires { HasRoom (result_value kind) locals.old }
     ensures { MakesLocal (result_value kind) given.now locals.old result locals.new }

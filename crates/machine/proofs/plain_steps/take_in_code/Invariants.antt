@@ -1,9 +1,7 @@
 use Rattle.std.proofs.Common.{◌≡◌, ℕ, ◌+◌, ◌≤◌, List, None}
-use Rattle.code_meaning.specs.Lowered.{Lowered}
 use Rattle.semantics.specs.Journal.{steps_in}
 use Rattle.semantics.specs.declared.printed.Printed.{Printed}
-use Rattle.semantics.specs.World.{World}
-use Rattle.machine_steps.specs.Advances.{with_call}
+use Rattle.machine_steps.specs.Advances.{within}
 use Rattle.machine_threads.specs.declared.thread.Thread.{Thread}
 use Rattle.machine.specs.Run.{CanGoOnIn, WentOn}
 use Rattle.machine.proofs.plain_steps.take_in_code.Given as goal
@@ -11,8 +9,8 @@ use Rattle.machine.proofs.plain_steps.take_in_code.Given as goal
 -- so many steps were taken, within the same function
 abbrev pub invariant-loop-taken : goal.invariant-loop-taken
 invariant-loop-taken l = record {
-  went : (p : Lowered) (w : World) (threads : List Thread) (index : ℕ) (printed : List Printed) (thread : Thread) → CanGoOnIn p w l.fn.store threads index printed l.fn.journal.entries l.fn.k thread l.fn.code l.fn.activation
-      → WentOn p w l.fn.store threads index printed l.fn.journal.entries l.fn.k l.taken (with_call l.activation thread) None l.journal.entries;
+  went : (threads : List Thread) (index : ℕ) (printed : List Printed) (thread : Thread) → CanGoOnIn l.fn.program l.fn.world l.fn.store threads index printed l.fn.journal.entries l.fn.k thread l.fn.code l.fn.activation l.fn.pending l.fn.owner
+      → WentOn l.fn.program l.fn.world l.fn.store l.store threads index printed l.fn.journal.entries l.fn.k l.taken (within l.activation l.pending thread) None l.journal.entries;
   within : l.taken ≤ l.fn.most;
   goes : l.stop ≡ None;
   function : l.activation.function ≡ l.fn.activation.function;

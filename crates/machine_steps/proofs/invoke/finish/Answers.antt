@@ -214,3 +214,9 @@ returns-in-Ok-clause-done c others own shared s task rest h =
     (subst (λ (t : Activation). Receives call.target kind (told_slot (slice_get (call_view call).operands 1)) g t c.receive.new.activation) c.in-Ok.ensures.stays
     (subst (λ (o : Option ℕ). Receives call.target kind o g left c.receive.new.activation) c.told_slot.ensures c.receive.ensures.activation)))
     (with_items_is c.carry_out.new.store.statics c.receive.new.statics (search (rules, places)) ∙ c.receive.ensures.statics ∙ ap (λ (l : List StaticReference). statics_with call.target g l) c.deref_mut.ensures.value)))
+
+pub returns-in-Ok-clause-function : goal.returns-in-Ok-clause-function
+returns-in-Ok-clause-function c = c.receive.ensures.activation.function ∙ ap (λ (t : Activation). t.function) c.in-Ok.ensures.stays
+
+pub returns-in-Ok-clause-ended : goal.returns-in-Ok-clause-ended
+returns-in-Ok-clause-ended c = (c.in-Ok.carried.refused, c.done_or_refused.ensures)

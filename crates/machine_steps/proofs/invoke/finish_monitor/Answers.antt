@@ -40,3 +40,6 @@ returns-clause-done c is p w pending owner told_if others own shared s task rest
     activation.slots.numbers activation.slots.buffers (monitors.numbers_stay store.heap a changes activation.slots.numbers.items) (monitors.buffers_stay a changes activation.slots.buffers.items) c.receive_number.new.activation store.statics
     (c.receive_number.ensures kind (told_slot (slice_get (call_view call).operands 1)))
     (monitors.statics_stay call.target 0 store.statics.items)
+
+pub returns-clause-function : goal.returns-clause-function
+returns-clause-function c = (c.receive_number.ensures (prototype (function_value c.args.call.now.function)).result (told_slot (slice_get (call_view c.args.call.now).operands 1))).function

@@ -49,23 +49,23 @@ returns-then-is_some-clause-along c = subst (λ (r : Run). RunsAlong c.args.self
 pub take_plainly-requires-clause-stands : goal.take_plainly-requires-clause-stands
 take_plainly-requires-clause-stands c =
     let i = c.self.inside in
-    (i.world, i.threads.items, c.from-index.result - 1, i.printed.items, can_go_on (goal.at.take_plainly-requires-clause-stands c).After-is_some (sym c.is_some.ensures ∙ c.if-is_some.false))
+    (i.threads.items, c.from-index.result - 1, i.printed.items, can_go_on (goal.at.take_plainly-requires-clause-stands c).After-is_some (sym c.is_some.ensures ∙ c.if-is_some.false))
 
 pub take_plainly-requires-clause-goes : goal.take_plainly-requires-clause-goes
 take_plainly-requires-clause-goes c = not_stopped c.self.inside.stop (free (goal.at.take_plainly-requires-clause-goes c).After-is_some (sym c.is_some.ensures ∙ c.if-is_some.false)).0
 
 -- what it came to
-went : (c : After-take_plainly) → WentOn c.self.inside.program c.self.inside.world c.self.inside.store c.self.inside.threads.items (c.from-index.result - 1) c.self.inside.printed.items c.self.inside.journal.entries c.args.k c.take_plainly.result.taken c.take_plainly.new.thread c.take_plainly.new.stop c.take_plainly.new.journal.entries
+went : (c : After-take_plainly) → WentOn c.self.inside.program c.self.inside.world c.self.inside.store c.take_plainly.new.store c.self.inside.threads.items (c.from-index.result - 1) c.self.inside.printed.items c.self.inside.journal.entries c.args.k c.take_plainly.result.taken c.take_plainly.new.thread c.take_plainly.new.stop c.take_plainly.new.journal.entries
 went c =
     let i = c.self.inside in
-    c.take_plainly.ensures.went i.world i.threads.items (c.from-index.result - 1) i.printed.items (can_go_on (goal.at.After-take_plainly c).After-is_some (sym c.is_some.ensures ∙ c.if-is_some.false))
+    c.take_plainly.ensures.went i.threads.items (c.from-index.result - 1) i.printed.items (can_go_on (goal.at.After-take_plainly c).After-is_some (sym c.is_some.ensures ∙ c.if-is_some.false))
 
 pub invariant_of-self-2 : goal.invariant_of-self-2
 invariant_of-self-2 c = (went (goal.at.invariant_of-self-2 c).After-take_plainly).stands
 
 pub returns-clause-along : goal.returns-clause-along
 returns-clause-along c =
-    subst (λ (r : Run). RunsAlong r (seen c.self.inside.program c.self.inside.world c.self.inside.store c.take_plainly.new.journal.entries) (replicate c.take_plainly.result.taken (Word c.args.k))) c.self.view_is (went (goal.at.returns-clause-along c).After-take_plainly).along
+    subst (λ (r : Run). RunsAlong r (seen c.self.inside.program c.self.inside.world c.take_plainly.new.store c.take_plainly.new.journal.entries) (replicate c.take_plainly.result.taken (Word c.args.k))) c.self.view_is (went (goal.at.returns-clause-along c).After-take_plainly).along
 
 pub returns-clause-ready : goal.returns-clause-ready
 returns-clause-ready c is =
