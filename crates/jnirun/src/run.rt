@@ -8,12 +8,9 @@ ghost use Rattle.program_check.specs.Programs.{IsProgram};
 ghost use Rattle.jnirun.specs.Texts.{Meaning, AreRefused};
 ghost use Rattle.jnirun.specs.Running.{IsPassed, IsLoaded};
 ghost use Rattle.jnirun.specs.Runs.{RunsTexts, EndsRun, IsRunOrFails};
-ghost use Rattle.std.specs.Option.{option_map};
-ghost use Rattle.semantics.specs.EventViews.{stop_view};
 ghost use Rattle.world_schedules.specs.ReadingSchedules.{schedule_of};
 ghost use Rattle.world_schedules.specs.ScheduleText.{IsScheduleText};
 ghost use Rattle.world.specs.ReadingWorlds.{world_of_text};
-ghost use Rattle.replay.specs.TrapAt.{trap_at};
 
 use crate::errors::{of_load, of_lower, of_report, of_schedule, of_world};
 use crate::telling::with_misfit;
@@ -21,8 +18,7 @@ use lower::{Program, lower};
 use machine::{Machine, RunFault};
 use program_check::{RunError, read_program};
 use region_rules::Checked;
-use replay::TrapAt;
-use semantics::Stop;
+use replay::{TrapAt, shown_stop};
 use sinks::Sink;
 use std::alloc::Global;
 use world::read_world;
@@ -34,19 +30,6 @@ pub(crate) fn thread_count(world: &World) -> u8
     ensures { result ≡ length world.now.threads }
 {
     world.threads().len() as u8
-}
-
-/// Where a trap stopped the machine.
-pub(crate) fn trap_at(stop: Option<Stop>) -> Option<TrapAt>
-    ensures { result ≡ option_map (λ s. trap_at (stop_view s)) stop }
-{
-    match stop {
-        Some(stop) => Some(TrapAt {
-            number: stop.trap.number(),
-            line: stop.line,
-        }),
-        None => None,
-    }
 }
 
 /// Runs a machine that has taken no step, and writes the report.
@@ -70,7 +53,7 @@ fn run_loaded<W: Sink>(
         // A schedule has no more words than a journal may have steps.
         Err(RunFault::Full) => unreachable!(),
     }
-    let trap = trap_at(machine.stop());
+    let trap = shown_stop(machine.stop());
     match machine.report(alloc, out) {
         Ok(()) => Ok(trap),
         Err(fault) => Err(of_report(fault)),

@@ -11,14 +11,13 @@ ghost use Rattle.jnirun.specs.Works.{WorkMeaning, EndsWork, AreRefusedWork, IsWo
 ghost use Rattle.world.specs.ReadingWorlds.{world_of_text};
 
 use crate::errors::{of_load, of_lower, of_report, of_run, of_world};
-use crate::run::trap_at;
 use crate::telling::with_misfit;
 use lower::Program;
 use lower_parallel::{Watch, lower_parallel};
 use machine::{Machine, RunFault};
 use program_check::{RunError, read_program};
 use region_rules::Checked;
-use replay::TrapAt;
+use replay::{TrapAt, shown_stop};
 use shared::{Gate, Verdict, run_workers};
 use sinks::Sink;
 use std::alloc::Global;
@@ -56,7 +55,7 @@ fn report_work<W: Sink>(
         (AreRefusedWork program world) }
     ensures accepted { IsWorkOrFails result }
 {
-    let trap = trap_at(machine.stop());
+    let trap = shown_stop(machine.stop());
     match machine.report(alloc, out) {
         Ok(()) => Ok(trap),
         Err(fault) => Err(of_report(fault)),

@@ -7,18 +7,18 @@ ghost use Rattle.type_rules.specs.TypeRules.{IsWellTyped};
 ghost use Rattle.sinks.specs.Sink.{CanFail};
 ghost use Rattle.semantics.specs.World.{World};
 ghost use Rattle.replay_threads.specs.States.{AreInRange};
-ghost use Rattle.replay.specs.Replays.{Answers, Replayed, LeadsTo, IsRefusedFrom, ShowsRows, WritesRun, WritesState, IsStoppedBy, IsReplayable, IsFromOutside, EndsBy, shown_stop};
+ghost use Rattle.replay.specs.Replays.{Answers, Replayed, LeadsTo, IsRefusedFrom, ShowsRows, WritesRun, WritesState, IsStoppedBy, IsReplayable, IsFromOutside, EndsBy};
 
 use crate::fault::ReplayError;
 use crate::load::start;
-use crate::trap_at::TrapAt;
+use crate::trap_at::{TrapAt, shown_stop};
 use functions::Functions;
 use region_rules::Checked;
 use replay_objects::{Store, made_before};
 use replay_threads::{State, root_names, standings_of, take_entry};
 use report::{Listed, write_run};
 use report_objects::{ReachedRows, reached_rows};
-use semantics::{Entry, Stop};
+use semantics::Entry;
 use sinks::Sink;
 use std::alloc::{AllocError, Global};
 use world_values::World;
@@ -91,17 +91,6 @@ fn write_report<W: Sink>(
 {
     let rows = rows_of(alloc, state)?;
     write_rows(alloc, state, &rows, journal, out)
-}
-
-/// The trap's number and line.
-fn shown_stop(stop: Option<Stop>) -> Option<TrapAt>
-    ensures { result ≡ shown_stop stop }
-{
-    let stop = stop?;
-    Some(TrapAt {
-        number: stop.trap.number(),
-        line: stop.line,
-    })
 }
 
 /// Replays a journal from the state before the first entry, and writes its report.

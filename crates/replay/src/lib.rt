@@ -9,4 +9,4 @@ mod trap_at;
 pub use fault::ReplayError;
 pub use journal::replay;
 pub use load::start;
-pub use trap_at::TrapAt;
+pub use trap_at::{TrapAt, shown_stop};

@@ -1,5 +1,10 @@
 //! Where a run stopped.
 
+ghost use Rattle.std.specs.Prelude.{◌≡◌};
+ghost use Rattle.replay.specs.Replays.{shown_stop};
+
+use semantics::Stop;
+
 /// The trap that stopped a run.
 #[derive(Clone, Copy, PartialEq, Eq)]
 pub struct TrapAt {
@@ -7,4 +12,15 @@ pub struct TrapAt {
     pub number: u8,
     /// The line of its statement, counted from 1.
     pub line: usize,
+}
+
+/// The number and the line of a trap that stopped a run, if one did.
+pub fn shown_stop(stop: Option<Stop>) -> Option<TrapAt>
+    ensures { result ≡ shown_stop stop }
+{
+    let stop = stop?;
+    Some(TrapAt {
+        number: stop.trap.number(),
+        line: stop.line,
+    })
 }

@@ -10,7 +10,7 @@ unreachable-requires g c =
 
 pub returns-in-Ok-report-clause-run : goal.returns-in-Ok-report-clause-run
 returns-in-Ok-report-clause-run g c = λ program world order loaded.
-    rw c.trap_at-trap.ensures (ran program world order (g.W.Sink.written c.args.out.now) loaded.items loaded.world c.args.schedule.now c.args.machine.now c.run.new.self c.stop.result (g.W.Sink.written c.report.new.sink) (Ok c.in-Ok-report.field-0) c.stop.ensures c.in-Ok-report.ensures.none_waits
+    rw c.shown_stop-trap.ensures (ran program world order (g.W.Sink.written c.args.out.now) loaded.items loaded.world c.args.schedule.now c.args.machine.now c.run.new.self c.stop.result (g.W.Sink.written c.report.new.sink) (Ok c.in-Ok-report.field-0) c.stop.ensures c.in-Ok-report.ensures.none_waits
     loaded.passed.of_program loaded.passed.short loaded.passed.of_world loaded.of_schedule loaded.loads loaded.passed.means loaded.means loaded.unstarted c.in-Ok.ensures.ok c.in-Ok-report.ensures.run)
 
 pub returns-in-Err-clause-run : goal.returns-in-Err-clause-run

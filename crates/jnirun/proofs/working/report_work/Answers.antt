@@ -4,7 +4,7 @@ use Rattle.jnirun.proofs.working.report_work.Goals as goal
 
 pub returns-in-Ok-clause-run : goal.returns-in-Ok-clause-run
 returns-in-Ok-clause-run g c = λ program world under.
-    rw c.trap_at-trap.ensures (worked program world (g.W.Sink.written c.args.out.now) c.args.machine.now c.stop.result (g.W.Sink.written c.report.new.sink) (Ok c.in-Ok.field-0) c.stop.ensures c.in-Ok.ensures.none_waits c.requires.has_room under c.in-Ok.ensures.run)
+    rw c.shown_stop-trap.ensures (worked program world (g.W.Sink.written c.args.out.now) c.args.machine.now c.stop.result (g.W.Sink.written c.report.new.sink) (Ok c.in-Ok.field-0) c.stop.ensures c.in-Ok.ensures.none_waits c.requires.has_room under c.in-Ok.ensures.run)
 
 pub returns-in-Err-clause-run : goal.returns-in-Err-clause-run
 returns-in-Err-clause-run g c = λ program world under.
