@@ -54,7 +54,7 @@ ended_before w (cannot_read same told) = cannot_read same told
 
 -- ---- failures of the sinks
 
-told_failures : {err err_after : Written} {text : List ℕ} → Tells err err_after text → err_after.failures ≤ err.failures + 1
+pub told_failures : {err err_after : Written} {text : List ℕ} → Tells err err_after text → err_after.failures ≤ err.failures + 1
 told_failures (inl sent) = let same = sent.appended.failures in omega (arith, same)
 told_failures (inr stopped) = let more = stopped.failures in omega (arith, more)
 

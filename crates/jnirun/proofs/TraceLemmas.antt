@@ -4,12 +4,9 @@ use Rattle.sinks.specs.Sink.{Written}
 use Rattle.cli_commands.specs.declared.command.Command.{Command}
 use Rattle.cli_commands.specs.Saying.{Tells}
 use Rattle.replay_trace.proofs.TraceLemmas.{stays}
+use Rattle.jnirun.proofs.EachLemmas.{told_failures}
 use Rattle.jnirun.specs.Serve.{ServesTexts, is_done, is_refused, lacks_memory, loses_text, loses_fault, Serves}
 use Rattle.jnirun.specs.Traces.{ServesTraced}
-
-told_failures : {err err_after : Written} {text : List ℕ} → Tells err err_after text → err_after.failures ≤ err.failures + 1
-told_failures (inl sent) = let same = sent.appended.failures in omega (arith, same)
-told_failures (inr stopped) = let more = stopped.failures in omega (arith, more)
 
 -- what is said of a command on standard error fails once at most
 pub served_failures : {command : Command} {program world order : List ℕ} {out out_after err err_after : Written} {status : ℕ}

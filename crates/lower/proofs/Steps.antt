@@ -33,11 +33,6 @@ use Rattle.code_meaning.proofs.SlotLaws.{fewer_shown, number_below, shows_set, K
 use Rattle.lower.proofs.CodePlaces.{has_back}
 use Rattle.lower.proofs.TermSteps.{IsOpen, LeadsOver, TermGoes, TermTraps, IsStuck, steps_term}
 
--- a term without a value takes its step inside its task
-pub into_task : (sight : Sight) (line : ℕ) (f : Value → Effect) (task : Term → Task) (t : Term) → IsOpen t → with_value sight line f task t ≡ goes_on line task (reduce sight t)
-into_task sight line f task (Done v) o = absurd o
-into_task sight line f task t o = refl
-
 -- where a path over these instructions leads
 pub at_path : (P : ℕ → Type 0) (place : ℕ) (path : Plain) (skipped : List Instr) → LeadsOver path skipped → P (place + 1 + length skipped) → AtEnd P place path
 at_path P place plain.Next skipped h k = let e : place + 1 + length skipped ≡ place + 1 = omega (arith, ap length h) in subst P e k

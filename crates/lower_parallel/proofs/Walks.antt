@@ -74,10 +74,5 @@ pub function_fits : (workers worker : ℕ) (all : List Item) (statics : Known) (
     → ItemFits statics (FunctionItem f)
 function_fits workers worker all statics number f rest codes h = (h.fit.0, h.fit.1, h.fit.2, h.fit.3)
 
--- the first function that is left is too long
-pub function_long : (workers worker : ℕ) (all : List Item) (statics : Known) (number : ℕ) (f : Function) (rest : List Item) (codes : List Listing) → AreLeft workers worker all statics number (FunctionItem f ∷ rest) codes
-    → IsTrue (is_long (FunctionItem f)) → IsTrue (list_any is_long all)
-function_long workers worker all statics number f rest codes h long = h.long (or_first (is_long (FunctionItem f)) (list_any is_long rest) long)
-
 pub all_done : (workers worker : ℕ) (all : List Item) (statics : Known) (number : ℕ) (codes : List Listing) → AreLeft workers worker all statics number [] codes → IsShare workers worker (listings_of [] all) codes
 all_done workers worker all statics number codes h = (sym (append-nil codes) ∙ h.share, h.short)

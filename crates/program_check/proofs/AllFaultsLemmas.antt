@@ -142,10 +142,6 @@ module _ {A B : Type 0} (g : A → B) (f : B → Entry) where
 
 -- ---- the faults of a unit that a text spells
 
-pub no_items : {A : Type 0} (xs : List A) → length xs ≡ 0 → xs ≡ []
-no_items [] e = refl
-no_items (x ∷ xs) e = absurd (omega (arith, e))
-
 some_items : {A : Type 0} (xs : List A) → 0 < length xs → xs ≡ [] → ⊥
 some_items xs some e = let none : length xs ≡ 0 = ap length e in absurd (omega (arith, none, some))
 

@@ -57,10 +57,6 @@ pub returned_err : (rest : Block) (f : Found) → returned_before rest ≡ Err f
 returned_err (End line) f h = cc
 returned_err (Next s rest) f h = let e = err_is (line_of s, NoReturn) f h in (ap (λ (g : Found). g.1) e, ap (λ (g : Found). g.0) e)
 
-pub not_false : (b : Bool) → not b ≡ false → b ≡ true
-not_false true h = refl
-not_false false h = absurd (true≢false h)
-
 -- ---- one path, and one end
 
 -- a function of its tree has one answer, so a statement and a block have one path

@@ -1,6 +1,7 @@
 -- The first fault is the answer, and there is one at most.
 use Rattle.std.proofs.Common.{◌≡◌, ℕ, Bool, true, false, not, ◌⊎◌, List, [], ◌∷◌, Option, Some, Result, Ok, Err, refl, sym, ap, ◌∙◌, subst, inl, inr, true≢false}
 use Rattle.std.specs.List.{AllByRecursion}
+use Rattle.std.proofs.lemmas.Bool.{not-false}
 use Rattle.syntax.specs.Parts.{line_of}
 use Rattle.syntax.specs.Tree.{Stmt, Declare, DeclareBuffer, DeclareChars, DeclareArray, Assign, AssignElement, Perform, PutJint, If, IfElse, While, Return, ReturnValue, Block, End, Next, Function}
 use Rattle.region_rules.specs.FirstFaults.{FirstInFunction, FirstInFunctions, first_broken, FirstHere, FirstIn, FirstBlock}
@@ -12,7 +13,7 @@ use Rattle.regions.specs.Paths.{Found, own_path, path_after, path_if, returned_b
 use Rattle.region_states.proofs.Same.{state_decides}
 use Rattle.regions.proofs.Paths.{ok_is, obeys, unbroken, keeps, keeps_block, answers, answers_block}
 use Rattle.regions.specs.Findings.{end_line_of}
-use Rattle.regions.proofs.FaultLemmas.{ok_err', err_is, if_err, own_err, join_err, turn_err, after_err, returned_err, not_false, one_end, on_returned, end-line}
+use Rattle.regions.proofs.FaultLemmas.{ok_err', err_is, if_err, own_err, join_err, turn_err, after_err, returned_err, one_end, on_returned, end-line}
 
 -- ---- the first fault is the answer
 
@@ -182,7 +183,7 @@ mutual
   pub firsts_block : (outer before : RegionState) (b : Block) (f : Found) → path_of_block outer before b ≡ Err f → FirstBlock f.1 f.0 outer before b
   firsts_block outer before (End line) f h =
       let e = if_err (not (holds_own outer before)) (On (left outer before)) (line, HeldBuffer) f h in
-      (ap (λ (g : Found). g.1) e.1, ap (λ (g : Found). g.0) e.1, not_false (holds_own outer before) e.0)
+      (ap (λ (g : Found). g.1) e.1, ap (λ (g : Found). g.0) e.1, not-false (holds_own outer before) e.0)
   firsts_block outer before (Next s rest) f h =
       elim (after_err (path_of before s) (λ middle. path_of_block outer middle rest) (returned_before rest) f h) [
         | inl first ↦ inl (firsts before s f first)

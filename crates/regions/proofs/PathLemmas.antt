@@ -135,17 +135,6 @@ pub go_fault : (outer before : RegionState) (s : Stmt) (rest : Block) (e : Check
 go_fault outer before s rest Memory h = tt
 go_fault outer before s rest (Fault f) h = ap (λ r. path_after r (λ m. path_of_block outer m rest) (returned_before rest)) h
 
--- a statement after a return
-pub go_after : (r : Result PathInMemory CheckError) (after outer : RegionState) (s : StmtInMemory) (rest : Block) → Goes r after (Err (s.line, NoReturn)) → Goes r after (go_on outer Returned (Next (stmt_tree s) rest))
-go_after r after outer s rest k = Goes-along r after _ _ (ap (λ n. Err (n, NoReturn)) (line_is s.line s.form)) k
-
--- after its end a list has nothing
-pub past : {A : Type 0} (i : ℕ) (xs : List A) → length xs ≤ i → drop i xs ≡ []
-past zero [] h = refl
-past zero (x ∷ xs) h = absurd (omega arith)
-past (suc i) [] h = refl
-past (suc i) (x ∷ xs) h = past i xs (omega arith)
-
 -- ---- joins
 
 pub first_stops : (line : ℕ) (r q : Result Path Found) (e : CheckError) → Stops e r → Stops e (join_paths line r q)
@@ -174,10 +163,6 @@ end_is (s ∷ items) end_line = end_is items end_line
 
 pub end_line_is : (b : BlockInMemory) → end_line_of (block_tree b) ≡ (out-Block b).end_line
 end_line_is b = ap end_line_of (block_is b) ∙ end_is (out-Block b).statements.items (out-Block b).end_line
-
--- an error that is passed on
-pub goes_err : (r : Result PathInMemory CheckError) (after : RegionState) (e : CheckError) (x : Result Path Found) → r ≡ Err e → Stops e x → Goes r after x
-goes_err r after e x was h = subst (λ y. Goes y after x) (sym was) h
 
 -- ---- ends of blocks
 

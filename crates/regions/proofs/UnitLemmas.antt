@@ -33,14 +33,6 @@ pub ruleset finds_rules = (Finds-later, Refuses-first)
 
 -- ---- truth values
 
-pub both_hold : (a b : Bool) → (a && b) ≡ true → (a ≡ true) × (b ≡ true)
-both_hold true b h = (refl, h)
-both_hold false b h = absurd cc
-
-and_true : (a b : Bool) → a ≡ true → b ≡ true → (a && b) ≡ true
-and_true true b h k = k
-and_true false b h k = h
-
 -- ---- functions
 
 accepted : (f : Function) (r : Result Path Found) → path_of_block (state_at_entry f) (state_at_entry f) f.body ≡ r → fault_at_end r (end_line_of f.body) ≡ None → AcceptedFunction f

@@ -201,17 +201,6 @@ lines_follow old new k c before after p q lines h =
     printed_in new k q.0 q.1 ∙ printed_more old new k c p.0 q.0 p.1 q.1
     ∙ (λ i. more_of ((sym (printed_in old k p.0 p.1) ∙ h) i) (number_at ((sym q.2) i) (length ((sym p.2) i))))
 
--- one line more was looked at
-pub numbers_more : (xs : List Printed) (k i : ℕ) (x : Printed) → i < length xs → x ≡ get_or xs i x → numbers_of (take (i + 1) xs) k ≡ numbers_of (take i xs) k ++ (if x.thread == k then x.number ∷ [] else [])
-numbers_more xs k i x below is =
-    ap (map (λ (p : Printed). p.number)) (filter_more (λ (p : Printed). p.thread == k) xs i x below ∙ ap (λ (y : Printed). filter (λ (p : Printed). p.thread == k) (take i xs) ++ cond (y.thread == k) (y ∷ []) []) (sym is))
-    ∙ map-append (λ (p : Printed). p.number) (filter (λ (p : Printed). p.thread == k) (take i xs)) _
-    ∙ ap (λ l. numbers_of (take i xs) k ++ l) (one (x.thread == k))
-  where
-    one : (b : Bool) → map (λ (p : Printed). p.number) (cond b (x ∷ []) []) ≡ (if b then x.number ∷ [] else [])
-    one true = refl
-    one false = refl
-
 -- ---- how many entries, and the end
 
 entries_in : (r : Run) (k : ℕ) → IsSome (replay_of r) → (account_of r k).entries ≡ entries_of r.journal k

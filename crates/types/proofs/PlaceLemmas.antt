@@ -39,10 +39,3 @@ pub ruleset place_rules = (found-none, found-append)
 pub found-is : (ps : List Place) → found ps ≡ flat_map told_at ps
 unfolding found
 found-is ps = refl
-
--- after its end a list has nothing
-pub past : {A : Type 0} (i : ℕ) (xs : List A) → length xs ≤ i → drop i xs ≡ []
-past zero [] h = refl
-past zero (x ∷ xs) h = absurd (omega arith)
-past (suc i) [] h = refl
-past (suc i) (x ∷ xs) h = past i xs (omega arith)

@@ -38,17 +38,6 @@ binary_gives Order (Some Jint) (Some Jint) = refl
 binary_gives OnWords (Some Word) (Some Word) = refl
 binary_gives g a b = refl
 
-pub prefix-of_value : (op : PrefixOp) (a : Option ExprType) → prefix_type op (of_value a) ≡ of_value (prefix_type op a)
-prefix-of_value LogicalNot (Some Truth) = refl
-prefix-of_value Complement (Some Word) = refl
-prefix-of_value ToWord (Some Word) = refl
-prefix-of_value ToWord (Some Jint) = refl
-prefix-of_value ToWord (Some Flag) = refl
-prefix-of_value ToInt (Some Word) = refl
-prefix-of_value ToInt (Some Jint) = refl
-prefix-of_value ToInt (Some Flag) = refl
-prefix-of_value op a = refl
-
 prefix_gives : (op : PrefixOp) (a : Option ExprType) → of_value (prefix_type op a) ≡ prefix_type op a
 prefix_gives LogicalNot (Some Truth) = refl
 prefix_gives Complement (Some Word) = refl
@@ -59,11 +48,6 @@ prefix_gives ToInt (Some Word) = refl
 prefix_gives ToInt (Some Jint) = refl
 prefix_gives ToInt (Some Flag) = refl
 prefix_gives op a = refl
-
-pub index-of_value : (a : Option ExprType) → is_index (of_value a) ≡ is_index a
-index-of_value (Some Word) = refl
-index-of_value (Some Jint) = refl
-index-of_value a = refl
 
 pub element-of_value : (b : Bool) → of_value (if b then Some Jint else None) ≡ (if b then Some Jint else None)
 element-of_value true = refl
@@ -85,15 +69,6 @@ null_gives scope (Some x) d e = on_bool (is_nullable (type_in scope x))
     on_bool : (b : Bool) → of_value (option_or (if b then Some Truth else None) d) ≡ option_or (if b then Some Truth else None) d
     on_bool true = refl
     on_bool false = e
-
--- a comparison with NULL
-pub null-tested : (scope : Scope) (tested : Option Identifier) (d : Option ExprType) → is_some (null_test_type scope tested) ≡ true → Some Truth ≡ option_or (null_test_type scope tested) d
-null-tested scope None d e = absurd cc
-null-tested scope (Some x) d e = on_bool (is_nullable (type_in scope x)) e
-  where
-    on_bool : (b : Bool) → is_some (if b then Some Truth else None) ≡ true → Some Truth ≡ option_or (if b then Some Truth else None) d
-    on_bool true h = refl
-    on_bool false h = absurd cc
 
 -- a type that is a value's
 pub value-is : (o : Option ExprType) (t : ExprType) → of_value o ≡ Some t → o ≡ Some t

@@ -1,6 +1,6 @@
 use Rattle.std.proofs.Common.{rules, ◌+◌, ◌++◌, [], subst, List, length, length-append, arith, drop, Result, Ok, refl, append-nil, sym, ap, ◌∙◌}
 use Rattle.std.specs.Prelude.{◌≡◌, IfOk}
-use Rattle.std.proofs.lemmas.List.{append_assoc}
+use Rattle.std.proofs.lemmas.List.{append_assoc, drop_all}
 use Rattle.std.proofs.lemmas.Result.{err_from_is_err_and}
 use Rattle.base.specs.Bytes.{Identifier}
 use Rattle.syntax.specs.declared.stmt.Stmt.{Stmt as StmtInMemory}
@@ -20,7 +20,7 @@ use Rattle.region_states.specs.StatesInMemory.{names_of}
 use Rattle.regions.specs.Walks.{PathOrFault, path_value, Branches, Awaits, go_on, inner_path}
 use Rattle.regions.specs.Paths.{join_paths, path_of_block}
 use Rattle.region_states.proofs.NameLemmas.{where_true_names, where_false_names}
-use Rattle.regions.proofs.PathLemmas.{plain_is, plain_new, Goes-along, Stops-along, first_stops, stmt_goes, go_fault, past, if_ok_weaker, if_ok_always, branch_awaits, passed_names, stmt_fault, stmt_next, go_rest, go_step, after_line, turn_is_join}
+use Rattle.regions.proofs.PathLemmas.{plain_is, plain_new, Goes-along, Stops-along, first_stops, stmt_goes, go_fault, if_ok_weaker, if_ok_always, branch_awaits, passed_names, stmt_fault, stmt_next, go_rest, go_step, after_line, turn_is_join}
 use Rattle.regions.proofs.walk.+walk.Goals as goal
 
 -- ---- the loop over a block's statements
@@ -120,7 +120,7 @@ block_path-returns-clause-goes t c = λ outer same.
     let grows = c.loop-stmt.invariant.grows in
     Goes-along c.end.result c.end.new.state _ _
     (c.loop-stmt.invariant.goes outer same
-    ∙ ap (λ (left : List StmtInMemory). go_on outer (path_value c.loop-stmt.path now) (statements_tree left end_line)) (past i items c.loop-stmt-test.false))
+    ∙ ap (λ (left : List StmtInMemory). go_on outer (path_value c.loop-stmt.path now) (statements_tree left end_line)) (drop_all i items c.loop-stmt-test.false))
     (c.end.ensures.goes outer (c.loop-stmt.invariant.count ∙ ap length (sym same)) (grows.0, grows.1 ∙ ap (λ (names : List Identifier). names ++ grows.0) (sym same)))
 
 pub block_path-returns-clause-names : goal.block_path-returns-clause-names

@@ -1,6 +1,7 @@
 use Rattle.std.proofs.Common.{◌≡◌, ℕ, ◌+◌, ◌-◌, List, [], ◌∷◌, ◌++◌, drop, length, sym, ap, ap₂, subst, ◌∙◌, append_assoc, append-nil}
 use Rattle.std.proofs.lemmas.List.Elements.{filter_map-append}
 use Rattle.std.proofs.lemmas.Result.{on_ok_weaker}
+use Rattle.std.proofs.lemmas.List.{drop_all}
 use Rattle.base.specs.Bytes.{Identifier}
 use Rattle.syntax.specs.declared.stmt.Block.{out-Block}
 use Rattle.syntax.specs.Parts.{statements_of, statements_within, names_declared, declared_name}
@@ -11,7 +12,7 @@ use Rattle.type_rules.specs.TypeRules.{places_of, with_declared}
 use Rattle.types.specs.AllFaults.{told_at}
 use Rattle.types.specs.Faults.{Tells, IsAbove, scope_of, found, statement_place, places_inside}
 use Rattle.types.proofs.KeptLemmas.{tells-none, tells-next, left-all, left-next, left-none}
-use Rattle.types.proofs.PlaceLemmas.{found-none, found-append, past}
+use Rattle.types.proofs.PlaceLemmas.{found-none, found-append}
 use Rattle.types.proofs.BlockLemmas.{found-rest, declared-rest, alone, none-inside, above-none, above-more, forgotten}
 use Rattle.types.proofs.blocks.+blocks.Goals as goal
 
@@ -55,7 +56,7 @@ pub check_block-returns-clause-tells : goal.check_block-returns-clause-tells
 check_block-returns-clause-tells t c =
     left-none c.args.all c.args.faults.now.items c.loop-stmt.faults.items _ _ c.loop-stmt.invariant.tells
     (ap (λ items. found (places_of (result_tree c.args.returns) (scope_of c.loop-stmt.known) c.loop-stmt.taken (statements_tree items (out-Block c.args.block.now).end_line)))
-    (past c.loop-stmt.stmt-index c.deref-stmt-items.result.now c.loop-stmt-test.false)
+    (drop_all c.loop-stmt.stmt-index c.deref-stmt-items.result.now c.loop-stmt-test.false)
     ∙ found-none)
 
 pub check_block-returns-clause-restored : goal.check_block-returns-clause-restored
@@ -66,7 +67,7 @@ pub check_block-returns-clause-taken : goal.check_block-returns-clause-taken
 check_block-returns-clause-taken t c =
     sym
     (c.loop-stmt.invariant.taken
-    ∙ ap (λ items. c.loop-stmt.taken ++ names_declared (statements_of (statements_tree items (out-Block c.args.block.now).end_line))) (past c.loop-stmt.stmt-index c.deref-stmt-items.result.now c.loop-stmt-test.false)
+    ∙ ap (λ items. c.loop-stmt.taken ++ names_declared (statements_of (statements_tree items (out-Block c.args.block.now).end_line))) (drop_all c.loop-stmt.stmt-index c.deref-stmt-items.result.now c.loop-stmt-test.false)
     ∙ append-nil c.loop-stmt.taken)
 
 -- ---- what is inside a statement

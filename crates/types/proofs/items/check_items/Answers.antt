@@ -1,9 +1,10 @@
 use Rattle.std.proofs.Common.{◌+◌, ◌++◌, map, drop, sym, ap, ap₂, ◌∙◌}
+use Rattle.std.proofs.lemmas.List.{drop_all}
 use Rattle.syntax.specs.Views.{item_tree}
 use Rattle.type_rules.specs.TypeRules.{item_places}
 use Rattle.types.specs.Faults.{found, scope_of, own_places}
 use Rattle.types.proofs.KeptLemmas.{left-next, left-none}
-use Rattle.types.proofs.PlaceLemmas.{found-none, past}
+use Rattle.types.proofs.PlaceLemmas.{found-none}
 use Rattle.types.proofs.ItemLemmas.{found-item}
 use Rattle.types.proofs.items.check_items.Goals as goal
 
@@ -22,5 +23,5 @@ loop-item-preserved c =
 pub returns : goal.returns
 returns c =
     left-none c.args.all c.args.faults.now.items c.loop-item.faults.items _ _ c.loop-item.invariant
-    (ap (λ items. found (item_places c.loop-item.names.items (scope_of c.loop-item.statics) (map item_tree items))) (past c.loop-item.item-index c.args.items.now c.loop-item-test.false)
+    (ap (λ items. found (item_places c.loop-item.names.items (scope_of c.loop-item.statics) (map item_tree items))) (drop_all c.loop-item.item-index c.args.items.now c.loop-item-test.false)
     ∙ found-none)
