@@ -22,8 +22,8 @@ use sinks::{Sink, SinkFailed, put_all, put_pieces};
 
 /// Appends a number in decimal.
 #[tactic(auto, using(std::proofs::lemmas::Fmt::decimal_digit))]
-fn push_number(text: &mut ArrayVec<u8, 4096>, number: u8)
-    requires { array_vec_len text.old + 3 ≤ 4096 }
+fn push_number(text: &mut ArrayVec<u8, 8192>, number: u8)
+    requires { array_vec_len text.old + 3 ≤ 8192 }
     ensures items { text.new.items ≡ text.old.items ++ decimal number }
     ensures short { array_vec_len text.new ≤ array_vec_len text.old + 3 }
 {
@@ -42,8 +42,8 @@ fn push_number(text: &mut ArrayVec<u8, 4096>, number: u8)
 /// Appends a number of one digit after a space: both bytes at once, since each step of a run is written so.
 #[tactic(auto, using(std::proofs::lemmas::Fmt::decimal_digit))]
 #[inline(always)]
-fn push_digit(text: &mut ArrayVec<u8, 4096>, number: u8)
-    requires room { array_vec_len text.old + 5 ≤ 4096 }
+fn push_digit(text: &mut ArrayVec<u8, 8192>, number: u8)
+    requires room { array_vec_len text.old + 5 ≤ 8192 }
     requires digit { number < 10 }
     ensures items { text.new.items ≡ text.old.items ++ (codes " " ++ decimal number) }
     ensures short { array_vec_len text.new ≡ array_vec_len text.old + 2 }
@@ -57,8 +57,8 @@ fn push_digit(text: &mut ArrayVec<u8, 4096>, number: u8)
 /// Appends the word of a step whose allocation was refused, or of a thread whose number has more digits, after a space. It
 /// stands apart, since few steps are such.
 #[inline(never)]
-fn push_rare_step(text: &mut ArrayVec<u8, 4096>, thread: u8, refused: bool)
-    requires { array_vec_len text.old + 5 ≤ 4096 }
+fn push_rare_step(text: &mut ArrayVec<u8, 8192>, thread: u8, refused: bool)
+    requires { array_vec_len text.old + 5 ≤ 8192 }
     ensures { text.new.items ≡ text.old.items ++ (codes " " ++ entry_text (Step thread refused)) }
 {
     text.push(b' ');
@@ -70,8 +70,8 @@ fn push_rare_step(text: &mut ArrayVec<u8, 4096>, thread: u8, refused: bool)
 
 /// Appends the word of a step, after a space.
 #[inline(always)]
-fn push_step(text: &mut ArrayVec<u8, 4096>, thread: u8, refused: bool)
-    requires { array_vec_len text.old + 5 ≤ 4096 }
+fn push_step(text: &mut ArrayVec<u8, 8192>, thread: u8, refused: bool)
+    requires { array_vec_len text.old + 5 ≤ 8192 }
     ensures { text.new.items ≡ text.old.items ++ (codes " " ++ entry_text (Step thread refused)) }
 {
     if refused || thread > 9 {
@@ -121,7 +121,7 @@ fn put_clearing<S: Sink>(sink: &mut S, names: &[ObjectId]) -> Result<(), SinkFai
 #[inline(never)]
 fn put_after<S: Sink>(
     sink: &mut S,
-    text: &mut ArrayVec<u8, 4096>,
+    text: &mut ArrayVec<u8, 8192>,
     objects: &[ObjectId],
 ) -> Result<(), SinkFailed>
     requires { CanFail (S.written sink.old) }
@@ -133,12 +133,13 @@ fn put_after<S: Sink>(
     put_clearing(sink, objects)
 }
 
-/// Puts the words of the entries, each after a space. Those of steps are gathered, and put 4,096 bytes or a few fewer at a time.
+/// Puts the words of the entries, each after a space. Those of steps are gathered, and put 8,192 bytes or a few fewer at a time, which
+/// go past a sink's buffer.
 fn put_entries<S: Sink, E: Entries>(sink: &mut S, entries: &E) -> Result<(), SinkFailed>
     requires { CanFail (S.written sink.old) }
     ensures { Writes (S.written sink.old) (S.written sink.new) result (spelled_entries (E.entries entries.now)) }
 {
-    let mut text = ArrayVec::<u8, 4096>::new();
+    let mut text = ArrayVec::<u8, 8192>::new();
     let mut clearings = 0;
     for place in 0..entries.len() {
         if text.remaining_capacity() < 5 {

@@ -1,24 +1,51 @@
 //! A sink made of a writer.
 
-ghost use Rattle.std.specs.Prelude.{◌≡◌, ◌+◌, ◌-◌, ◌<◌, ◌≤◌, ◌^◌, [], OnOk, OnErr, length, drop};
-ghost use Rattle.std.specs.Io.KnownBytes.{Keeps, append_known};
+ghost use Rattle.std.specs.Prelude.{◌≡◌, ◌+◌, ◌-◌, ◌<◌, ◌≤◌, ◌^◌, [], IfOk, OnOk, OnErr, length, drop, take};
+ghost use Rattle.std.specs.Io.KnownBytes.{Appends, Keeps, append_known};
 
 use crate::sink::{Sink, SinkFailed};
 use arrayvec::ArrayVec;
 use std::io::Write;
 
-/// A writer behind a buffer of 4,096 bytes, with the number of its failures.
+/// The size of a sink's buffer in bytes.
+const BUFFER: usize = 4096;
+
+/// A writer behind a buffer of 4,096 bytes, with the number of its failures. As many bytes that are put together go past the
+/// buffer.
 ///
 /// The bytes that it tells are those that the writer took, followed by those that wait in the buffer. After a
 /// `flush` that succeeds none waits, so they are exactly what the writer took. It never allocates.
 #[derive(Drop)]
 pub struct StdSink<W: Write> {
     writer: W,
-    buffer: ArrayVec<u8, 4096>,
+    buffer: ArrayVec<u8, BUFFER>,
     // How many bytes of the buffer the writer took already.
     sent: usize,
     failures: u64,
     ghost sent_before: { sent ≤ length buffer.items },
+}
+
+/// Gives a writer some of these bytes, and answers how many; or counts one more failure.
+fn write_some<W: Write>(
+    writer: &mut W,
+    failures: &mut u64,
+    bytes: &[u8],
+) -> Result<usize, SinkFailed>
+    requires can_fail { failures.old < 2 ^ 64 - 1 }
+    ensures within { IfOk result (λ n. n ≤ length bytes.now) }
+    ensures some { IfOk result (λ n. 0 < n) }
+    ensures taken { IfOk result (λ n. Appends (W.contents writer.old) (W.contents writer.new) (take n bytes.now)) }
+    ensures kept { OnErr result (Keeps (W.contents writer.old) (W.contents writer.new)) }
+    ensures same { OnOk result (failures.new ≡ failures.old) }
+    ensures failed { OnErr result (failures.new ≡ failures.old + 1) }
+{
+    match writer.write(bytes) {
+        Ok(taken) if taken > 0 => Ok(taken),
+        _ => {
+            *failures += 1;
+            Err(SinkFailed)
+        }
+    }
 }
 
 impl<W: Write> StdSink<W> {
@@ -63,16 +90,9 @@ impl<W: Write> StdSink<W> {
         ensures failed { OnErr result (self.new.failures ≡ self.old.failures + 1) }
     {
         let (_, waiting) = self.buffer.as_slice().split_at(self.sent);
-        match self.writer.write(waiting) {
-            Ok(taken) if taken > 0 => {
-                self.sent += taken;
-                Ok(())
-            }
-            _ => {
-                self.failures += 1;
-                Err(SinkFailed)
-            }
-        }
+        let taken = write_some(&mut self.writer, &mut self.failures, waiting)?;
+        self.sent += taken;
+        Ok(())
     }
 
     /// Gives the writer all of the bytes that wait, and empties the buffer.
@@ -101,6 +121,10 @@ impl<W: Write> Sink for StdSink<W> {
     } };
 
     fn put(&mut self, bytes: &[u8]) -> Result<usize, SinkFailed> {
+        if bytes.len() >= BUFFER {
+            self.send_all()?;
+            return write_some(&mut self.writer, &mut self.failures, bytes);
+        }
         if self.buffer.is_full() {
             self.send_all()?;
         }
