@@ -95,7 +95,7 @@ impl<W: Write> StdSink<W> {
         Ok(())
     }
 
-    /// Gives the writer all of the bytes that wait, and empties the buffer.
+    /// Gives the writer all of the bytes that wait, and empties the buffer, which takes time by its size.
     fn send_all(&mut self) -> Result<(), SinkFailed>
         requires { self.old.failures < 2 ^ 64 - 1 }
         ensures kept { Keeps (append_known (W.contents self.old.writer) (drop self.old.sent self.old.buffer.items))
@@ -104,6 +104,9 @@ impl<W: Write> StdSink<W> {
         ensures same { OnOk result (self.new.failures ≡ self.old.failures) }
         ensures failed { OnErr result (self.new.failures ≡ self.old.failures + 1) }
     {
+        if self.buffer.is_empty() {
+            return Ok(());
+        }
         while self.sent < self.buffer.len() {
             self.send_some()?;
         }
