@@ -8,8 +8,8 @@ use Rattle.jni.specs.Access.{Access, ElementsCopy, ArrayView, CharsCopy, CharsVi
 use Rattle.jni.specs.JniFunction.{GetBuffer, ReleaseBuffer, JniFunction, parameters_for}
 use Rattle.jni.specs.Prototype.{owner, BufferVariable, IsCopy, Mode, NumberArray, StringObject, ParameterKind, NonNull, GivesNothing}
 use Rattle.semantics.specs.Arguments.{ReleaseMode, FreeUncopied, mode_given, variable_given, object_given}
-use Rattle.machine_scenes.specs.SourceEffects.{release_effect}
 use Rattle.semantics.specs.CallStep.{trap_of_call}
+use Rattle.semantics.specs.AnswerTable as table
 use Rattle.semantics.specs.AnswerTable.{call_answer}
 use Rattle.semantics.specs.Heap.{values_of}
 use Rattle.code_meaning.specs.Does.{OperandFits}
@@ -33,9 +33,7 @@ use Rattle.machine_answers.specs.Answers.{IsAnswer, IsCopyAcquired}
 use Rattle.machine_answers.specs.Answers as row
 use Rattle.machine_answers.specs.WorkedOut.{acquires, releases}
 use Rattle.machine_answers.proofs.CallOperands.{GivenObject}
-use Rattle.machine_answers.proofs.TwoCalls.{TwoCalls, unit, references, fields, all, brought, Asked, Works, Does, in_use, object_given_at, object_there}
-use Rattle.machine_scenes.proofs.SourceEffects.{releases as source_releases}
-use Rattle.semantics.specs.Answer.{effect_of}
+use Rattle.machine_answers.proofs.TwoCalls.{TwoCalls, unit, references, fields, all, brought, Asked, Works, Does, object_given_at, object_there}
 
 module _ (both : TwoCalls) where
   open both use {p, w, store, pending, activation, call, others, k, shared, s, target, sound, args}
@@ -52,10 +50,10 @@ module _ (both : TwoCalls) where
     -- the buffer of argument 1 is released
     module _ (b : GivenBuffer store.heap (brought both).buffers s.variables call.operands args) where
       released : (mode : ReleaseMode) → (copies_back (mode_code mode) ≡ true → IsCopyOf shared.heap (object_given args 0) b.holds.buffer)
-          → IsAnswer w.classes (brought both) store.heap activation.locals shared s (releases activation.slots.buffers.items (Some g.address) (operand.Buffer b.slot) (mode_code mode)) GivesNothing (release_effect shared s (object_given args 0) (variable_given args 1) mode)
+          → IsAnswer w.classes (brought both) store.heap activation.locals shared s (releases activation.slots.buffers.items (Some g.address) (operand.Buffer b.slot) (mode_code mode)) GivesNothing (table.released (object_given args 0) mode)
       released mode copy =
           row.releases (record {
-            variable = variable_given args 1;
+            given = b.at;
             holds = b.holds;
             held = ap (λ (o : Option Buffer). unwrap_or o held.Null) b.holds.there;
             name = object_given args 0;
@@ -66,7 +64,7 @@ module _ (both : TwoCalls) where
           })
 
   pub answers_get_buffer : (access : Access) → Asked both (GetBuffer access) → trap_of_call w.classes shared s target (GetBuffer access) args ≡ None → (answer : Answer) → Works both (GetBuffer access) answer → Does both (GetBuffer access) answer
-  unfolding call_answer effect_of
+  unfolding call_answer
   answers_get_buffer (ElementsCopy T) h free answer is =
       let g = object_given_at both (GetBuffer (ElementsCopy T)) [] (NumberArray T) (IsCopy ∷ []) tt refl refl h free in
       subst (λ (x : Answer). Does both (GetBuffer (ElementsCopy T)) x) (sym (is ∙ ap (acquires (ElementsCopy T)) g.at)) (row.acquires_copy (ElementsCopy T, refl) (copy_acquired (GetBuffer (ElementsCopy T)) h g))
@@ -97,15 +95,14 @@ module _ (both : TwoCalls) where
   buffer_given access more are h = given_buffer store.heap (brought both).buffers s.variables access (owner access) more call.operands args (subst (λ (l : List ParameterKind). AllZip OperandFits l call.operands) are h.kinds) h.buffers
 
   pub answers_release : (access : Access) → Asked both (ReleaseBuffer access) → trap_of_call w.classes shared s target (ReleaseBuffer access) args ≡ None → (answer : Answer) → Works both (ReleaseBuffer access) answer → Does both (ReleaseBuffer access) answer
-  unfolding call_answer effect_of
+  unfolding call_answer
   answers_release (ElementsCopy T) h free answer is =
       let f = ReleaseBuffer (ElementsCopy T) in
       let g = object_given_at both f [] (NumberArray T) (BufferVariable (ElementsCopy T) ∷ Mode ∷ []) tt refl refl h free in
       let b = buffer_given (ElementsCopy T) (Mode ∷ []) refl h in
       let mode = given_mode (unit both) w.classes store.heap (references both) (fields both) T (NumberArray T) (BufferVariable (ElementsCopy T)) call.operands args h.kinds h.given in
-      subst (IsAnswer w.classes (brought both) store.heap activation.locals shared s answer GivesNothing) (source_releases w.classes (in_use both) k shared s args (object_given args 0) (mode_given args 2))
-      (subst (λ (x : Answer). IsAnswer w.classes (brought both) store.heap activation.locals shared s x GivesNothing (release_effect shared s (object_given args 0) (variable_given args 1) (mode_given args 2)))
-      (sym (is ∙ (λ i. releases activation.slots.buffers.items (g.at i) (b.at i) (mode i)))) (released f h g b (mode_given args 2) (λ back. copy_there T h b)))
+      subst (λ (x : Answer). Does both f x)
+      (sym (is ∙ (λ i. releases activation.slots.buffers.items (g.at i) (b.at i) (mode i)))) (released f h g b (mode_given args 2) (λ back. copy_there T h b))
   answers_release ArrayView h free answer is =
       let f = ReleaseBuffer ArrayView in
       let g = object_given_at both f [] NonNull (BufferVariable ArrayView ∷ Mode ∷ []) tt refl refl h free in

@@ -16,7 +16,6 @@ use Rattle.code.specs.declared.instr.Operand.{Operand}
 use Rattle.heap.specs.declared.value.Value.TheVariants as cell
 use Rattle.jni.specs.JniFunction.{GetBuffer, ReleaseBuffer, JniFunction, prototype, FindClass, AllocObject, NewLocalRef, NewGlobalRef, NewWeakGlobalRef, DeleteLocalRef, DeleteGlobalRef, DeleteWeakGlobalRef, IsSameObject, EnsureLocalCapacity, PushLocalFrame, PopLocalFrame, GetFieldID, GetStaticFieldID, GetArrayLength, NewArray, NewObjectArray, GetObjectArrayElement, SetObjectArrayElement, NewStringUTF, GetStringLength, Throw, ThrowNew, ExceptionOccurred, ExceptionCheck, ExceptionClear, FatalError, GetSuperclass, GetObjectClass, IsInstanceOf, IsAssignableFrom, GetField, SetField, GetObjectField, SetObjectField, GetStaticField, SetStaticField, GetStaticObjectField, SetStaticObjectField, MonitorEnter, MonitorExit, GetArrayRegion, SetArrayRegion, GetStringRegion, GetStaticMethodID, CallStaticVoidMethod, CallStaticIntMethod, CallStaticObjectMethod}
 use Rattle.jni.specs.Prototype.{ClassObject, FieldID, IntNumber, NonNull, Nullable, NumberArray, ObjectArray, StringObject, TextBytes, GivesNothing}
-use Rattle.semantics.specs.Answer.{effect_of}
 use Rattle.semantics.specs.AnswerTable as table
 use Rattle.semantics.specs.AnswerTable.{call_answer}
 use Rattle.semantics.specs.Arguments.{Actual, name_or_zero}
@@ -116,7 +115,7 @@ module _ (p : Lowered) (w : World) (store : Store) (pending : Option ℕ) (activ
 
   -- what is worked out stands for what the table says of what the call sees
   seen : (f : JniFunction) → Asked both f → Passes both f → (answer : Answer) → Works both f answer → HasKey both f → IsHeld both f → Stands both answer (prototype f).result (call_answer (unit both) w.classes k (sight both f) f)
-  unfolding call_answer effect_of
+  unfolding call_answer
   seen FindClass h free answer is keyed held = stands both is (class_found both FindClass h _ (class_within w.classes (text 0)))
   seen GetSuperclass h free answer is keyed held =
       stands both (is ∙ ap (λ (c : ℕ). Gives (given.Reference (class_object store.loaded.items (superclass w.classes c)))) (name 0))

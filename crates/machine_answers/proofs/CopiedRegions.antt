@@ -11,10 +11,12 @@ use Rattle.heap.specs.declared.value.Value.{Value}
 use Rattle.heap.specs.declared.value.Value.TheVariants as value
 use Rattle.heap.proofs.Changes.{changed}
 use Rattle.heap.proofs.Spaces.{part-changed}
-use Rattle.semantics.specs.CallEffects.{overwritten}
+use Rattle.base.specs.Bytes.{lookup}
+use Rattle.semantics.specs.Arguments.{variable_given}
+use Rattle.semantics.specs.CallEffects.{local_array, overwritten}
 use Rattle.semantics.specs.Heap.{numbers_of, values_of, number_in, object_at, with_numbers}
 use Rattle.semantics.specs.Object.{Object, ObjectValue, Number}
-use Rattle.semantics.specs.Thread.{Shared}
+use Rattle.semantics.specs.Thread.{Shared, Thread}
 use Rattle.semantics.specs.World.{World}
 use Rattle.code_meaning.specs.Lowered.{Lowered}
 use Rattle.machine_scenes.specs.declared.array_region.ArrayRegion.{ArrayRegion}
@@ -103,20 +105,23 @@ overlaid_agree space (w ∷ ws) (u ∷ us) (suc i) new news h g = (h.0, overlaid
 
 -- ---- the store
 
-module _ (p : Lowered) (w : World) (store : Store) (shared : Shared) (brought : Brought) (region : ArrayRegion) (all : Acquired) (h : StoreAgrees p w store shared all) (it : IsCopiedIn brought store.heap shared region) where
+module _ (p : Lowered) (w : World) (store : Store) (shared : Shared) (t : Thread) (brought : Brought) (region : ArrayRegion) (all : Acquired) (h : StoreAgrees p w store shared all) (it : IsCopiedIn brought store.heap shared t region) where
   abbrev words : List ℕ
   words = words_from brought.numbers region
+
+  abbrev numbers : List ℤ
+  numbers = take region.count (local_array (lookup (variable_given brought.args 3) t.variables))
 
   abbrev before : List ℤ
   before = numbers_of shared.heap it.name
 
   abbrev after : List ℤ
-  after = overwritten before region.start it.numbers
+  after = overwritten before region.start numbers
 
   -- as many numbers as words, and no more than are asked for
-  few : length it.numbers ≤ region.count
+  few : length numbers ≤ region.count
   few =
-      let many : length words ≡ length it.numbers = ap length it.words.same ∙ length-map it.numbers (cast_unsigned w32) in
+      let many : length words ≡ length numbers = ap length it.words.same ∙ length-map numbers (cast_unsigned w32) in
       omega (arith, many, length-take region.count (drop region.slot brought.numbers))
 
   -- the object has as many values in memory
@@ -129,14 +134,14 @@ module _ (p : Lowered) (w : World) (store : Store) (shared : Shared) (brought : 
       ∙ sym (ap (λ (o : Option Object). length (option_map_or (λ (x : Object). x.values) o [])) is)
       ∙ sym (length-map (values_of shared.heap it.name) number_in)
 
-  after_is : after ≡ overlaid before region.start it.numbers
-  after_is = sym (overlaid_is before region.start it.numbers (region.start + length it.numbers) refl (omega (arith, few, count, it.within)))
+  after_is : after ≡ overlaid before region.start numbers
+  after_is = sym (overlaid_is before region.start numbers (region.start + length numbers) refl (omega (arith, few, count, it.within)))
 
   many : length (map Number after) ≡ length (values_of shared.heap it.name)
   many =
       length-map after Number
       ∙ ap length after_is
-      ∙ length_overlaid before region.start it.numbers
+      ∙ length_overlaid before region.start numbers
       ∙ length-map (values_of shared.heap it.name) number_in
 
   keeps : (ws : List Value) → length (overlaid ws region.start (map value.Number words)) ≡ length ws
@@ -145,9 +150,9 @@ module _ (p : Lowered) (w : World) (store : Store) (shared : Shared) (brought : 
   agrees : (ws : List Value) → ValuesAgree store.heap ws (values_of shared.heap it.name) → ValuesAgree store.heap (overlaid ws region.start (map value.Number words)) (map Number after)
   agrees ws agree =
       subst (λ (us : List ObjectValue). ValuesAgree store.heap (overlaid ws region.start (map value.Number words)) us)
-      (sym (ap (λ (zs : List ℤ). map Number zs) after_is ∙ map_overlaid Number before region.start it.numbers))
-      (overlaid_agree store.heap ws (map Number before) region.start (map value.Number words) (map Number it.numbers) (subst (λ (us : List ObjectValue). ValuesAgree store.heap ws us) it.all_numbers agree)
-      (subst (λ (l : List ℕ). ValuesAgree store.heap (map value.Number l) (map Number it.numbers)) (sym it.words.same) (words_agree store.heap it.numbers it.words.fit)))
+      (sym (ap (λ (zs : List ℤ). map Number zs) after_is ∙ map_overlaid Number before region.start numbers))
+      (overlaid_agree store.heap ws (map Number before) region.start (map value.Number words) (map Number numbers) (subst (λ (us : List ObjectValue). ValuesAgree store.heap ws us) it.all_numbers agree)
+      (subst (λ (l : List ℕ). ValuesAgree store.heap (map value.Number l) (map Number numbers)) (sym it.words.same) (words_agree store.heap numbers it.words.fit)))
 
   pub copied_agrees : StoreAgrees p w (record store { heap = space_with store.heap region brought.numbers }) (record shared { heap = with_numbers shared.heap it.name after }) all
   copied_agrees = values_agree p w store shared region.object (λ ws. overlaid ws region.start (map value.Number words)) it.name (map Number after) all h it.there keeps many agrees

@@ -1,5 +1,5 @@
 -- What cells hold is what the fields of the source's objects hold, and a cell that changes is a field that does.
-use Rattle.std.proofs.Common.{◌≡◌, ℕ, zero, suc, ◌-◌, ◌≤◌, Bool, true, false, List, [], ◌∷◌, length, Option, Some, nat_lt, refl, sym, ap, ◌∙◌, subst, arith}
+use Rattle.std.proofs.Common.{◌≡◌, ℕ, zero, suc, ◌≤◌, Bool, true, false, List, [], ◌∷◌, length, Option, Some, nat_lt, refl, sym, ap, ◌∙◌, subst, arith}
 use Rattle.std.specs.Prelude.{FitsSigned, slice_get, slice_set}
 use Rattle.std.specs.Int.{w32}
 use Rattle.std.specs.Option.{option_map_or}
@@ -8,7 +8,7 @@ use Rattle.heap.specs.Heap.{Block, Space, name_at, values_at}
 use Rattle.heap.specs.declared.value.Value.{Value}
 use Rattle.heap.specs.declared.value.Value.TheVariants.{Number as Word, Null, Block as Address}
 use Rattle.jni.specs.Prototype.{GivesNothing}
-use Rattle.semantics.specs.CallEffects.{heap_effect}
+use Rattle.semantics.specs.Answer as source
 use Rattle.semantics.specs.Heap.{Heap, class_of, number_in, object_at, reference_in, value_at, value_or_zero, values_of, with_value_at}
 use Rattle.semantics.specs.Object.{Object, ObjectValue, Number, Refers}
 use Rattle.semantics.specs.Thread.{Shared, Thread}
@@ -19,8 +19,6 @@ use Rattle.code_meaning.specs.Slots.{word_of}
 use Rattle.machine_scenes.specs.declared.store.Store.{Store}
 use Rattle.machine_scenes.specs.Buffers.{Acquired}
 use Rattle.machine_scenes.specs.StoreAgrees.{StoreAgrees}
-use Rattle.machine_answers.specs.declared.answer.Answer.TheVariants as replies
-use Rattle.machine_answers.specs.declared.answer.Given.TheVariants as given
 use Rattle.machine_answers.specs.Answers.{Brought, IsAnswer}
 use Rattle.machine_answers.specs.Answers as row
 use Rattle.tables.specs.Locals.{LocalTable}
@@ -126,13 +124,13 @@ module _ (p : Lowered) (w : World) (store : Store) (shared : Shared) (all : Acqu
 
   -- a value that is written
   pub writes : (brought : Brought) (locals : LocalTable) (s : Thread) (a n i : ℕ) (v : Value) (u : ObjectValue) → name_at store.heap a ≡ Some n → ValueAgrees store.heap v u
-      → IsAnswer w.classes brought store.heap locals shared s (writes_there store.heap (Some a) i v) GivesNothing (heap_effect shared s (with_value_at shared.heap n i u))
+      → IsAnswer w.classes brought store.heap locals shared s (writes_there store.heap (Some a) i v) GivesNothing (source.Writes n i u)
   writes brought locals s a n i v u there agrees = by_test (nat_lt i (length (values_at store.heap a))) refl
     where
-      by_test : (b : Bool) → nat_lt i (length (values_at store.heap a)) ≡ b → IsAnswer w.classes brought store.heap locals shared s (writes_there store.heap (Some a) i v) GivesNothing (heap_effect shared s (with_value_at shared.heap n i u))
-      by_test true e = rw e (row.writes (record { name = n; there = there; value = u; agrees = agrees; within = ltb-true i (length (values_at store.heap a)) e; is = refl }))
+      by_test : (b : Bool) → nat_lt i (length (values_at store.heap a)) ≡ b → IsAnswer w.classes brought store.heap locals shared s (writes_there store.heap (Some a) i v) GivesNothing (source.Writes n i u)
+      by_test true e = rw e (row.writes (record { there = there; agrees = agrees; within = ltb-true i (length (values_at store.heap a)) e }))
       by_test false e =
           let it = stored a n there in
           let count : length (values_at store.heap a) ≡ length it.object.values = agree_length store.heap (values_at store.heap a) it.object.values it.agree in
           let past : length it.object.values ≤ i = let above = ltb-false i (length (values_at store.heap a)) e in omega (arith, above, count) in
-          rw e (subst (λ (l : Heap). IsAnswer w.classes brought store.heap locals shared s (replies.Gives given.Nothing) GivesNothing (heap_effect shared s l)) (sym (unchanged shared.heap n i it.object u it.is past)) (row.gives row.nothing))
+          rw e (row.writes_nothing (unchanged shared.heap n i it.object u it.is past))

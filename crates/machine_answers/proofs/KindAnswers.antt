@@ -22,14 +22,13 @@ use Rattle.heap.specs.declared.value.Value.TheVariants as cell
 use Rattle.jni.specs.JniFunction.{JniFunction, DeleteLocalRef, parameters_for, prototype}
 use Rattle.jni.specs.Prototype.{ParameterKind, ClassObject, FieldID, IntNumber, ResultKind, NewLocal, GivesInt, GivesField, GivesMethod, GivesNothing}
 use Rattle.semantics.specs.Answer as source
-use Rattle.semantics.specs.Answer.{effect_of}
 use Rattle.semantics.specs.AnswerTable as table
 use Rattle.semantics.specs.AnswerTable.{call_answer, index_within, value_in}
 use Rattle.semantics.specs.CallSight.{CallSight}
 use Rattle.semantics.specs.Arguments.{Actual, name_or_zero, reference_given, variable_given}
-use Rattle.semantics.specs.CallEffects.{CallEffect, ScalarResult, same_reference, level_of}
+use Rattle.semantics.specs.CallEffects.{ScalarResult, same_reference, level_of}
 use Rattle.semantics.specs.CallSight as seen
-use Rattle.semantics.specs.CallStep.{target_element, trap_of_call}
+use Rattle.semantics.specs.CallStep.{trap_of_call}
 use Rattle.semantics.specs.Heap.{number_in, place_in, reference_in}
 use Rattle.semantics.specs.Method.{MethodId}
 use Rattle.semantics.specs.Object.{Object, ObjectValue, Number, Reference, Refers}
@@ -66,7 +65,7 @@ use Rattle.machine_answers.proofs.FieldValues.{reference_there, word_there, writ
 use Rattle.machine_answers.proofs.SightParts.{name_seen_is, object_there_is}
 use Rattle.machine_answers.proofs.SightPlaces.{word_there as number_word}
 use Rattle.machine_answers.proofs.SightsAgree.{HeldStatic, Place, There, Past, deletes_static, held_is, place_at, sights_agree, static_given}
-use Rattle.machine_answers.proofs.TwoCalls.{TwoCalls, Asked, Does, agrees, all, at, brought, built_in_class, fields, in_use, object_of, references, table_of, unit}
+use Rattle.machine_answers.proofs.TwoCalls.{TwoCalls, Asked, Does, agrees, all, at, brought, built_in_class, fields, object_of, references, table_of, unit}
 
 module _ (both : TwoCalls) where
   open both use {p, w, store, pending, activation, call, others, k, owner, shared, s, target, sound, args}
@@ -80,12 +79,11 @@ module _ (both : TwoCalls) where
 
   -- an answer in memory stands for this one
   abbrev pub Stands : Answer → ResultKind → source.Answer → Type 0
-  Stands x kind a = IsAnswer w.classes (brought both) store.heap activation.locals shared s x kind (effect_of w.classes (in_use both) k shared s args a)
+  Stands x kind a = IsAnswer w.classes (brought both) store.heap activation.locals shared s x kind a
 
   -- what is worked out is this, which stands for an answer
-  pub stands : {x answer : Answer} {kind : ResultKind} {effect : CallEffect} → answer ≡ x
-      → IsAnswer w.classes (brought both) store.heap activation.locals shared s x kind effect → IsAnswer w.classes (brought both) store.heap activation.locals shared s answer kind effect
-  stands {kind = kind} {effect = effect} is h = subst (λ (y : Answer). IsAnswer w.classes (brought both) store.heap activation.locals shared s y kind effect) (sym is) h
+  pub stands : {x answer : Answer} {kind : ResultKind} {a : source.Answer} → answer ≡ x → Stands x kind a → Stands answer kind a
+  stands {kind = kind} {a = a} is h = subst (λ (y : Answer). Stands y kind a) (sym is) h
 
   -- no check stops the call
   abbrev pub Passes : JniFunction → Type 0
@@ -253,38 +251,31 @@ module _ (both : TwoCalls) where
 
   -- an exception of a built-in class after Class
   pub raised : {kind : ResultKind} (c : ℕ) → 2 < c → c ≤ 42 → Stands (replies.Throws (class_id c)) kind (source.Raises c)
-  unfolding effect_of
   raised c low high = row.throws (built_in_class both c low high)
 
   pub class_found : (f : JniFunction) → Asked both f → (o : Option ℕ) → ((c : ℕ) → o ≡ Some c → InTable c) → Stands (found_class store.loaded.items o) NewLocal (table.found_class o)
-  unfolding effect_of
   class_found f h None known = raised no_class_def_found_error (omega arith) (omega arith)
   class_found f h (Some c) known = row.gives (row.reference (class_agrees f h (Some c) known))
 
   pub field_found : (o : Option FieldId) (answer : Answer) → IsFoundField w.classes o answer → Stands answer GivesField (table.found_field o)
-  unfolding effect_of
   field_found None answer is = stands is (raised no_such_field_error (omega arith) (omega arith))
   field_found (Some f) answer is = stands is.1 (row.gives (row.field is.2))
 
   pub method_found : (o : Option MethodId) (answer : Answer) → IsMakeable w.classes no_such_method_error → IsFoundMethod (unit both) w.classes o answer → Stands answer GivesMethod (table.found_method o)
-  unfolding effect_of
   method_found None answer makeable is = stands is (row.throws makeable)
   method_found (Some m) answer makeable is = stands is.1 (row.gives (row.method is.2))
 
   pub ensured : (z : ℤ) → Stands (room_for z) GivesInt (table.ensured z)
-  unfolding effect_of
   ensured (pos n) = row.ensures
   ensured (negsuc n) = row.refuses
 
   pub pushed : (z : ℤ) → Stands (frame_for z) GivesInt (table.pushed z)
-  unfolding effect_of
   pushed (pos n) = row.pushes
   pushed (negsuc n) = row.refuses
 
   pub local_deleted : (key : Option ℕ) (r : Reference) → OwnKey store.heap activation.locals key r (level_of (lookup (variable_given args 0) s.variables)) → Stands (deletes key) GivesNothing (table.local_deleted r)
-  unfolding effect_of
   local_deleted None None own = row.gives row.nothing
-  local_deleted (Some key) (Some n) own = row.deletes n (level_of (lookup (variable_given args 0) s.variables)) own
+  local_deleted (Some key) (Some n) own = row.deletes n 0 own
   local_deleted key r own = absurd own
 
   -- the key of a reference that is deleted, by the name by which it is seen
@@ -307,17 +298,15 @@ module _ (both : TwoCalls) where
       (static.0, static.1, record { place = found.place; there = found.there ∙ ap (λ (r : StaticReference). Some r) (sym (held_is store.heap (static_at (references both) static.0) found.reference found.agrees)) })
 
   pub global_deleted : (i : ℕ) (x : Held) → IsStatic i x → Stands (deletes_held i x) GivesNothing (table.global_deleted (Some (held_seen store.heap x)))
-  unfolding effect_of
-  global_deleted i (held.At a) it = row.deletes_global (variable_given args 0) (name_or_zero (name_at store.heap a)) (record { place = it.place; there = it.there })
+  global_deleted i (held.At a) it = row.deletes_global (name_or_zero (name_at store.heap a)) 0 (record { place = it.place; there = it.there })
   global_deleted i held.Empty it = row.gives row.nothing
   global_deleted i (held.Weakly a) it = row.gives row.nothing
   global_deleted i held.Cleared it = row.gives row.nothing
   global_deleted i held.Deleted it = row.gives row.nothing
 
   pub weak_deleted : (i : ℕ) (x : Held) → IsStatic i x → Stands (deletes_held_weakly i x) GivesNothing (table.weak_deleted (Some (held_seen store.heap x)))
-  unfolding effect_of
-  weak_deleted i (held.Weakly a) it = row.deletes_weak (variable_given args 0) (record { place = it.place; held = Weakly (name_or_zero (name_at store.heap a)); there = it.there; weak = tt })
-  weak_deleted i held.Cleared it = row.deletes_weak (variable_given args 0) (record { place = it.place; held = Cleared; there = it.there; weak = tt })
+  weak_deleted i (held.Weakly a) it = row.deletes_weak 0 (record { place = it.place; held = Weakly (name_or_zero (name_at store.heap a)); there = it.there; weak = tt })
+  weak_deleted i held.Cleared it = row.deletes_weak 0 (record { place = it.place; held = Cleared; there = it.there; weak = tt })
   weak_deleted i held.Empty it = row.gives row.nothing
   weak_deleted i (held.At a) it = row.gives row.nothing
   weak_deleted i held.Deleted it = row.gives row.nothing
@@ -325,11 +314,9 @@ module _ (both : TwoCalls) where
   -- a value of an object is written
   pub written : (o : Option ℕ) (a n i : ℕ) (v : Value) (u : ObjectValue) → o ≡ Some a → name_at store.heap a ≡ Some n → ValueAgrees store.heap v u → StoreAgrees p w store shared (all both)
       → Stands (writes_there store.heap o i v) GivesNothing (source.Writes n i u)
-  unfolding effect_of
   written o a n i v u is there fits agree = stands (ap (λ (x : Option ℕ). writes_there store.heap x i v) is) (writes p w store shared (all both) agree (brought both) activation.locals s a n i v u there fits)
 
   pub array_made : (class : ℕ) (v : Value) (u : ObjectValue) → IsMakeable w.classes class → ValueAgrees store.heap v u → (z : ℤ) → Stands (new_array class z v) NewLocal (table.new_array class z u)
-  unfolding effect_of
   array_made class v u makeable agree (pos n) = row.makes (record { object = (u, agree, refl); makeable = makeable })
   array_made class v u makeable agree (negsuc n) = raised negative_array_size (omega arith) (omega arith)
 
@@ -341,13 +328,11 @@ module _ (both : TwoCalls) where
   index_is (Some a) (negsuc i) = refl
 
   pub element_read : (o : Option ℕ) (q : Reference) → ReferenceAgrees store.heap o q → StoreAgrees p w store shared (all both) → (index : Option ℕ) → Stands (element_there store.heap o index) NewLocal (table.element_given (values_seen store.heap o) index)
-  unfolding effect_of
   element_read o q h agree None = raised array_index_out_of_bounds (omega arith) (omega arith)
   element_read o q h agree (Some i) = row.gives (row.reference (reference_read o q h agree i))
 
   pub element_written : (o : Option ℕ) (a n : ℕ) (v : Value) (r : Reference) → o ≡ Some a → name_at store.heap a ≡ Some n → ValueAgrees store.heap v (Refers r) → StoreAgrees p w store shared (all both) → (fits : Bool) (index : Option ℕ)
       → Stands (stores_there store.heap o fits index v) GivesNothing (table.element_set fits n r index)
-  unfolding effect_of
   element_written o a n v r is there holds agree fits None = raised array_index_out_of_bounds (omega arith) (omega arith)
   element_written o a n v r is there holds agree false (Some i) = raised array_store_exception (omega arith) (omega arith)
   element_written o a n v r is there holds agree true (Some i) = written o a n i v (Refers r) is there holds agree

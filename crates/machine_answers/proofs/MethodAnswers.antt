@@ -4,11 +4,10 @@ use Rattle.std.specs.Prelude.{◌==◌}
 use Rattle.std.proofs.lemmas.List.{drop-map}
 use Rattle.syntax.specs.Tree.{ResultType}
 use Rattle.jni.specs.JniFunction.{JniFunction, CallStaticVoidMethod, CallStaticIntMethod, CallStaticObjectMethod, calls_method, prototype}
-use Rattle.semantics.specs.Arguments.{Actual, method_given, object_given, passed_value}
-use Rattle.semantics.specs.CallEffects.{CallEffect, Enters}
+use Rattle.semantics.specs.Arguments.{Actual, method_given, object_given}
 use Rattle.semantics.specs.CallStep.{target_element, trap_of_call}
-use Rattle.semantics.specs.Answer.{Answer, effect_of, Calls as Calling}
-use Rattle.semantics.specs.AnswerTable.{call_answer, call_effect, method_called as as_called}
+use Rattle.semantics.specs.Answer.{Calls as Calling}
+use Rattle.semantics.specs.AnswerTable.{call_answer, method_called as as_called}
 use Rattle.semantics.specs.CallSight.{ArgumentSight, argument_seen, sight_of_call}
 use Rattle.semantics.specs.Checks.{all_pass, calls_well, go_together, is_int, is_reference_result, is_void}
 use Rattle.semantics.specs.Method.{MethodId}
@@ -20,7 +19,7 @@ use Rattle.machine_answers.specs.Answers.{IsAnswer}
 use Rattle.machine_answers.specs.Answers as row
 use Rattle.machine_answers.proofs.CallChecks.{method_at_place}
 use Rattle.machine_answers.proofs.CallTraps.{goes_together}
-use Rattle.machine_answers.proofs.TwoCalls.{TwoCalls, brought, Asked, Does, fields, in_use, references, unit}
+use Rattle.machine_answers.proofs.TwoCalls.{TwoCalls, brought, Asked, Does, fields, references, unit}
 
 -- both of two hold
 both_hold : (a b : Bool) → (a && b) ≡ true → (a ≡ true) × (b ≡ true)
@@ -42,24 +41,16 @@ module _ (both : TwoCalls) where
     pub at : method_at (fields both) (operand_of call.operands 1) ≡ Some handle
     pub is : IsMethod (unit both) w.classes handle method
     pub passes : all_pass method.function.parameters (map of (drop 2 args)) ≡ true
-    pub effect : call_effect (unit both) w.classes (in_use both) k shared s args f ≡ Enters method.function.name (map passed_value (drop 2 args))
-
-  -- the effect of an answer
-  abbrev Effect : Answer → CallEffect
-  Effect a = effect_of w.classes (in_use both) k shared s args a
-
-  enters : (m : MethodId) → Effect (Calling m) ≡ Enters m.function.name (map passed_value (drop 2 args))
-  unfolding effect_of
-  enters m = refl
+    pub answer : call_answer (unit both) w.classes k (sight_of_call shared s f args) f ≡ Calling method
 
   well_called : (f : JniFunction) (wants : ResultType → Bool) (h : Option MethodHandle) (m : Option MethodId) → method_at (fields both) (operand_of call.operands 1) ≡ h → method_given args 1 ≡ m → MethodAgrees (unit both) w.classes h m
-      → calls_well w.classes (sight_of_call shared s f args) wants m ≡ true → call_effect (unit both) w.classes (in_use both) k shared s args f ≡ Effect (as_called (method_given args 1)) → CalledMethod f
+      → calls_well w.classes (sight_of_call shared s f args) wants m ≡ true → call_answer (unit both) w.classes k (sight_of_call shared s f args) f ≡ as_called (method_given args 1) → CalledMethod f
   well_called f wants None None at given agrees well does = absurd (cc)
   well_called f wants None (Some m) at given agrees well does = absurd agrees
   well_called f wants (Some h) None at given agrees well does = absurd agrees
   well_called f wants (Some h) (Some m) at given agrees well does =
       let last = both_hold (m.class == object_given args 0 && wants m.function.result) (all_pass m.function.parameters (drop 2 (map of args))) well in
-      record { method = m; given = given; handle = h; at = at; is = agrees; passes = ap (all_pass m.function.parameters) (sym (drop-map of 2 args)) ∙ last.1; effect = does ∙ ap (λ (o : Option MethodId). Effect (as_called o)) given ∙ enters m }
+      record { method = m; given = given; handle = h; at = at; is = agrees; passes = ap (all_pass m.function.parameters) (sym (drop-map of 2 args)) ∙ last.1; answer = does ∙ ap (λ (o : Option MethodId). as_called o) given }
 
   together : (f : JniFunction) → (h : Asked both f) → trap_of_call w.classes shared s target f args ≡ None → go_together w.classes (sight_of_call shared s f args) (target_element s.variables target) f ≡ true
   together f h free = goes_together p w store pending activation call others k owner shared s target f args h free
@@ -79,5 +70,4 @@ module _ (both : TwoCalls) where
   pub method_called : (f : JniFunction) → calls_method f ≡ true → Asked both f → trap_of_call w.classes shared s target f args ≡ None → Does both f Calls
   method_called f is h free =
       let it = called_method f is h free in
-      subst (IsAnswer w.classes (brought both) store.heap activation.locals shared s Calls (prototype f).result) (sym it.effect)
-      (row.calls it.method.function.name (map passed_value (drop 2 args)))
+      subst (IsAnswer w.classes (brought both) store.heap activation.locals shared s Calls (prototype f).result) (sym it.answer) (row.calls it.method)

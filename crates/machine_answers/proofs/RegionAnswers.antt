@@ -1,10 +1,9 @@
 -- What stands in memory for answers of regions, by what a call sees.
-use Rattle.std.proofs.Common.{◌≡◌, ℕ, ℤ, pos, negsuc, ◌+◌, ◌<◌, ◌≤◌, Bool, true, false, List, [], ◌∷◌, drop, length, map, slice_get, take, Option, Some, None, refl, sym, ap, ◌∙◌, subst, arith}
+use Rattle.std.proofs.Common.{◌≡◌, ℕ, ℤ, pos, negsuc, ◌+◌, ◌<◌, ◌≤◌, Bool, true, false, List, [], ◌∷◌, length, map, slice_get, take, Option, Some, None, refl, sym, ap, ◌∙◌, subst, arith}
 use Rattle.std.specs.Prelude.{if◌then◌else◌, nat_le}
 use Rattle.std.specs.List.{AllZip}
 use Rattle.std.specs.Option.{option_map_or}
 use Rattle.std.proofs.lemmas.Bool.{leb-true}
-use Rattle.base.specs.Bytes.{lookup}
 use Rattle.base.specs.Element.{ElementType}
 use Rattle.class_rules.specs.ClassIds.{class_id}
 use Rattle.class_rules.specs.BuiltIns.{number_array}
@@ -15,9 +14,9 @@ use Rattle.heap.specs.Heap.{name_at, values_at}
 use Rattle.jni.specs.JniFunction.{JniFunction, parameters_for}
 use Rattle.jni.specs.Prototype.{ParameterKind, ArrayVariable, IntNumber, NumberArray, GivesNothing}
 use Rattle.semantics.specs.Answer as source
-use Rattle.semantics.specs.Answer.{Region, effect_of}
+use Rattle.semantics.specs.Answer.{Region}
 use Rattle.semantics.specs.AnswerTable.{region_with, region_within}
-use Rattle.semantics.specs.Arguments.{name_or_zero, variable_given}
+use Rattle.semantics.specs.Arguments.{name_or_zero}
 use Rattle.semantics.specs.CallEffects.{local_array}
 use Rattle.semantics.specs.Heap.{numbers_of, values_of}
 use Rattle.semantics.specs.Object.{Number, Object}
@@ -90,7 +89,6 @@ module _ (both : TwoCalls) where
 
       by_room : (i j : ℕ) (b : Bool) → nat_le j array.len ≡ b → i + j ≤ length (values_at store.heap a)
           → Stands both (if b then answer (part i j) else replies.Halts OutOfRange) GivesNothing (if b then go (part_seen i j) else source.Halts trap.OutOfRange)
-      unfolding effect_of
       by_room i j true few within = each i j (leb-true j array.len few) within
       by_room i j false few within = row.halts
 
@@ -122,25 +120,23 @@ module _ (both : TwoCalls) where
 
     -- numbers of the object are read
     pub region_read : (exception : ℕ) → 2 < exception → exception ≤ 42 → Seen (copies_out exception) source.GetsRegion exception (at both 0) (operand_of call.operands 3)
-    unfolding effect_of
     region_read exception low high =
         by_arguments (copies_out exception) source.GetsRegion exception
         (at_place exception low high (copies_out exception array) replies.CopiesOut source.GetsRegion refl (λ r. refl)
         (λ i j few within. row.copies_out (record {
-          name = variable_given args 3;
+          name = n;
+          there = there;
           array = array;
-          given = g.array.given;
+          given = g.array.at;
           slot = refl;
           few = few;
           slots = slots_within j few;
           within = within;
-          numbers = take j (drop i (numbers_of shared.heap n));
           words = words_there store.heap i j (values_at store.heap a) (values_of shared.heap n) (values_there p w store shared (all both) h.store_agrees a n there);
         })))
 
     -- numbers of the local array are written, where the object holds nothing else
     pub region_written : (exception : ℕ) → 2 < exception → exception ≤ 42 → values_of shared.heap n ≡ map Number (numbers_of shared.heap n) → Seen (copies_in exception) source.SetsRegion exception (at both 0) (operand_of call.operands 3)
-    unfolding effect_of
     region_written exception low high alone =
         by_arguments (copies_in exception) source.SetsRegion exception
         (at_place exception low high (copies_in exception array) replies.CopiesIn source.SetsRegion refl (λ r. refl)
@@ -150,7 +146,6 @@ module _ (both : TwoCalls) where
           slots = slots_within j few;
           within = within;
           all_numbers = alone;
-          numbers = take j (local_array (lookup (variable_given args 3) s.variables));
           words = subst (λ (zs : List ℤ). AreWordsOf (words_from activation.slots.numbers.items (part i j)) (take j zs)) (sym (ap local_array g.array.has.is))
               (words_brought activation.slots.numbers.items array g.array.has.elements g.array.has.words j (omega (arith, few, g.array.has.count)));
         })))

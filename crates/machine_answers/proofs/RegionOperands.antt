@@ -25,7 +25,7 @@ use Rattle.semantics.specs.Variable.{Variables}
 use Rattle.semantics_typing.specs.Objects.{AreTypedObjects, HasNumbers, PlaceFits, ValueFits, elements_by_kind, element_type_of, type_at}
 use Rattle.semantics_typing.proofs.TableKinds.{kind_numbers}
 use Rattle.semantics_typing.proofs.Heaps.{values_there}
-use Rattle.machine_answers.specs.Answers.{AreWordsOf, array_given, named_array}
+use Rattle.machine_answers.specs.Answers.{AreWordsOf}
 use Rattle.machine_answers.specs.Copies.{word_of as word_in_cell}
 use Rattle.machine_scenes.specs.Given.{HasArray, HasElements, operand_of, operand_or_null}
 use Rattle.machine_scenes.specs.HeapAgrees.{ValueAgrees, ValuesAgree}
@@ -40,7 +40,6 @@ use Rattle.machine_answers.proofs.SightsAgree.{Place, There, Past, place_at}
 pub record GivenArray (numbers : List ℕ) (vs : Variables) (operands : List Operand) (args : List Actual) : Type 0 where
   pub array : ArraySlots
   pub at : operand_of operands 3 ≡ operand.Array array
-  pub given : array_given operands args ≡ Some (variable_given args 3, array)
   pub has : HasElements numbers array (lookup (variable_given args 3) vs)
 
 array_operand : (t : ElementType) (o : Operand) → OperandFits (ArrayVariable t) o → (array : ArraySlots) × (o ≡ operand.Array array)
@@ -70,7 +69,6 @@ local_array numbers vs t ps operands args kinds fit has is = by_place (place_at 
         record {
           array = slots.0;
           at = ap operand_or_null at_o ∙ slots.1;
-          given = (λ i. named_array (at_o i) (at_a i)) ∙ (λ i. named_array (Some (slots.1 i)) (Some (named.1 i))) ∙ ap (λ (y : Identifier). Some (y, slots.0)) (sym name);
           has = subst (λ (y : Identifier). HasElements numbers slots.0 (lookup y vs)) (sym name) named.2;
         }
     by_place (Past at_p at_o at_a) = absurd (let e : None ≡ Some (ArrayVariable t) = sym at_p ∙ is in cc)

@@ -12,7 +12,8 @@ use Rattle.jni.specs.JniFunction.{JniFunction, parameters_for, prototype}
 use Rattle.jni.specs.Prototype.{ParameterKind, ClassObject}
 use Rattle.semantics.specs.Arguments.{Actual, reference_given, object_given, name_or_zero}
 use Rattle.semantics.specs.CallStep.{trap_of_call}
-use Rattle.semantics.specs.AnswerTable.{call_effect}
+use Rattle.semantics.specs.AnswerTable.{call_answer}
+use Rattle.semantics.specs.CallSight.{sight_of_call}
 use Rattle.semantics.specs.Heap.{class_of, object_at}
 use Rattle.semantics.specs.Object.{Object, Reference}
 use Rattle.semantics.specs.Task.{Target}
@@ -27,7 +28,6 @@ use Rattle.machine_scenes.specs.Buffers.{Acquired, acquired_by, beside, in_use_o
 use Rattle.machine_answers.specs.declared.answer.Answer.{Answer}
 use Rattle.machine_scenes.specs.declared.store.Store.{Store}
 use Rattle.machine_scenes.specs.declared.activation.Activation.{Activation}
-use Rattle.machine_answers.specs.declared.answer.Given.TheVariants as given
 use Rattle.machine_answers.specs.Answers.{Brought, IsAnswer}
 use Rattle.machine_scenes.specs.NewObjects.{IsMakeable}
 use Rattle.machine_answers.specs.Asked.{IsAsked, brought_by, references_of, scene_of}
@@ -91,9 +91,9 @@ module _ (both : TwoCalls) where
   abbrev pub Works : JniFunction → Answer → Type 0
   Works f answer = IsWorkedOut (scene_of unit w.classes store activation k pending) call f answer
 
-  -- the answer is what it does
+  -- the answer stands for what the source's call answers
   abbrev pub Does : JniFunction → Answer → Type 0
-  Does f answer = IsAnswer w.classes brought store.heap activation.locals shared s answer (prototype f).result (call_effect unit w.classes in_use k shared s args f)
+  Does f answer = IsAnswer w.classes brought store.heap activation.locals shared s answer (prototype f).result (call_answer unit w.classes k (sight_of_call shared s f args) f)
 
   abbrev pub at : (i : ℕ) → Option ℕ
   at i = operand_at references (operand_of call.operands i)

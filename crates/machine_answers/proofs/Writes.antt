@@ -1,6 +1,6 @@
 -- A store in which values of an object change stands for the source's heap in which they do.
-use Rattle.std.proofs.Common.{inl, ◌≡◌, ◌≢◌, ℕ, zero, suc, ◌+◌, ◌-◌, ◌<◌, ◌≤◌, Bool, true, false, cond, eqb, List, [], ◌∷◌, length, map, get_or, Option, Some, refl, sym, ap, ◌∙◌, subst, arith, ⊎_elim}
-use Rattle.std.specs.Prelude.{find, slice_get, slice_set}
+use Rattle.std.proofs.Common.{inl, ◌≡◌, ◌≢◌, ℕ, zero, suc, ◌+◌, ◌<◌, ◌≤◌, Bool, true, false, cond, eqb, List, [], ◌∷◌, length, map, get_or, Option, Some, refl, sym, ap, ◌∙◌, subst, arith, ⊎_elim}
+use Rattle.std.specs.Prelude.{find, slice_set}
 use Rattle.std.specs.Option.{option_map, option_map_or}
 use Rattle.std.proofs.lemmas.Bool.{cases_eq}
 use Rattle.std.proofs.lemmas.Bool.Decides.{eqb_tells}
@@ -223,31 +223,29 @@ module _ (space : Space) (v : Value) (value : ObjectValue) (agrees : ValueAgrees
   values_set (w ∷ ws) (u ∷ us) zero h = (agrees, h.1)
   values_set (w ∷ ws) (u ∷ us) (suc i) h = (h.0, values_set ws us i h.1)
 
-module _ (p : Lowered) (w : World) (store : Store) (shared after : Shared) (a place : ℕ) (v : Value) (all : Acquired) (h : StoreAgrees p w store shared all) (writes : WritesAt store.heap shared after a place v) where
+module _ (p : Lowered) (w : World) (store : Store) (shared : Shared) (a place name : ℕ) (v : Value) (value : ObjectValue) (all : Acquired) (h : StoreAgrees p w store shared all) (writes : WritesAt store.heap a place v name value) where
   abbrev pub store_after : Store
   store_after = record store { heap = with_value store.heap a place v }
 
   abbrev values_then : List ObjectValue
-  values_then = slice_set (values_of shared.heap writes.name) place writes.value
+  values_then = slice_set (values_of shared.heap name) place value
 
   -- the store before what the value refers to is noted
   abbrev changed_store : Store
   changed_store = record store { heap = with_changed store.heap a (λ b. record b { values = slice_set b.values place v }) }
 
   -- the shared state of the source with the value
-  abbrev shared_then : Shared
-  shared_then = record shared { heap = with_values shared.heap writes.name values_then }
+  abbrev pub shared_then : Shared
+  shared_then = record shared { heap = with_values shared.heap name values_then }
 
-  pub written_agrees : StoreAgrees p w store_after after all
+  pub written_agrees : StoreAgrees p w store_after shared_then all
   written_agrees =
-      subst (λ (x : Shared). StoreAgrees p w store_after x all) (sym writes.is)
-      (store_noted p w changed_store (noted_in v store.heap.marking) shared_then all
-      (values_agree p w store shared a (λ ws. slice_set ws place v) writes.name values_then all h writes.there (λ ws. length-set ws place v) (length-set (values_of shared.heap writes.name) place writes.value)
-      (λ ws agree. values_set store.heap v writes.value writes.agrees ws (values_of shared.heap writes.name) place agree)))
+      store_noted p w changed_store (noted_in v store.heap.marking) shared_then all
+      (values_agree p w store shared a (λ ws. slice_set ws place v) name values_then all h writes.there (λ ws. length-set ws place v) (length-set (values_of shared.heap name) place value)
+      (λ ws agree. values_set store.heap v value writes.agrees ws (values_of shared.heap name) place agree))
 
-  pub written_keeps : Keeps store.heap shared store_after.heap after
+  pub written_keeps : Keeps store.heap shared store_after.heap shared_then
   written_keeps =
-      subst (λ (s : Shared). Keeps store.heap shared store_after.heap s) (sym writes.is)
-      (keeps_noted changed_store.heap (noted_in v store.heap.marking) store.heap shared shared_then
-      (values_keep p w store shared a (λ ws. slice_set ws place v) writes.name values_then all h writes.there (λ ws. length-set ws place v) (length-set (values_of shared.heap writes.name) place writes.value))
-      (stays_noted v store.heap.marking))
+      keeps_noted changed_store.heap (noted_in v store.heap.marking) store.heap shared shared_then
+      (values_keep p w store shared a (λ ws. slice_set ws place v) name values_then all h writes.there (λ ws. length-set ws place v) (length-set (values_of shared.heap name) place value))
+      (stays_noted v store.heap.marking)

@@ -1,8 +1,7 @@
--- What answers are, by the effects of the source's calls.
-use Rattle.std.specs.Prelude.{◌≡◌, ℕ, Bool, true, false, ◌+◌, ◌<◌, ◌≤◌, ℤ, List, [], ◌∷◌, ◌++◌, drop, length, map, slice_get, Option, Some, None, FitsSigned}
+-- Which answers in memory stand for which of the source's.
+use Rattle.std.specs.Prelude.{◌≡◌, ℕ, Bool, true, false, ◌+◌, ◌<◌, ◌≤◌, ℤ, List, drop, length, map, take, Option, Some, None, FitsSigned}
 use Rattle.std.specs.Int.{w32, cast_unsigned}
 use Rattle.std.specs.List.{AllByRecursion}
-use Rattle.std.specs.Option.{option_to_list}
 use Rattle.base.specs.Limits.{most_monitor_entries}
 use Rattle.base.specs.Bytes.{Identifier, lookup}
 use Rattle.syntax.specs.Tree.{SourceUnit}
@@ -14,16 +13,18 @@ use Rattle.classes.specs.declared.class.FieldHandle.{FieldHandle}
 use Rattle.heap.specs.Heap.{Space, name_at, values_at}
 use Rattle.heap.specs.declared.value.Value.{Value}
 use Rattle.jni.specs.Prototype.{ResultKind, NewLocal, NewGlobal, GivesFlag, GivesInt, GivesField, GivesMethod, GivesNothing, NewWeak}
-use Rattle.semantics.specs.CallEffects.{CallResult, NoResult, NullResult, ScalarResult, ReferenceResult, WeakResult, FieldResult, MethodResult, CallEffect, copy_effect, new_effect, view_effect, Halts, Enters, Leaves, Throws, throw_new_effect, frames_effect, refuses_frames, with_capacity, without_local, without_one, begun_with, heap_effect, overwritten}
-use Rattle.machine_scenes.specs.SourceEffects.{enter_effect, exit_effect, release_effect}
-use Rattle.semantics.specs.Heap.{numbers_of, values_of, with_numbers, with_value_at}
+use Rattle.semantics.specs.Answer as source
+use Rattle.semantics.specs.Answer.{Region, effect_of}
+use Rattle.semantics.specs.AnswerTable.{monitor_entered, monitor_left, released}
+use Rattle.semantics.specs.CallEffects.{CallEffect, CallResult, NoResult, NullResult, ScalarResult, ReferenceResult, WeakResult, FieldResult, MethodResult, level_of, local_array}
+use Rattle.semantics.specs.Heap.{numbers_of, values_of, with_value_at}
 use Rattle.semantics.specs.declared.trap.Trap.{Trap}
 use Rattle.semantics.specs.Method.{MethodId}
 use Rattle.semantics.specs.Object.{Object, ObjectValue, Number, Reference}
 use Rattle.semantics.specs.Thread.{BuffersInUse, Monitor, Shared, Thread, monitor_of}
 use Rattle.semantics.specs.Value.{Int, Flag}
-use Rattle.semantics.specs.Variable.{StaticReference, Live, Weakly, Cleared, Deleted, assign, change}
-use Rattle.semantics.specs.Arguments.{Actual, ReleaseMode, VariableActual}
+use Rattle.semantics.specs.Variable.{StaticReference, Live, Weakly, Cleared}
+use Rattle.semantics.specs.Arguments.{Actual, ReleaseMode, variable_given}
 use Rattle.code.specs.declared.instr.LocalArray.{LocalArray}
 use Rattle.code.specs.declared.instr.Operand.{Operand}
 use Rattle.code.specs.declared.instr.Operand.TheVariants as operand
@@ -43,6 +44,7 @@ use Rattle.machine_answers.specs.Copies.{words_at, words_from, words_of}
 use Rattle.machine_scenes.specs.declared.handle.MethodHandle.{MethodHandle}
 use Rattle.machine_scenes.specs.declared.new_object.New.{New}
 use Rattle.machine_scenes.specs.FieldIds.{FieldAgrees, MethodAgrees}
+use Rattle.machine_scenes.specs.Given.{operand_of}
 use Rattle.machine_scenes.specs.HeapAgrees.{ReferenceAgrees, ValueAgrees}
 use Rattle.machine_scenes.specs.Locals.{IsKeyOf}
 use Rattle.machine_scenes.specs.NewObjects.{Describes, IsMakeable, text_in}
@@ -70,14 +72,11 @@ pub data GivenAgrees (unit : SourceUnit) (classes : Classes) (space : Space) : R
       → GivenAgrees unit classes space GivesMethod (given.MethodId h) (MethodResult m)
   null_method : GivenAgrees unit classes space GivesMethod (given.MethodId None) NullResult
 
--- another heap of the source, where a value of the object at an address is changed
-pub record WritesAt (space : Space) (s : Shared) (s' : Shared) (a place : ℕ) (v : Value) : Type 0 where
-  pub name : ℕ
+-- a value of the object at an address is written, which has this name in the source, and there a value of it
+pub record WritesAt (space : Space) (a place : ℕ) (v : Value) (name : ℕ) (value : ObjectValue) : Type 0 where
   pub there : name_at space a ≡ Some name
-  pub value : ObjectValue
   pub agrees : ValueAgrees space v value
   pub within : place < length (values_at space a)
-  pub is : s' ≡ record s { heap = with_value_at s.heap name place value }
 
 -- an answer is carried out, as all are but a stop of the machine and a call of a method
 abbrev pub is_carried : Answer → Bool
@@ -105,58 +104,65 @@ pub record HoldsWeakly (s : Shared) (x : Identifier) (i : ℕ) : Type 0 where
 
 -- ---- what a call brings
 
--- the unit of a call, its texts, the local array that it names, what the slots of numbers and of buffers hold, the thread that makes it,
--- and what all buffers take
+-- the unit of a call, its texts, its operands, the arguments of the source's call, what the slots of numbers and of buffers hold, the thread
+-- that makes it, and what all buffers take
 pub record Brought : Type 0 where
   pub unit : SourceUnit
   pub texts : List (List ℕ)
-  pub array : Option (Identifier × LocalArray)
+  pub operands : List Operand
+  pub args : List Actual
   pub numbers : List ℕ
   pub buffers : HeldBuffers
   pub thread : ℕ
   pub in_use : BuffersInUse
 
--- what a call of a thread of this unit with these texts and slots brings, which names this local array, or none
-abbrev pub bringing : SourceUnit → (texts : List (List ℕ)) → (numbers : List ℕ) → HeldBuffers → (thread : ℕ) → BuffersInUse
-    → Option (Identifier × LocalArray) → Brought
-bringing unit texts numbers buffers thread in_use array =
-    record { unit = unit; texts = texts; array = array; numbers = numbers; buffers = buffers; thread = thread; in_use = in_use }
+-- what a call of a thread of this unit with these texts, operands and slots brings, of which the source's has these arguments
+abbrev pub bringing : SourceUnit → (texts : List (List ℕ)) → List Operand → (numbers : List ℕ) → HeldBuffers → (thread : ℕ) → BuffersInUse
+    → List Actual → Brought
+bringing unit texts operands numbers buffers thread in_use args = record {
+  unit = unit;
+  texts = texts;
+  operands = operands;
+  args = args;
+  numbers = numbers;
+  buffers = buffers;
+  thread = thread;
+  in_use = in_use;
+}
 
--- an operand is a local array, and the argument at its place its name
-abbrev pub named_array : Option Operand → Option Actual → Option (Identifier × LocalArray)
-named_array (Some (operand.Array array)) (Some (VariableActual x)) = Some (x, array)
-named_array o a = None
+-- the effect of an answer of the source to a call that brings these
+abbrev pub effect_told : Classes → Brought → Shared → Thread → source.Answer → CallEffect
+effect_told classes brought s t told = effect_of classes brought.in_use brought.thread s t brought.args told
 
--- the local array that a function names, if it names one: no function names it elsewhere
-abbrev pub array_given : List Operand → List Actual → Option (Identifier × LocalArray)
-array_given operands args = named_array (slice_get operands 3) (slice_get args 3)
+-- a region of an object, which has this name in the source
+abbrev pub region_named : ArrayRegion → (name : ℕ) → Region
+region_named r name = record { object = name; start = r.start; count = r.count }
 
 -- these numbers, each in the range of a `jint`, stand in words
 pub record AreWordsOf (words : List ℕ) (zs : List ℤ) : Type 0 where
   pub fit : AllByRecursion (FitsSigned w32) zs
   pub same : words ≡ map (cast_unsigned w32) zs
 
--- numbers of an object go into the local array that the call names
-pub record IsCopiedOut (brought : Brought) (space : Space) (r : ArrayRegion) : Type 0 where
-  pub name : Identifier
+-- numbers of an object go into the local array that the call names: no function names it elsewhere
+pub record IsCopiedOut (brought : Brought) (space : Space) (s : Shared) (r : ArrayRegion) : Type 0 where
+  pub name : ℕ
+  pub there : name_at space r.object ≡ Some name
   pub array : LocalArray
-  pub given : brought.array ≡ Some (name, array)
+  pub given : operand_of brought.operands 3 ≡ operand.Array array
   pub slot : r.slot ≡ array.start
   pub few : r.count ≤ array.len
   pub slots : (i : ℕ) → i < r.count → r.slot + i < length brought.numbers
   pub within : r.start + r.count ≤ length (values_at space r.object)
-  pub numbers : List ℤ
-  pub words : AreWordsOf (words_of space r) numbers
+  pub words : AreWordsOf (words_of space r) (take r.count (drop r.start (numbers_of s.heap name)))
 
 -- numbers of a local array go into an object, which holds nothing but numbers
-pub record IsCopiedIn (brought : Brought) (space : Space) (s : Shared) (r : ArrayRegion) : Type 0 where
+pub record IsCopiedIn (brought : Brought) (space : Space) (s : Shared) (t : Thread) (r : ArrayRegion) : Type 0 where
   pub name : ℕ
   pub there : name_at space r.object ≡ Some name
   pub slots : (i : ℕ) → i < r.count → r.slot + i < length brought.numbers
   pub within : r.start + r.count ≤ length (values_at space r.object)
   pub all_numbers : values_of s.heap name ≡ map Number (numbers_of s.heap name)
-  pub numbers : List ℤ
-  pub words : AreWordsOf (words_from brought.numbers r) numbers
+  pub words : AreWordsOf (words_from brought.numbers r) (take r.count (local_array (lookup (variable_given brought.args 3) t.variables)))
 
 -- ---- buffers
 
@@ -166,10 +172,10 @@ pub record IsCopyAcquired (space : Space) (s : Shared) (a : ℕ) : Type 0 where
   pub there : name_at space a ≡ Some name
   pub words : AreWordsOf (words_at space a) (numbers_of s.heap name)
 
--- the buffer that a variable is is released; numbers go back from a copy of the object alone
+-- the buffer that argument 1 is is released; numbers go back from a copy of the object alone
 pub record IsReleased (brought : Brought) (space : Space) (s : Shared) (t : Thread) (r : Release) : Type 0 where
-  pub variable : Identifier
-  pub holds : HoldsBuffer space brought.buffers r.slot (lookup variable t.variables)
+  pub given : operand_of brought.operands 1 ≡ operand.Buffer r.slot
+  pub holds : HoldsBuffer space brought.buffers r.slot (lookup (variable_given brought.args 1) t.variables)
   pub held : r.held ≡ holds.held
   pub name : ℕ
   pub there : name_at space r.object ≡ Some name
@@ -193,85 +199,52 @@ pub record IsExited (k : ℕ) (s : Shared) (n : ℕ) : Type 0 where
 
 -- ---- all answers
 
--- The answer is what the call, which brings these and has this kind of result, does to this state, all checks being passed.
+-- The answer stands for one of the source, to a call that brings these and has this kind of result, all checks being passed.
 pub data IsAnswer (classes : Classes) (brought : Brought) (space : Space) (locals : LocalTable) (s : Shared) (t : Thread) :
-    Answer → ResultKind → CallEffect → Type 0 where
-  -- nothing changes, and this is given
+    Answer → ResultKind → source.Answer → Type 0 where
   gives : {g : Given} {kind : ResultKind} {c : CallResult} → GivenAgrees brought.unit classes space kind g c
-      → IsAnswer classes brought space locals s t (answer.Gives g) kind (Leaves [] s t c)
-  -- a value of an object is another one
-  writes : {a place : ℕ} {v : Value} {s' : Shared} → WritesAt space s s' a place v
-      → IsAnswer classes brought space locals s t (answer.Writes a place v) GivesNothing (Leaves [] s' t NoResult)
-  -- an object is made and given
+      → IsAnswer classes brought space locals s t (answer.Gives g) kind (source.Gives c)
+  writes : {a place name : ℕ} {v : Value} {value : ObjectValue} → WritesAt space a place v name value
+      → IsAnswer classes brought space locals s t (answer.Writes a place v) GivesNothing (source.Writes name place value)
+  -- the object has no such value, so that nothing changes
+  writes_nothing : {name place : ℕ} {value : ObjectValue} → with_value_at s.heap name place value ≡ s.heap
+      → IsAnswer classes brought space locals s t (answer.Gives given.Nothing) GivesNothing (source.Writes name place value)
   makes : {new : New} {o : Object} → Describes classes brought.texts space new o
-      → IsAnswer classes brought space locals s t (answer.Makes new) NewLocal (new_effect s t o)
-  -- an exception of this class is made and pending
+      → IsAnswer classes brought space locals s t (answer.Makes new) NewLocal (source.Makes o)
   throws : {class : ClassId} {kind : ResultKind} → IsMakeable classes class.number
-      → IsAnswer classes brought space locals s t (answer.Throws class) kind (Throws class.number)
-  -- a string and an exception of this class with it as message are made, and 0 is given
+      → IsAnswer classes brought space locals s t (answer.Throws class) kind (source.Raises class.number)
   raises : {class : ClassId} {place : ℕ} → IsMakeable classes string_class → IsMakeable classes class.number
-      → IsAnswer classes brought space locals s t (answer.Raises class place) GivesInt
-      (throw_new_effect classes s t class.number (text_in brought.texts place))
-  -- this exception is pending, or none, and this is given
+      → IsAnswer classes brought space locals s t (answer.Raises class place) GivesInt (source.RaisesWith class.number (text_in brought.texts place))
   pends : {a : Option ℕ} {g : Given} {kind : ResultKind} {c : CallResult} (r : Reference) → ReferenceAgrees space a r
-      → GivenAgrees brought.unit classes space kind g c
-      → IsAnswer classes brought space locals s t (answer.Pends a g) kind (Leaves [] s (record t { pending = r }) c)
-  -- numbers of an object go into a local array
-  copies_out : {region : ArrayRegion} (it : IsCopiedOut brought space region)
-      → IsAnswer classes brought space locals s t (answer.CopiesOut region) GivesNothing
-      (Leaves [] s (record t { variables = change it.name (begun_with it.numbers) t.variables }) NoResult)
-  -- the other way round
-  copies_in : {region : ArrayRegion} (it : IsCopiedIn brought space s region)
-      → IsAnswer classes brought space locals s t (answer.CopiesIn region) GivesNothing
-      (heap_effect s t (with_numbers s.heap it.name (overwritten (numbers_of s.heap it.name) region.start it.numbers)))
-  -- a copy of an object's numbers is given, or NULL where all copies would be too long
+      → GivenAgrees brought.unit classes space kind g c → IsAnswer classes brought space locals s t (answer.Pends a g) kind (source.Pends r c)
+  copies_out : {region : ArrayRegion} (it : IsCopiedOut brought space s region)
+      → IsAnswer classes brought space locals s t (answer.CopiesOut region) GivesNothing (source.GetsRegion (region_named region it.name))
+  copies_in : {region : ArrayRegion} (it : IsCopiedIn brought space s t region)
+      → IsAnswer classes brought space locals s t (answer.CopiesIn region) GivesNothing (source.SetsRegion (region_named region it.name))
   acquires_copy : {a : ℕ} {kind : ResultKind} → IsBufferResult kind → (it : IsCopyAcquired space s a)
-      → IsAnswer classes brought space locals s t (answer.AcquiresCopy a) kind (copy_effect brought.in_use s t it.name (numbers_of s.heap it.name))
-  -- a view of an object is given, or NULL where there are as many as may be
+      → IsAnswer classes brought space locals s t (answer.AcquiresCopy a) kind (source.Copies it.name)
   acquires_view : {a : ℕ} {kind : ResultKind} (n : ℕ) → IsBufferResult kind → name_at space a ≡ Some n
-      → IsAnswer classes brought space locals s t (answer.AcquiresView a) kind (view_effect brought.in_use s t n)
-  -- the buffer that a variable holds goes back to its object, is given up, or both
+      → IsAnswer classes brought space locals s t (answer.AcquiresView a) kind (source.Views n)
   releases : {r : Release} (it : IsReleased brought space s t r)
-      → IsAnswer classes brought space locals s t (answer.Releases r) GivesNothing (release_effect s t it.name it.variable it.mode)
-  -- the thread enters the monitor of an object
+      → IsAnswer classes brought space locals s t (answer.Releases r) GivesNothing (released it.name it.mode)
   enters : {o : MonitorObject} → IsEntered brought.thread space s o
-      → IsAnswer classes brought space locals s t (answer.Enters o) GivesInt (enter_effect brought.thread s t o.name (monitor_of s.monitors o.name))
-  -- the thread leaves the monitor of an object
+      → IsAnswer classes brought space locals s t (answer.Enters o) GivesInt (monitor_entered o.name (monitor_of s.monitors o.name))
   exits : {n : ℕ} → IsExited brought.thread s n
-      → IsAnswer classes brought space locals s t (answer.Exits n) GivesInt (exit_effect brought.thread s t n (monitor_of s.monitors n))
-  -- the current frame gets room for this many references more and 0 is given, or -4 where the frames can't have it
-  ensures : {more : ℕ}
-      → IsAnswer classes brought space locals s t (answer.Ensures more) GivesInt (frames_effect classes s t (with_capacity more t.frames))
-  -- a frame with room for this many is made and 0 is given, or -4 where the frames can't have it
-  pushes : {capacity : ℕ} → IsAnswer classes brought space locals s t (answer.Pushes capacity) GivesInt
-      (frames_effect classes s t (record { capacity = capacity; references = [] } ∷ t.frames))
-  -- -4 is given, and the OutOfMemoryError object is pending
-  refuses : IsAnswer classes brought space locals s t answer.RefusesFrames GivesInt (refuses_frames classes s t)
-  -- the current frame ends, and this is given
+      → IsAnswer classes brought space locals s t (answer.Exits n) GivesInt (monitor_left brought.thread n (monitor_of s.monitors n))
+  ensures : {more : ℕ} → IsAnswer classes brought space locals s t (answer.Ensures more) GivesInt (source.Ensures more)
+  pushes : {capacity : ℕ} → IsAnswer classes brought space locals s t (answer.Pushes capacity) GivesInt (source.Pushes capacity)
+  refuses : IsAnswer classes brought space locals s t answer.RefusesFrames GivesInt source.RefusesFrames
   pops : {a : Option ℕ} (r : Reference) → ReferenceAgrees space a r
-      → IsAnswer classes brought space locals s t (answer.Pops a) NewLocal
-      (Leaves [] s (record t { frames = drop 1 t.frames }) (ReferenceResult r))
-  -- the local reference of this key ends
-  deletes : {key : ℕ} (n level : ℕ) → IsKeyOf space locals key n level
-      → IsAnswer classes brought space locals s t (answer.Deletes key) GivesNothing
-      (Leaves [] s (record t { frames = without_local level n t.frames }) NoResult)
-  -- a global reference is made and given, and none for NULL
+      → IsAnswer classes brought space locals s t (answer.Pops a) NewLocal (source.Pops r)
+  deletes : {key : ℕ} (n variable : ℕ) → IsKeyOf space locals key n (level_of (lookup (variable_given brought.args variable) t.variables))
+      → IsAnswer classes brought space locals s t (answer.Deletes key) GivesNothing (source.DeletesLocal variable n)
   makes_global : {a : Option ℕ} (r : Reference) → ReferenceAgrees space a r
-      → IsAnswer classes brought space locals s t (answer.MakesGlobal a) NewGlobal
-      (Leaves [] (record s { globals = option_to_list r ++ s.globals }) t (ReferenceResult r))
-  -- the global reference that a static holds ends, and the static is marked
-  deletes_global : {i : ℕ} (x : Identifier) (n : ℕ) → HoldsObject s x i n
-      → IsAnswer classes brought space locals s t (answer.DeletesGlobal i) GivesNothing
-      (Leaves [] (record s { globals = without_one n s.globals; statics = assign x Deleted s.statics }) t NoResult)
-  -- a weak global reference is made and given, and none for NULL
+      → IsAnswer classes brought space locals s t (answer.MakesGlobal a) NewGlobal (source.MakesGlobal r)
+  deletes_global : {i : ℕ} (n variable : ℕ) → HoldsObject s (variable_given brought.args variable) i n
+      → IsAnswer classes brought space locals s t (answer.DeletesGlobal i) GivesNothing (source.DeletesGlobal variable n)
   makes_weak : {a : Option ℕ} (r : Reference) → ReferenceAgrees space a r
-      → IsAnswer classes brought space locals s t (answer.MakesWeak a) NewWeak (Leaves [] s t (WeakResult r))
-  -- the weak global reference that a static holds ends, and the static is marked
-  deletes_weak : {i : ℕ} (x : Identifier) → HoldsWeakly s x i
-      → IsAnswer classes brought space locals s t (answer.DeletesWeak i) GivesNothing
-      (Leaves [] (record s { statics = assign x Deleted s.statics }) t NoResult)
-  -- a method is called
-  calls : {kind : ResultKind} (function : Identifier) (arguments : List ObjectValue)
-      → IsAnswer classes brought space locals s t answer.Calls kind (Enters function arguments)
-  -- the machine stops
-  halts : {trap : Trap} {kind : ResultKind} → IsAnswer classes brought space locals s t (answer.Halts trap) kind (Halts (trap_view trap))
+      → IsAnswer classes brought space locals s t (answer.MakesWeak a) NewWeak (source.Gives (WeakResult r))
+  deletes_weak : {i : ℕ} (variable : ℕ) → HoldsWeakly s (variable_given brought.args variable) i
+      → IsAnswer classes brought space locals s t (answer.DeletesWeak i) GivesNothing (source.DeletesWeak variable)
+  calls : {kind : ResultKind} (method : MethodId) → IsAnswer classes brought space locals s t answer.Calls kind (source.Calls method)
+  halts : {trap : Trap} {kind : ResultKind} → IsAnswer classes brought space locals s t (answer.Halts trap) kind (source.Halts (trap_view trap))

@@ -28,7 +28,7 @@ use Rattle.machine_scenes.specs.StoreAgrees.{StoreAgrees}
 use Rattle.machine_scenes.specs.Locals.{FramesAgree}
 use Rattle.machine_scenes.specs.Given.{HasArray, HasBuffer, IsGiven}
 use Rattle.machine_scenes.specs.HeapAgrees.{ReferenceAgrees}
-use Rattle.machine_answers.specs.Answers.{Brought, array_given, bringing}
+use Rattle.machine_answers.specs.Answers.{Brought, bringing}
 use Rattle.machine_scenes.specs.Scenes.{Scene}
 use Rattle.machine_scenes.specs.Statics.{References, all_held}
 
@@ -64,8 +64,8 @@ buffers_of store activation owner = holding activation.slots.buffers.items store
 
 -- what a call of a function with these arguments brings, of this unit and in a call of thread k of this number, where all buffers take this
 abbrev pub brought_by : SourceUnit → Store → Activation → (k owner : ℕ) → BuffersInUse → Call → List Actual → Brought
-brought_by unit store activation k owner in_use call args = bringing unit call.texts activation.slots.numbers.items
-    (buffers_of store activation owner) k in_use (array_given call.operands args)
+brought_by unit store activation k owner in_use call args =
+    bringing unit call.texts call.operands activation.slots.numbers.items (buffers_of store activation owner) k in_use args
 
 -- Store, frames and pending exception of thread k agree with the source's, and each operand gives what the argument at its place is, and
 -- the target wants what the source's does. Objects and variables are typed. While the thread has a view, the function is critical, and a

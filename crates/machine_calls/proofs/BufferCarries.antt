@@ -19,9 +19,10 @@ use Rattle.heap.specs.declared.value.Value.{Value}
 use Rattle.heap.specs.declared.value.Value.TheVariants as value
 use Rattle.jni.specs.Prototype.{GivesNothing, ResultKind}
 use Rattle.syntax.specs.Views.{unit_tree}
-use Rattle.semantics.specs.Arguments.{ReleaseMode, CopyBackAndFree, CopyBack, FreeUncopied}
+use Rattle.semantics.specs.Answer.{Answer as SourceAnswer, effect_of}
+use Rattle.semantics.specs.AnswerTable.{released}
+use Rattle.semantics.specs.Arguments.{ReleaseMode, CopyBackAndFree, CopyBack, FreeUncopied, variable_given}
 use Rattle.semantics.specs.CallEffects.{CallEffect, CallResult, Leaves, NoResult, BufferResult, copied_elements, copy_effect, view_effect, with_freed}
-use Rattle.machine_scenes.specs.SourceEffects.{release_effect}
 use Rattle.semantics.specs.Heap.{Heap, numbers_of, object_at, values_of, with_numbers}
 use Rattle.semantics.specs.Object.{Object, Number, Reference}
 use Rattle.semantics.specs.Thread as source
@@ -42,7 +43,7 @@ use Rattle.machine_scenes.specs.declared.buffer.Buffer.TheVariants as held
 use Rattle.machine_scenes.specs.declared.buffer.Release.{Release}
 use Rattle.machine_scenes.specs.declared.store.Store.{Store}
 use Rattle.code_meaning.specs.Stands.{IsBufferResult}
-use Rattle.machine_answers.specs.Answers.{Brought, IsAnswer, IsCopyAcquired, IsReleased}
+use Rattle.machine_answers.specs.Answers.{Brought, IsAnswer, IsCopyAcquired, IsReleased, effect_told}
 use Rattle.machine_answers.specs.Answers as row
 use Rattle.machine_answers.specs.BufferChanges.{CanCopyBack, CanGiveUp, GivesUp, MakesCopy, MakesView, MayGiveUp, copied_back, space_back, written_back}
 use Rattle.machine_scenes.specs.Buffers.{Acquired, BufferAgrees, IsCopyOf, SameAcquired, acquired_by, acquired_of, beside, copies_back, gives_up, in_use_of, nothing_acquired}
@@ -83,8 +84,12 @@ module _ (p : Lowered) (w : World) (store : Store) (pending : Option ℕ) (local
   abbrev all : Acquired
   all = beside others (acquired_by s)
 
-  abbrev Does : Answer → ResultKind → CallEffect → Type 0
-  Does a kind effect = IsAnswer w.classes brought store.heap locals shared s a kind effect
+  abbrev Does : Answer → ResultKind → SourceAnswer → Type 0
+  Does a kind of_source = IsAnswer w.classes brought store.heap locals shared s a kind of_source
+
+  -- the effect of an answer of the source
+  abbrev of : SourceAnswer → CallEffect
+  of a = effect_told w.classes brought shared s a
 
   abbrev pub Carries : Answer → ResultKind → CallEffect → Store → Given → Type 0
   Carries a kind effect after g = CarriesOut p w store.heap locals a kind others owner shared s effect false after pending locals g
@@ -135,8 +140,9 @@ module _ (p : Lowered) (w : World) (store : Store) (pending : Option ℕ) (local
         (taken_copy store.heap store.elements elements store.views (length shared.heap) owner it.name numbers all next (beside_more others (acquired_by s) (Copy it.name numbers)) more h.store_agrees.buffers)) (buffer, gains.has))
     copied (held.View x) elements made = absurd made
 
-  pub acquires_copy : (a : ℕ) {kind : ResultKind} {effect : CallEffect} → Does (answer.AcquiresCopy a) kind effect → brought.in_use ≡ in_use_of all
-      → (b : Buffer) (elements : List (Option OwnedNumbers)) → MakesCopy owner (map (cast_signed w32) (words_at store.heap a)) store.elements b elements → Carries (answer.AcquiresCopy a) kind effect (record store { elements = elements }) (given.Buffer b)
+  pub acquires_copy : (a : ℕ) {kind : ResultKind} {of_source : SourceAnswer} → Does (answer.AcquiresCopy a) kind of_source → brought.in_use ≡ in_use_of all
+      → (b : Buffer) (elements : List (Option OwnedNumbers)) → MakesCopy owner (map (cast_signed w32) (words_at store.heap a)) store.elements b elements → Carries (answer.AcquiresCopy a) kind (of of_source) (record store { elements = elements }) (given.Buffer b)
+  unfolding effect_of
   acquires_copy a (row.acquires_copy {kind = kind} buffer it) uses b elements made =
       copied a kind buffer it uses b elements (subst (λ (l : List ℤ). MakesCopy owner l store.elements b elements) (words_back (words_at store.heap a) (numbers_of shared.heap it.name) it.words) made)
 
@@ -172,15 +178,16 @@ module _ (p : Lowered) (w : World) (store : Store) (pending : Option ℕ) (local
         (taken_view store.heap store.elements store.views (length shared.heap) a n all next (beside_more others (acquired_by s) (View n)) h.store_agrees.heap.unique there within.1 h.store_agrees.buffers))
         (buffer, subst (λ (y : ℕ). name_at (with_pins store.heap a count) y ≡ Some n) (sym here) (names_pinned store.heap a count a n there))))
 
-  pub acquires_view : (a : ℕ) {kind : ResultKind} {effect : CallEffect} → Does (answer.AcquiresView a) kind effect → brought.in_use ≡ in_use_of all
-      → (b : Buffer) (space : Space) (views : ℕ) → MakesView a store.heap store.views b space views → Carries (answer.AcquiresView a) kind effect (record store { heap = space; views = views }) (given.Buffer b)
+  pub acquires_view : (a : ℕ) {kind : ResultKind} {of_source : SourceAnswer} → Does (answer.AcquiresView a) kind of_source → brought.in_use ≡ in_use_of all
+      → (b : Buffer) (space : Space) (views : ℕ) → MakesView a store.heap store.views b space views → Carries (answer.AcquiresView a) kind (of of_source) (record store { heap = space; views = views }) (given.Buffer b)
+  unfolding effect_of
   acquires_view a (row.acquires_view {kind = kind} n buffer there) uses b space views made = viewed a kind buffer n there uses b space views made
 
   -- ---- a release
 
   module _ (r : Release) (it : IsReleased brought store.heap shared s r) (lists : brought.buffers.copies ≡ store.elements) (own : brought.buffers.owner ≡ owner) where
     abbrev x : Identifier
-    x = it.variable
+    x = variable_given brought.args 1
 
     abbrev n : ℕ
     n = it.name
@@ -382,10 +389,11 @@ module _ (p : Lowered) (w : World) (store : Store) (pending : Option ℕ) (local
           })
           second.stands (no_result after)
 
-      given_back : MayGiveUp (gives_up r.mode) r.held store_back.heap store.elements store.views space elements views → Carries (answer.Releases r) GivesNothing (release_effect shared s n x it.mode) after given.Nothing
+      given_back : MayGiveUp (gives_up r.mode) r.held store_back.heap store.elements store.views space elements views → Carries (answer.Releases r) GivesNothing (of (released n it.mode)) after given.Nothing
+      unfolding effect_of
       given_back gives = by_mode it.mode it.coded
         where
-          by_mode : (m : ReleaseMode) → r.mode ≡ mode_code m → Carries (answer.Releases r) GivesNothing (release_effect shared s n x m) after given.Nothing
+          by_mode : (m : ReleaseMode) → r.mode ≡ mode_code m → Carries (answer.Releases r) GivesNothing (of (released n m)) after given.Nothing
           by_mode CopyBackAndFree coded = freed_as true (ap copies_back coded) refl (subst (λ (t : Bool). MayGiveUp t r.held store_back.heap store.elements store.views space elements views) (ap gives_up coded) gives)
           by_mode FreeUncopied coded = freed_as false (ap copies_back coded) refl (subst (λ (t : Bool). MayGiveUp t r.held store_back.heap store.elements store.views space elements views) (ap gives_up coded) gives)
           by_mode CopyBack coded =
@@ -396,9 +404,9 @@ module _ (p : Lowered) (w : World) (store : Store) (pending : Option ℕ) (local
               (effected (answer.Releases r) GivesNothing store_back given.Nothing (shared_back true) s NoResult refl refl refl first.keeps
               (agrees_same p w store_back (shared_back true) all first.stands (beside others (beside (acquired_by s) nothing_acquired)) (beside_nothing others (acquired_by s))) (no_result store_back))
 
-  pub releases : (r : Release) {kind : ResultKind} {effect : CallEffect} → Does (answer.Releases r) kind effect → brought.buffers.copies ≡ store.elements → brought.buffers.owner ≡ owner
+  pub releases : (r : Release) {kind : ResultKind} {of_source : SourceAnswer} → Does (answer.Releases r) kind of_source → brought.buffers.copies ≡ store.elements → brought.buffers.owner ≡ owner
       → (space : Space) (elements : List (Option OwnedNumbers)) (views : ℕ) → MayGiveUp (gives_up r.mode) r.held (space_back store.elements r store.heap) store.elements store.views space elements views
-      → Carries (answer.Releases r) kind effect (record store { heap = space; elements = elements; views = views }) given.Nothing
+      → Carries (answer.Releases r) kind (of of_source) (record store { heap = space; elements = elements; views = views }) given.Nothing
   releases r (row.releases it) lists own space elements views gives = given_back r it lists own space elements views gives
 
 -- ---- other lists

@@ -5,7 +5,7 @@ use Rattle.std.specs.List.{AllZip}
 use Rattle.class_rules.specs.Class.{Classes}
 use Rattle.heap.specs.Heap.{Space, name_at}
 use Rattle.jni.specs.Prototype.{ResultKind}
-use Rattle.semantics.specs.CallEffects.{CallEffect}
+use Rattle.semantics.specs.Answer.{Answer as SourceAnswer}
 use Rattle.semantics.specs.Thread.{Shared, Thread}
 use Rattle.semantics.specs.Variable as source
 use Rattle.semantics.specs.Variable.{NoBuffer, Copy, View}
@@ -152,7 +152,7 @@ buffer_put space copies k slots buffers i b c h new fresh = record {
 -- ---- other threads
 
 -- a release ends a list of its thread alone
-pub keeps_others : {classes : Classes} {brought : Brought} {space : Space} {locals : LocalTable} {s : Shared} {t : Thread} {a : Answer} {kind : ResultKind} {effect : CallEffect} (left : List (Option OwnedNumbers)) → IsAnswer classes brought space locals s t a kind effect
+pub keeps_others : {classes : Classes} {brought : Brought} {space : Space} {locals : LocalTable} {s : Shared} {t : Thread} {a : Answer} {kind : ResultKind} {of_source : SourceAnswer} (left : List (Option OwnedNumbers)) → IsAnswer classes brought space locals s t a kind of_source
     → CopiesStay a brought.buffers.copies left → KeepsCopies brought.buffers.owner brought.buffers.copies left
 keeps_others {brought = brought} {space = space} left (row.releases it) stay key c has other =
     stay key c has (λ up is.

@@ -1,13 +1,16 @@
 -- What is carried out is what the source's call leaves.
-use Rattle.std.proofs.Common.{◌≤◌, drop, ◌≡◌, ℕ, pos, negsuc, zero, suc, ◌-◌, ◌<◌, ◌^◌, Bool, true, false, List, [], ◌∷◌, ◌++◌, length, inl, inr, Option, Some, None, refl, sym, ap, ◌∙◌, subst, arith, append-nil, ◌+◌, length-append, append_assoc}
+use Rattle.std.proofs.Common.{◌≤◌, drop, take, ◌≡◌, ℕ, pos, negsuc, zero, suc, ◌-◌, ◌<◌, ◌^◌, Bool, true, false, List, [], ◌∷◌, ◌++◌, length, inl, inr, Option, Some, None, refl, sym, ap, ◌∙◌, subst, arith, append-nil, ◌+◌, length-append, append_assoc}
 use Rattle.std.specs.Global.{Vec}
 use Rattle.heap.specs.Heap.{name_at}
 use Rattle.heap.proofs.Staying.{stays_on}
 use Rattle.heap.specs.Layout.{Layout, layout_of}
 use Rattle.machine_scenes.specs.Layouts.{with_objects}
 use Rattle.machine_scenes.proofs.ObjectExtents.{more_laid, with_both}
-use Rattle.semantics.specs.CallEffects.{without_one}
-use Rattle.semantics.specs.Object.{Object, Reference, sizes}
+use Rattle.base.specs.Bytes.{lookup}
+use Rattle.semantics.specs.Answer.{Answer as SourceAnswer, effect_of}
+use Rattle.semantics.specs.Arguments.{variable_given}
+use Rattle.semantics.specs.CallEffects.{heap_effect, level_of, local_array, without_one}
+use Rattle.semantics.specs.Object.{Object, sizes}
 use Rattle.semantics.specs.Variable.{Empty, Live, Weakly, Deleted, assign}
 use Rattle.tables.specs.Globals.{without}
 use Rattle.machine_scenes.specs.Statics.{StaticReference}
@@ -42,7 +45,7 @@ use Rattle.machine_scenes.specs.declared.new_object.New.{New}
 use Rattle.machine_scenes.specs.declared.new_object.New.TheVariants.{Exception, Fresh, Text}
 use Rattle.machine_scenes.specs.declared.store.Store.{Store}
 use Rattle.machine_scenes.specs.StoreAgrees.{HeldAgrees, StoreAgrees, Keeps}
-use Rattle.machine_answers.specs.Answers.{Brought, GivenAgrees, IsAnswer}
+use Rattle.machine_answers.specs.Answers.{Brought, GivenAgrees, IsAnswer, effect_told}
 use Rattle.machine_answers.specs.Answers as row
 use Rattle.machine_calls.specs.CarriedOut.{CarriesOut, IsFresh, IsLeft, IsPossible, ResultAgrees, acquired_with, failed, made_by}
 use Rattle.machine_scenes.specs.Buffers.{Acquired, acquired_by, beside, nothing_acquired}
@@ -67,11 +70,14 @@ use Rattle.machine_answers.specs.Copies.{space_with}
 use Rattle.machine_scenes.specs.declared.array_region.ArrayRegion.{ArrayRegion}
 
 -- what is carried out, by the answer's case
-module _ (p : Lowered) (w : World) (space : Space) (before : LocalTable) (kind : ResultKind) (others : Acquired) (owner : ℕ) (shared : Shared) (s : Thread) (effect : CallEffect) (brought : Brought) where
-  pub by_answer : (a b : Answer) → a ≡ b → (refused : Bool) (store : Store) (pending : Option ℕ) (locals : LocalTable) (g : Given) → (IsAnswer w.classes brought space before shared s b kind effect → CarriesOut p w space before b kind others owner shared s effect refused store pending locals g)
-      → IsAnswer w.classes brought space before shared s a kind effect → CarriesOut p w space before a kind others owner shared s effect refused store pending locals g
+module _ (p : Lowered) (w : World) (space : Space) (before : LocalTable) (kind : ResultKind) (others : Acquired) (owner : ℕ) (shared : Shared) (s : Thread) (of_source : SourceAnswer) (brought : Brought) where
+  abbrev done : CallEffect
+  done = effect_told w.classes brought shared s of_source
+
+  pub by_answer : (a b : Answer) → a ≡ b → (refused : Bool) (store : Store) (pending : Option ℕ) (locals : LocalTable) (g : Given) → (IsAnswer w.classes brought space before shared s b kind of_source → CarriesOut p w space before b kind others owner shared s done refused store pending locals g)
+      → IsAnswer w.classes brought space before shared s a kind of_source → CarriesOut p w space before a kind others owner shared s done refused store pending locals g
   by_answer a b same refused store pending locals g f does =
-      subst (λ (x : Answer). CarriesOut p w space before x kind others owner shared s effect refused store pending locals g) (sym same) (f (subst (λ (x : Answer). IsAnswer w.classes brought space before shared s x kind effect) same does))
+      subst (λ (x : Answer). CarriesOut p w space before x kind others owner shared s done refused store pending locals g) (sym same) (f (subst (λ (x : Answer). IsAnswer w.classes brought space before shared s x kind of_source) same does))
 
 -- a call that fails gives what it gives in the source
 failed_agrees : (unit : SourceUnit) (classes : Classes) (store : Store) (owner : ℕ) (kind : ResultKind) → ResultAgrees unit classes store owner (failed kind) kind (failure kind)
@@ -155,13 +161,19 @@ module _ (p : Lowered) (w : World) (store : Store) (pending : Option ℕ) (local
     room = (short, refl);
   }
 
-  abbrev Does : Answer → ResultKind → CallEffect → Type 0
-  Does a kind effect = IsAnswer w.classes brought store.heap locals shared s a kind effect
+  abbrev Does : Answer → ResultKind → SourceAnswer → Type 0
+  Does a kind of_source = IsAnswer w.classes brought store.heap locals shared s a kind of_source
 
-  pub refuses_object : (new : New) {kind : ResultKind} {effect : CallEffect} → Does (answer.Makes new) kind effect → left_of store.heap < cells_of_new w.classes texts new → Carries (answer.Makes new) kind effect true store (slice_get store.loaded.items (length w.classes)) (failed kind)
+  -- the effect of an answer of the source
+  abbrev of : SourceAnswer → CallEffect
+  of a = effect_told w.classes brought shared s a
+
+  pub refuses_object : (new : New) {kind : ResultKind} {of_source : SourceAnswer} → Does (answer.Makes new) kind of_source → left_of store.heap < cells_of_new w.classes texts new → Carries (answer.Makes new) kind (of of_source) true store (slice_get store.loaded.items (length w.classes)) (failed kind)
+  unfolding effect_of
   refuses_object new (row.makes {o = o} it) short = refuses (answer.Makes new) NewLocal (new_effect shared s o) refl (omega (arith, short, described_size w.classes texts store.heap new o it.object))
 
-  pub refuses_exception : (class : ClassId) {kind : ResultKind} {effect : CallEffect} → Does (answer.Throws class) kind effect → left_of store.heap < cells_of_new w.classes texts (Fresh class) → Carries (answer.Throws class) kind effect true store (slice_get store.loaded.items (length w.classes)) (failed kind)
+  pub refuses_exception : (class : ClassId) {kind : ResultKind} {of_source : SourceAnswer} → Does (answer.Throws class) kind of_source → left_of store.heap < cells_of_new w.classes texts (Fresh class) → Carries (answer.Throws class) kind (of of_source) true store (slice_get store.loaded.items (length w.classes)) (failed kind)
+  unfolding effect_of
   refuses_exception class (row.throws {kind = kind} it) short = refuses (answer.Throws class) kind (Throws class.number) refl (omega (arith, short, fresh_size w.classes texts store.heap class))
 
   -- nothing is added to the heap
@@ -176,26 +188,33 @@ module _ (p : Lowered) (w : World) (store : Store) (pending : Option ℕ) (local
   of_unit : {kind : ResultKind} {g : Given} {c : CallResult} → brought.unit ≡ unit_tree p.unit → GivenAgrees brought.unit w.classes store.heap kind g c → GivenAgrees (unit_tree p.unit) w.classes store.heap kind g c
   of_unit {kind = kind} {g = g} {c = c} same agrees = subst (λ (unit : SourceUnit). GivenAgrees unit w.classes store.heap kind g c) same agrees
 
-  pub gives : {kind : ResultKind} {effect : CallEffect} → brought.unit ≡ unit_tree p.unit → (g : Given) → Does (answer.Gives g) kind effect → Carries (answer.Gives g) kind effect false store pending g
-  gives same_unit g (row.gives {c = c} of_call) =
-      let agrees = of_unit same_unit of_call in
-      record {
-        store_agrees = agrees_yet store shared c (nothing_given agrees) h.store_agrees;
-        keeps = subst (Keeps store.heap shared store.heap) (sym (same_heap shared)) (keeps_same store.heap shared);
-        pending_agrees = h.pending_agrees;
-        frames_agree = h.frames_agree;
-        left = λ key n level is left. is;
-        given_agrees = result_agrees store owner agrees;
-        still = λ same. refl;
-        could_refuse = λ e. absurd (cc);
-        room = nothing_asked store.heap;
-      }
+  -- nothing changes, and this is given
+  gave : {kind : ResultKind} {g : Given} {c : CallResult} → GivenAgrees (unit_tree p.unit) w.classes store.heap kind g c → Carries (answer.Gives g) kind (Leaves [] shared s c) false store pending g
+  gave {c = c} agrees = record {
+    store_agrees = agrees_yet store shared c (nothing_given agrees) h.store_agrees;
+    keeps = subst (Keeps store.heap shared store.heap) (sym (same_heap shared)) (keeps_same store.heap shared);
+    pending_agrees = h.pending_agrees;
+    frames_agree = h.frames_agree;
+    left = λ key n level is left. is;
+    given_agrees = result_agrees store owner agrees;
+    still = λ same. refl;
+    could_refuse = λ e. absurd (cc);
+    room = nothing_asked store.heap;
+  }
 
-  pub writes : (a place : ℕ) (v : Value) {kind : ResultKind} {effect : CallEffect} → Does (answer.Writes a place v) kind effect → Carries (answer.Writes a place v) kind effect false (record store { heap = with_value store.heap a place v }) pending given.Nothing
-  writes a place v (row.writes {s' = left} it) =
+  pub gives : {kind : ResultKind} {of_source : SourceAnswer} → brought.unit ≡ unit_tree p.unit → (g : Given) → Does (answer.Gives g) kind of_source → Carries (answer.Gives g) kind (of of_source) false store pending g
+  unfolding effect_of
+  gives same_unit g (row.gives of_call) = gave (of_unit same_unit of_call)
+  gives same_unit g (row.writes_nothing same) =
+      subst (λ (l : Heap). Carries (answer.Gives given.Nothing) GivesNothing (heap_effect shared s l) false store pending given.Nothing) (sym same) (gave row.nothing)
+
+  pub writes : (a place : ℕ) (v : Value) {kind : ResultKind} {of_source : SourceAnswer} → Does (answer.Writes a place v) kind of_source → Carries (answer.Writes a place v) kind (of of_source) false (record store { heap = with_value store.heap a place v }) pending given.Nothing
+  unfolding effect_of
+  writes a place v (row.writes {name = name} {value = value} it) =
       let after : Store = record store { heap = with_value store.heap a place v } in
-      let agrees = writing.written_agrees p w store shared left a place v all h.store_agrees it in
-      let keeps = writing.written_keeps p w store shared left a place v all h.store_agrees it in
+      let left = writing.shared_then p w store shared a place name v value all h.store_agrees it in
+      let agrees = writing.written_agrees p w store shared a place name v value all h.store_agrees it in
+      let keeps = writing.written_keeps p w store shared a place name v value all h.store_agrees it in
       record {
         store_agrees = agrees_yet after left NoResult refl agrees;
         keeps = subst (Keeps store.heap shared after.heap) (sym (same_heap left)) keeps;
@@ -203,15 +222,16 @@ module _ (p : Lowered) (w : World) (store : Store) (pending : Option ℕ) (local
         frames_agree = frames_stay store.heap after.heap keeps.names locals s.frames h.frames_agree;
         left = λ key n level is left. key_stays store.heap after.heap keeps.names locals key n level is;
         given_agrees = row.nothing;
-        still = λ same. ap (λ (x : Shared). x.statics) it.is;
+        still = λ same. refl;
         could_refuse = λ e. absurd (cc);
         room = nothing_asked store.heap;
       }
 
   -- numbers went into slots, and nothing else changes
-  pub copies_out : (region : ArrayRegion) {kind : ResultKind} {effect : CallEffect} → Does (answer.CopiesOut region) kind effect → Carries (answer.CopiesOut region) kind effect false store pending given.Nothing
+  pub copies_out : (region : ArrayRegion) {kind : ResultKind} {of_source : SourceAnswer} → Does (answer.CopiesOut region) kind of_source → Carries (answer.CopiesOut region) kind (of of_source) false store pending given.Nothing
+  unfolding effect_of
   copies_out region (row.copies_out it) = record {
-    store_agrees = subst (λ (x : Acquired). StoreAgrees p w store (record shared { heap = shared.heap ++ [] }) (beside others (beside x nothing_acquired))) (sym (begun_same s it.name it.numbers)) (agrees_yet store shared NoResult refl h.store_agrees);
+    store_agrees = subst (λ (x : Acquired). StoreAgrees p w store (record shared { heap = shared.heap ++ [] }) (beside others (beside x nothing_acquired))) (sym (begun_same s (variable_given brought.args 3) (take region.count (drop region.start (numbers_of shared.heap it.name))))) (agrees_yet store shared NoResult refl h.store_agrees);
     keeps = subst (Keeps store.heap shared store.heap) (sym (same_heap shared)) (keeps_same store.heap shared);
     pending_agrees = h.pending_agrees;
     frames_agree = h.frames_agree;
@@ -223,12 +243,13 @@ module _ (p : Lowered) (w : World) (store : Store) (pending : Option ℕ) (local
   }
 
   -- numbers of slots went into an object
-  pub copies_in : (region : ArrayRegion) {kind : ResultKind} {effect : CallEffect} → Does (answer.CopiesIn region) kind effect → Carries (answer.CopiesIn region) kind effect false (record store { heap = space_with store.heap region brought.numbers }) pending given.Nothing
+  pub copies_in : (region : ArrayRegion) {kind : ResultKind} {of_source : SourceAnswer} → Does (answer.CopiesIn region) kind of_source → Carries (answer.CopiesIn region) kind (of of_source) false (record store { heap = space_with store.heap region brought.numbers }) pending given.Nothing
+  unfolding effect_of
   copies_in region (row.copies_in it) =
       let after : Store = record store { heap = space_with store.heap region brought.numbers } in
-      let copied : Shared = record shared { heap = with_numbers shared.heap it.name (overwritten (numbers_of shared.heap it.name) region.start it.numbers) } in
-      let agrees = copying.copied_agrees p w store shared brought region all h.store_agrees it in
-      let keeps = copying.copied_keeps p w store shared brought region all h.store_agrees it in
+      let copied : Shared = record shared { heap = with_numbers shared.heap it.name (overwritten (numbers_of shared.heap it.name) region.start (take region.count (local_array (lookup (variable_given brought.args 3) s.variables)))) } in
+      let agrees = copying.copied_agrees p w store shared s brought region all h.store_agrees it in
+      let keeps = copying.copied_keeps p w store shared s brought region all h.store_agrees it in
       record {
         store_agrees = agrees_yet after copied NoResult refl agrees;
         keeps = subst (Keeps store.heap shared after.heap) (sym (same_heap copied)) keeps;
@@ -255,7 +276,8 @@ module _ (p : Lowered) (w : World) (store : Store) (pending : Option ℕ) (local
     room = nothing_asked store.heap;
   }
 
-  pub refuses_room : {kind : ResultKind} {effect : CallEffect} → Does answer.RefusesFrames kind effect → Carries answer.RefusesFrames kind effect false store (slice_get store.loaded.items (length w.classes)) (given.Number (2 ^ 32 - 4))
+  pub refuses_room : {kind : ResultKind} {of_source : SourceAnswer} → Does answer.RefusesFrames kind of_source → Carries answer.RefusesFrames kind (of of_source) false store (slice_get store.loaded.items (length w.classes)) (given.Number (2 ^ 32 - 4))
+  unfolding effect_of
   refuses_room row.refuses = no_room answer.RefusesFrames
 
   -- keys are left by an answer after which the table is this one
@@ -299,13 +321,15 @@ module _ (p : Lowered) (w : World) (store : Store) (pending : Option ℕ) (local
         by_test true e = absurd (omega (arith, over, leb-true (capacities after) 1024 e))
         by_test false e = refl
 
-  pub ensures : (more : ℕ) {kind : ResultKind} {effect : CallEffect} → Does (answer.Ensures more) kind effect → 0 < length locals.frames → capacities (tables.ensured locals more) ≤ 1024 → CarriesOut p w store.heap locals (answer.Ensures more) kind others owner shared s effect false store pending (tables.ensured locals more) (given.Number 0)
+  pub ensures : (more : ℕ) {kind : ResultKind} {of_source : SourceAnswer} → Does (answer.Ensures more) kind of_source → 0 < length locals.frames → capacities (tables.ensured locals more) ≤ 1024 → CarriesOut p w store.heap locals (answer.Ensures more) kind others owner shared s (of of_source) false store pending (tables.ensured locals more) (given.Number 0)
+  unfolding effect_of
   ensures more row.ensures there fits =
       had (answer.Ensures more) (tables.ensured locals more) (with_capacity more s.frames) (room_ensured store.heap locals s.frames more there h.frames_agree)
       (λ key n level is left. key_ensured store.heap locals key n level is more there) fits
 
   -- without a frame there is none to be given room
-  pub ensures_none : (more : ℕ) {kind : ResultKind} {effect : CallEffect} → Does (answer.Ensures more) kind effect → length locals.frames ≡ 0 → Carries (answer.Ensures more) kind effect false store pending (given.Number 0)
+  pub ensures_none : (more : ℕ) {kind : ResultKind} {of_source : SourceAnswer} → Does (answer.Ensures more) kind of_source → length locals.frames ≡ 0 → Carries (answer.Ensures more) kind (of of_source) false store pending (given.Number 0)
+  unfolding effect_of
   ensures_none more row.ensures none =
       let no : s.frames ≡ [] = no_frames store.heap locals s.frames h.frames_agree none in
       let same : with_capacity more s.frames ≡ s.frames = ap (with_capacity more) no ∙ sym no in
@@ -313,36 +337,44 @@ module _ (p : Lowered) (w : World) (store : Store) (pending : Option ℕ) (local
       let nothing : capacities locals ≡ 0 = same_capacities store.heap locals s.frames h.frames_agree ∙ ap source.capacities no in
       had (answer.Ensures more) locals (with_capacity more s.frames) agree (λ key n level is left. is) (omega (arith, nothing))
 
-  pub ensures_not : (more : ℕ) {kind : ResultKind} {effect : CallEffect} → Does (answer.Ensures more) kind effect → 0 < length locals.frames → 1024 < capacities (tables.ensured locals more) → Carries (answer.Ensures more) kind effect false store (slice_get store.loaded.items (length w.classes)) (given.Number (2 ^ 32 - 4))
+  pub ensures_not : (more : ℕ) {kind : ResultKind} {of_source : SourceAnswer} → Does (answer.Ensures more) kind of_source → 0 < length locals.frames → 1024 < capacities (tables.ensured locals more) → Carries (answer.Ensures more) kind (of of_source) false store (slice_get store.loaded.items (length w.classes)) (given.Number (2 ^ 32 - 4))
+  unfolding effect_of
   ensures_not more row.ensures there over = not_had (answer.Ensures more) (tables.ensured locals more) (with_capacity more s.frames) (room_ensured store.heap locals s.frames more there h.frames_agree) over
 
-  pub pushes : (capacity : ℕ) {kind : ResultKind} {effect : CallEffect} → Does (answer.Pushes capacity) kind effect → capacities (tables.pushed locals capacity) ≤ 1024 → CarriesOut p w store.heap locals (answer.Pushes capacity) kind others owner shared s effect false store pending (tables.pushed locals capacity) (given.Number 0)
+  pub pushes : (capacity : ℕ) {kind : ResultKind} {of_source : SourceAnswer} → Does (answer.Pushes capacity) kind of_source → capacities (tables.pushed locals capacity) ≤ 1024 → CarriesOut p w store.heap locals (answer.Pushes capacity) kind others owner shared s (of of_source) false store pending (tables.pushed locals capacity) (given.Number 0)
+  unfolding effect_of
   pushes capacity row.pushes fits =
       had (answer.Pushes capacity) (tables.pushed locals capacity) (record { capacity = capacity; references = [] } ∷ s.frames) (frame_made store.heap locals s.frames capacity h.frames_agree)
       (λ key n level is left. key_pushed store.heap locals key n level is capacity) fits
 
-  pub pushes_not : (capacity : ℕ) {kind : ResultKind} {effect : CallEffect} → Does (answer.Pushes capacity) kind effect → 1024 < capacities (tables.pushed locals capacity) → Carries (answer.Pushes capacity) kind effect false store (slice_get store.loaded.items (length w.classes)) (given.Number (2 ^ 32 - 4))
+  pub pushes_not : (capacity : ℕ) {kind : ResultKind} {of_source : SourceAnswer} → Does (answer.Pushes capacity) kind of_source → 1024 < capacities (tables.pushed locals capacity) → Carries (answer.Pushes capacity) kind (of of_source) false store (slice_get store.loaded.items (length w.classes)) (given.Number (2 ^ 32 - 4))
+  unfolding effect_of
   pushes_not capacity row.pushes over = not_had (answer.Pushes capacity) (tables.pushed locals capacity) (record { capacity = capacity; references = [] } ∷ s.frames) (frame_made store.heap locals s.frames capacity h.frames_agree) over
 
-  pub pops : (a : Option ℕ) {kind : ResultKind} {effect : CallEffect} → Does (answer.Pops a) kind effect → CarriesOut p w store.heap locals (answer.Pops a) kind others owner shared s effect false store pending (popped locals) (given.Reference a)
+  pub pops : (a : Option ℕ) {kind : ResultKind} {of_source : SourceAnswer} → Does (answer.Pops a) kind of_source → CarriesOut p w store.heap locals (answer.Pops a) kind others owner shared s (of of_source) false store pending (popped locals) (given.Reference a)
+  unfolding effect_of
   pops a (row.pops r agrees) = framed (answer.Pops a) (popped locals) (drop 1 s.frames) (given.Reference a) (frame_ended store.heap locals s.frames h.frames_agree) (λ key n level is apart. key_popped store.heap locals key n level is apart) (row.reference agrees)
 
   -- without a frame there is none to end
-  pub pops_none : (a : Option ℕ) {kind : ResultKind} {effect : CallEffect} → Does (answer.Pops a) kind effect → length locals.frames ≡ 0 → Carries (answer.Pops a) kind effect false store pending (given.Reference a)
+  pub pops_none : (a : Option ℕ) {kind : ResultKind} {of_source : SourceAnswer} → Does (answer.Pops a) kind of_source → length locals.frames ≡ 0 → Carries (answer.Pops a) kind (of of_source) false store pending (given.Reference a)
+  unfolding effect_of
   pops_none a (row.pops r agrees) none =
       let no : s.frames ≡ [] = no_frames store.heap locals s.frames h.frames_agree none in
       framed (answer.Pops a) locals (drop 1 s.frames) (given.Reference a) (subst (FramesAgree store.heap locals) (no ∙ sym (ap (λ (gs : List source.Frame). drop 1 gs) no)) h.frames_agree) (λ key n level is apart. is) (row.reference agrees)
 
-  pub deletes : (key : ℕ) {kind : ResultKind} {effect : CallEffect} → Does (answer.Deletes key) kind effect → CarriesOut p w store.heap locals (answer.Deletes key) kind others owner shared s effect false store pending (tables.without locals key) given.Nothing
-  deletes key (row.deletes n level there) =
+  pub deletes : (key : ℕ) {kind : ResultKind} {of_source : SourceAnswer} → Does (answer.Deletes key) kind of_source → CarriesOut p w store.heap locals (answer.Deletes key) kind others owner shared s (of of_source) false store pending (tables.without locals key) given.Nothing
+  unfolding effect_of
+  deletes key (row.deletes n variable there) =
+      let level = level_of (lookup (variable_given brought.args variable) s.variables) in
       framed (answer.Deletes key) (tables.without locals key) (without_local level n s.frames) given.Nothing
       (reference_deleted store.heap locals s.frames key n level there h.frames_agree)
       (λ other m at its apart. key_deleted store.heap locals other m at its key apart)
       row.nothing
 
   -- a global reference was made, or none for NULL
-  pub makes_global : (globals : List (Option ℕ)) (held : StaticReference) (a : Option ℕ) {kind : ResultKind} {effect : CallEffect} → Does (answer.MakesGlobal a) kind effect
-      → MakesGlobal store.globals a globals held → Carries (answer.MakesGlobal a) kind effect false (record store { globals = globals }) pending (given.Global held)
+  pub makes_global : (globals : List (Option ℕ)) (held : StaticReference) (a : Option ℕ) {kind : ResultKind} {of_source : SourceAnswer} → Does (answer.MakesGlobal a) kind of_source
+      → MakesGlobal store.globals a globals held → Carries (answer.MakesGlobal a) kind (of of_source) false (record store { globals = globals }) pending (given.Global held)
+  unfolding effect_of
   makes_global globals held None (row.makes_global (Some n) agrees) made = absurd agrees
   makes_global globals held (Some a) (row.makes_global None agrees) made = absurd agrees
   makes_global globals held None (row.makes_global None agrees) made =
@@ -376,9 +408,11 @@ module _ (p : Lowered) (w : World) (store : Store) (pending : Option ℕ) (local
       }
 
   -- the global reference of a static ended
-  pub deletes_static : (statics : Vec StaticReference) (globals : List (Option ℕ)) (i : ℕ) {kind : ResultKind} {effect : CallEffect} → Does (answer.DeletesGlobal i) kind effect → statics.items ≡ slice_set store.statics.items i static.Deleted → ((key : ℕ) → slice_get store.statics.items i ≡ Some (static.Live key) → globals ≡ without store.globals key)
-      → Carries (answer.DeletesGlobal i) kind effect false (record store { statics = statics; globals = globals }) pending given.Nothing
-  deletes_static statics globals i (row.deletes_global x n holds) marked gone =
+  pub deletes_static : (statics : Vec StaticReference) (globals : List (Option ℕ)) (i : ℕ) {kind : ResultKind} {of_source : SourceAnswer} → Does (answer.DeletesGlobal i) kind of_source → statics.items ≡ slice_set store.statics.items i static.Deleted → ((key : ℕ) → slice_get store.statics.items i ≡ Some (static.Live key) → globals ≡ without store.globals key)
+      → Carries (answer.DeletesGlobal i) kind (of of_source) false (record store { statics = statics; globals = globals }) pending given.Nothing
+  unfolding effect_of
+  deletes_static statics globals i (row.deletes_global n variable holds) marked gone =
+      let x = variable_given brought.args variable in
       let live = live_there p w store shared all h.store_agrees x i n holds.place holds.there in
       let marked_store : Store = record store { statics = statics; globals = without store.globals live.key } in
       let after : Shared = record shared { globals = without_one n shared.globals; statics = assign x Deleted shared.statics } in
@@ -395,8 +429,9 @@ module _ (p : Lowered) (w : World) (store : Store) (pending : Option ℕ) (local
       })
 
   -- a weak global reference was made, or none for NULL
-  pub makes_weak : (weaks : List (Option (Option ℕ))) (held : StaticReference) (a : Option ℕ) {kind : ResultKind} {effect : CallEffect} → Does (answer.MakesWeak a) kind effect
-      → MakesWeak store.weaks a weaks held → Carries (answer.MakesWeak a) kind effect false (record store { weaks = weaks }) pending (given.Global held)
+  pub makes_weak : (weaks : List (Option (Option ℕ))) (held : StaticReference) (a : Option ℕ) {kind : ResultKind} {of_source : SourceAnswer} → Does (answer.MakesWeak a) kind of_source
+      → MakesWeak store.weaks a weaks held → Carries (answer.MakesWeak a) kind (of of_source) false (record store { weaks = weaks }) pending (given.Global held)
+  unfolding effect_of
   makes_weak weaks held None (row.makes_weak (Some n) agrees) made = absurd agrees
   makes_weak weaks held (Some a) (row.makes_weak None agrees) made = absurd agrees
   makes_weak weaks held None (row.makes_weak None agrees) made =
@@ -429,9 +464,11 @@ module _ (p : Lowered) (w : World) (store : Store) (pending : Option ℕ) (local
       }
 
   -- the weak reference of a static ended
-  pub deletes_weak : (statics : Vec StaticReference) (weaks : List (Option (Option ℕ))) (i : ℕ) {kind : ResultKind} {effect : CallEffect} → Does (answer.DeletesWeak i) kind effect → statics.items ≡ slice_set store.statics.items i static.Deleted → weaks ≡ without_weak store.weaks (slice_get store.statics.items i)
-      → Carries (answer.DeletesWeak i) kind effect false (record store { statics = statics; weaks = weaks }) pending given.Nothing
-  deletes_weak statics weaks i (row.deletes_weak x holds) marked ended =
+  pub deletes_weak : (statics : Vec StaticReference) (weaks : List (Option (Option ℕ))) (i : ℕ) {kind : ResultKind} {of_source : SourceAnswer} → Does (answer.DeletesWeak i) kind of_source → statics.items ≡ slice_set store.statics.items i static.Deleted → weaks ≡ without_weak store.weaks (slice_get store.statics.items i)
+      → Carries (answer.DeletesWeak i) kind (of of_source) false (record store { statics = statics; weaks = weaks }) pending given.Nothing
+  unfolding effect_of
+  deletes_weak statics weaks i (row.deletes_weak variable holds) marked ended =
+      let x = variable_given brought.args variable in
       let marked_store : Store = record store { statics = statics; weaks = weaks } in
       let after : Shared = record shared { statics = assign x Deleted shared.statics } in
       record {
@@ -451,7 +488,8 @@ module _ (p : Lowered) (w : World) (store : Store) (pending : Option ℕ) (local
     object_fits : (o : Object) → Describes w.classes texts store.heap new o → sizes (o ∷ []) ≤ left_of store.heap
     object_fits o d = omega (arith, made.room, described_size w.classes texts store.heap new o d.object)
 
-    pub makes : {kind : ResultKind} {effect : CallEffect} → Does (answer.Makes new) kind effect → Carries (answer.Makes new) kind effect false after pending (given.Reference (Some a))
+    pub makes : {kind : ResultKind} {of_source : SourceAnswer} → Does (answer.Makes new) kind of_source → Carries (answer.Makes new) kind (of of_source) false after pending (given.Reference (Some a))
+    unfolding effect_of
     makes (row.makes {o = o} describes) =
         let names = making.names_stay p w texts store after shared new o a all h.store_agrees made describes in
         record {
@@ -468,7 +506,8 @@ module _ (p : Lowered) (w : World) (store : Store) (pending : Option ℕ) (local
 
   -- an exception was made
   module _ (after : Store) (class : ClassId) (a : ℕ) (made : HasMade w.classes texts store (Fresh class) after a) where
-    pub throws : {kind : ResultKind} {effect : CallEffect} → Does (answer.Throws class) kind effect → Carries (answer.Throws class) kind effect false after (Some a) (failed kind)
+    pub throws : {kind : ResultKind} {of_source : SourceAnswer} → Does (answer.Throws class) kind of_source → Carries (answer.Throws class) kind (of of_source) false after (Some a) (failed kind)
+    unfolding effect_of
     throws (row.throws {kind = kind} makeable) =
         let o = fresh_object w.classes class.number in
         let described : Describes w.classes texts store.heap (Fresh class) o = record { object = refl; makeable = makeable } in
@@ -487,7 +526,8 @@ module _ (p : Lowered) (w : World) (store : Store) (pending : Option ℕ) (local
 
   -- a message and an exception were made
   module _ (class : ClassId) (place : ℕ) where
-    pub refuses_raise : {kind : ResultKind} {effect : CallEffect} → Does (answer.Raises class place) kind effect → left_of store.heap < cells_of_new w.classes texts (Text place) + cells_of_new w.classes texts (Fresh class) → Carries (answer.Raises class place) kind effect true store (slice_get store.loaded.items (length w.classes)) (failed kind)
+    pub refuses_raise : {kind : ResultKind} {of_source : SourceAnswer} → Does (answer.Raises class place) kind of_source → left_of store.heap < cells_of_new w.classes texts (Text place) + cells_of_new w.classes texts (Fresh class) → Carries (answer.Raises class place) kind (of of_source) true store (slice_get store.loaded.items (length w.classes)) (failed kind)
+    unfolding effect_of
     refuses_raise (row.raises of_string makeable) short =
         refuses (answer.Raises class place) GivesInt (throw_new_effect w.classes shared s class.number (text_in texts place)) refl
         (omega (arith, short, both_sizes w.classes texts store.heap class place (Some (next_name shared.heap))))
@@ -560,12 +600,14 @@ module _ (p : Lowered) (w : World) (store : Store) (pending : Option ℕ) (local
             room = both_fit;
           }
 
-    pub raises : {kind : ResultKind} {effect : CallEffect} → Does (answer.Raises class place) kind effect → (between after : Store) (message a : ℕ) → HasMade w.classes texts store (Text place) between message → HasMade w.classes texts between (Exception class message) after a
-        → Carries (answer.Raises class place) kind effect false after (Some a) (given.Number 0)
+    pub raises : {kind : ResultKind} {of_source : SourceAnswer} → Does (answer.Raises class place) kind of_source → (between after : Store) (message a : ℕ) → HasMade w.classes texts store (Text place) between message → HasMade w.classes texts between (Exception class message) after a
+        → Carries (answer.Raises class place) kind (of of_source) false after (Some a) (given.Number 0)
+    unfolding effect_of
     raises (row.raises of_string makeable) between after message a first second = both_made between after message a first second of_string makeable
 
   -- another exception is pending, or none
-  pub pends : {kind : ResultKind} {effect : CallEffect} → brought.unit ≡ unit_tree p.unit → (a : Option ℕ) (g : Given) → Does (answer.Pends a g) kind effect → Carries (answer.Pends a g) kind effect false store a g
+  pub pends : {kind : ResultKind} {of_source : SourceAnswer} → brought.unit ≡ unit_tree p.unit → (a : Option ℕ) (g : Given) → Does (answer.Pends a g) kind of_source → Carries (answer.Pends a g) kind (of of_source) false store a g
+  unfolding effect_of
   pends same_unit a g (row.pends {c = c} r agrees of_call) =
       let given_agrees = of_unit same_unit of_call in
       record {

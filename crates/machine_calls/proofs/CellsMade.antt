@@ -9,10 +9,10 @@ use Rattle.class_rules.specs.Class.{Classes}
 use Rattle.class_rules.specs.declared.class_id.ClassId.{ClassId}
 use Rattle.heap.specs.Heap.{Space, left_of}
 use Rattle.jni.specs.Prototype.{ResultKind}
-use Rattle.base.specs.Bytes.{Identifier}
+use Rattle.semantics.specs.Answer.{Answer as SourceAnswer, effect_of}
+use Rattle.semantics.specs.AnswerTable.{monitor_entered, monitor_left, released}
 use Rattle.semantics.specs.Arguments.{ReleaseMode, CopyBackAndFree, CopyBack, FreeUncopied}
 use Rattle.semantics.specs.CallEffects.{string_object, with_message, CallEffect, frames_effect, refuses_frames, with_capacity}
-use Rattle.machine_scenes.specs.SourceEffects.{enter_effect, exit_effect, release_effect}
 use Rattle.semantics.specs.Heap.{next_name}
 use Rattle.semantics.specs.Object.{Object, Reference, Refers, size, sizes}
 use Rattle.semantics.specs.Thread as source
@@ -23,7 +23,7 @@ use Rattle.machine_answers.specs.declared.answer.Answer.{Answer}
 use Rattle.machine_answers.specs.declared.answer.Answer.TheVariants as answer
 use Rattle.machine_scenes.specs.declared.new_object.New.{New}
 use Rattle.machine_scenes.specs.declared.new_object.New.TheVariants.{Fresh, Text}
-use Rattle.machine_answers.specs.Answers.{Brought, IsAnswer}
+use Rattle.machine_answers.specs.Answers.{Brought, IsAnswer, effect_told}
 use Rattle.machine_answers.specs.Answers as row
 use Rattle.machine_calls.specs.CarriedOut.{takes_memory, is_of_references, made_by}
 use Rattle.machine_calls.specs.Made.{cells_of}
@@ -67,30 +67,41 @@ module _ (classes : Classes) (brought : Brought) (space : Space) (locals : Local
   of_frames : (frames : List source.Frame) → Cells (frames_effect classes shared s frames) ≡ 0
   of_frames frames = cond_both (nat_le (source.capacities frames) 1024) _ (refuses_frames classes shared s) (λ (e : CallEffect). Cells e ≡ 0) (λ e. refl) (λ e. refl)
 
-  of_release : (s' : Shared) (n : ℕ) (x : Identifier) (mode : ReleaseMode) → Cells (release_effect s' s n x mode) ≡ 0
-  of_release s' n x CopyBackAndFree = refl
-  of_release s' n x CopyBack = refl
-  of_release s' n x FreeUncopied = refl
+  -- the effect of an answer
+  abbrev of : SourceAnswer → CallEffect
+  of a = effect_told classes brought shared s a
 
-  of_enter : (k n : ℕ) (o : Option source.Monitor) → Cells (enter_effect k shared s n o) ≡ 0
-  of_enter k n None = refl
-  of_enter k n (Some m) = cond_both (nat_lt m.count 255) _ _ (λ (e : CallEffect). Cells e ≡ 0) (λ e. refl) (λ e. refl)
+  of_release : (n : ℕ) (mode : ReleaseMode) → Cells (of (released n mode)) ≡ 0
+  unfolding effect_of
+  of_release n CopyBackAndFree = refl
+  of_release n CopyBack = refl
+  of_release n FreeUncopied = refl
 
-  of_exit : (k n : ℕ) (m : source.Monitor) → m.owner ≡ k → Cells (exit_effect k shared s n (Some m)) ≡ 0
-  of_exit k n m own = cond_both (m.owner == k) _ _ (λ (e : CallEffect). Cells e ≡ 0) (λ e. refl) (λ other. absurd (apart m.owner k other own))
+  of_enter : (n : ℕ) (o : Option source.Monitor) → Cells (of (monitor_entered n o)) ≡ 0
+  unfolding effect_of
+  of_enter n None = refl
+  of_enter n (Some m) = cond_both (nat_lt m.count 255) _ _ (λ (a : SourceAnswer). Cells (of a) ≡ 0) (λ e. refl) (λ e. refl)
+
+  of_exit : (n : ℕ) (m : source.Monitor) → m.owner ≡ brought.thread → Cells (of (monitor_left brought.thread n (Some m))) ≡ 0
+  unfolding effect_of
+  of_exit n m own =
+      cond_both (m.owner == brought.thread) _ _ (λ (a : SourceAnswer). Cells (of a) ≡ 0)
+      (λ e. cond_both (m.count == 1) _ _ (λ (a : SourceAnswer). Cells (of a) ≡ 0) (λ last. refl) (λ more. refl))
+      (λ other. absurd (apart m.owner brought.thread other own))
     where
       apart : (x y : ℕ) → (x == y) ≡ false → x ≡ y → ⊥
       apart x y other same = grind (arith, nat_tests, other, same)
 
-  pub cells_made : {a : Answer} {kind : ResultKind} {effect : CallEffect} → IsAnswer classes brought space locals shared s a kind effect → Cells effect ≡ cells_of classes brought.texts a
+  pub cells_made : {a : Answer} {kind : ResultKind} {of_source : SourceAnswer} → IsAnswer classes brought space locals shared s a kind of_source → Cells (of of_source) ≡ cells_of classes brought.texts a
+  unfolding effect_of
   cells_made (row.makes {new = new} {o = o} it) = described_size classes brought.texts space new o it.object
   cells_made (row.throws {class = class} makeable) = fresh_size classes brought.texts space class
   cells_made (row.raises {class = class} {place = place} of_string makeable) = both_sizes classes brought.texts space class place (Some (next_name shared.heap))
-  cells_made (row.releases it) = of_release shared it.name it.variable it.mode
+  cells_made (row.releases it) = of_release it.name it.mode
   cells_made (row.ensures {more = more}) = of_frames (with_capacity more s.frames)
   cells_made (row.pushes {capacity = capacity}) = of_frames (record { capacity = capacity; references = [] } ∷ s.frames)
-  cells_made (row.enters {o = o} it) = of_enter brought.thread o.name (source.monitor_of shared.monitors o.name)
-  cells_made (row.exits {n = n} it) = ap (λ (m : Option source.Monitor). Cells (exit_effect brought.thread shared s n m)) it.owned ∙ of_exit brought.thread n it.monitor it.own
+  cells_made (row.enters {o = o} it) = of_enter o.name (source.monitor_of shared.monitors o.name)
+  cells_made (row.exits {n = n} it) = ap (λ (m : Option source.Monitor). Cells (of (monitor_left brought.thread n m))) it.owned ∙ of_exit n it.monitor it.own
   cells_made does = refl
 
 -- what changes references or frames makes nothing

@@ -8,7 +8,8 @@ use Rattle.heap.specs.Layout.{layout_of}
 use Rattle.machine_scenes.proofs.ObjectExtents.{none_laid}
 use Rattle.jni.specs.Prototype.{ResultKind, GivesInt}
 use Rattle.semantics.specs.CallEffects.{CallEffect, ScalarResult}
-use Rattle.machine_scenes.specs.SourceEffects.{enter_effect, exit_effect}
+use Rattle.semantics.specs.Answer.{Answer as SourceAnswer, effect_of}
+use Rattle.semantics.specs.AnswerTable.{monitor_entered, monitor_left}
 use Rattle.semantics.specs.Thread as source
 use Rattle.semantics.specs.Thread.{Shared, Thread}
 use Rattle.semantics.specs.Value.{Int}
@@ -72,8 +73,12 @@ keeps_monitors space shared ss = record {
 }
 
 module _ (p : Lowered) (w : World) (store : Store) (pending : Option ℕ) (locals : LocalTable) (others : Acquired) (k owner : ℕ) (shared : Shared) (s : Thread) (h : IsPossible p w store pending locals others shared s) (brought : Brought) (thread : brought.thread ≡ k) where
-  abbrev Does : Answer → ResultKind → CallEffect → Type 0
-  Does a kind effect = IsAnswer w.classes brought store.heap locals shared s a kind effect
+  abbrev Does : Answer → ResultKind → SourceAnswer → Type 0
+  Does a kind of_source = IsAnswer w.classes brought store.heap locals shared s a kind of_source
+
+  -- the effect of an answer of the source, which a call of thread j brings
+  abbrev of : (j : ℕ) → SourceAnswer → CallEffect
+  of j a = effect_of w.classes brought.in_use j shared s brought.args a
 
   abbrev Carries : Answer → ResultKind → CallEffect → List Monitor → Type 0
   Carries a kind effect ms = CarriesOut p w store.heap locals a kind others owner shared s effect false (record store { monitors = ms }) pending locals (given.Number 0)
@@ -90,25 +95,25 @@ module _ (p : Lowered) (w : World) (store : Store) (pending : Option ℕ) (local
       (row.int refl (record { sfits = omega arith })))
 
   -- what `enter` ensures of the object that is entered
-  pub enters : (o : Object) {kind : ResultKind} {effect : CallEffect} → Does (answer.Enters o) kind effect → (came : Enter) (ms : List Monitor) → came ≡ entering k (monitor_of store.monitors o.name)
-      → (came ≡ Entered → ChangesAt store.monitors ms o.name (Some (entered o k (monitor_of store.monitors o.name)))) → AreOf (o ∷ map object_of store.monitors) ms → Carries (answer.Enters o) kind effect ms
+  pub enters : (o : Object) {kind : ResultKind} {of_source : SourceAnswer} → Does (answer.Enters o) kind of_source → (came : Enter) (ms : List Monitor) → came ≡ entering k (monitor_of store.monitors o.name)
+      → (came ≡ Entered → ChangesAt store.monitors ms o.name (Some (entered o k (monitor_of store.monitors o.name)))) → AreOf (o ∷ map object_of store.monitors) ms → Carries (answer.Enters o) kind (of brought.thread of_source) ms
   enters o (row.enters it) came ms is changes objects =
       let may = subst (λ (j : ℕ). IsEntered j store.heap shared o) thread it in
       let agree = h.store_agrees.monitors in
       let answer_is : Entered ≡ entering k (monitor_of store.monitors o.name) = enters_so k store.monitors shared.monitors agree o.name (record { own = may.own; few = may.few }) in
-      let done = fit.enters k shared s store.monitors agree ms o answer_is (changes (is ∙ sym answer_is)) in
-      changed (answer.Enters o) (enter_effect brought.thread shared s o.name (source.monitor_of shared.monitors o.name)) ms
-      (record { monitors = done.monitors; is = ap (λ (j : ℕ). enter_effect j shared s o.name (source.monitor_of shared.monitors o.name)) thread ∙ done.is; agree = done.agree })
+      let done = fit.enters w.classes brought.in_use k shared s brought.args store.monitors agree ms o answer_is (changes (is ∙ sym answer_is)) in
+      changed (answer.Enters o) (of brought.thread (monitor_entered o.name (source.monitor_of shared.monitors o.name))) ms
+      (record { monitors = done.monitors; is = ap (λ (j : ℕ). of j (monitor_entered o.name (source.monitor_of shared.monitors o.name))) thread ∙ done.is; agree = done.agree })
       (there_entered store.heap store.monitors ms o may.there h.store_agrees.monitored objects)
 
   -- what `exit` ensures of the object that is left
-  pub exits : (n : ℕ) {kind : ResultKind} {effect : CallEffect} → Does (answer.Exits n) kind effect → (came : Exit) (ms : List Monitor) → came ≡ leaving k (monitor_of store.monitors n)
-      → (came ≡ Left → ChangesAt store.monitors ms n (left (monitor_of store.monitors n))) → AreOf (map object_of store.monitors) ms → Carries (answer.Exits n) kind effect ms
+  pub exits : (n : ℕ) {kind : ResultKind} {of_source : SourceAnswer} → Does (answer.Exits n) kind of_source → (came : Exit) (ms : List Monitor) → came ≡ leaving k (monitor_of store.monitors n)
+      → (came ≡ Left → ChangesAt store.monitors ms n (left (monitor_of store.monitors n))) → AreOf (map object_of store.monitors) ms → Carries (answer.Exits n) kind (of brought.thread of_source) ms
   exits n (row.exits it) came ms is changes objects =
       let owned = subst (λ (j : ℕ). IsExited j shared n) thread it in
       let agree = h.store_agrees.monitors in
       let answer_is : Left ≡ leaving k (monitor_of store.monitors n) = leaves_so k store.monitors shared.monitors agree n (record { monitor = owned.monitor; owned = owned.owned; own = owned.own }) in
-      let done = fit.leaves k shared s store.monitors agree ms n answer_is (changes (is ∙ sym answer_is)) in
-      changed (answer.Exits n) (exit_effect brought.thread shared s n (source.monitor_of shared.monitors n)) ms
-      (record { monitors = done.monitors; is = ap (λ (j : ℕ). exit_effect j shared s n (source.monitor_of shared.monitors n)) thread ∙ done.is; agree = done.agree })
+      let done = fit.leaves w.classes brought.in_use k shared s brought.args store.monitors agree ms n answer_is (changes (is ∙ sym answer_is)) in
+      changed (answer.Exits n) (of brought.thread (monitor_left brought.thread n (source.monitor_of shared.monitors n))) ms
+      (record { monitors = done.monitors; is = ap (λ (j : ℕ). of j (monitor_left j n (source.monitor_of shared.monitors n))) thread ∙ done.is; agree = done.agree })
       (there_left store.heap store.monitors ms h.store_agrees.monitored objects)

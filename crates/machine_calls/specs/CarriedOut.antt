@@ -1,14 +1,14 @@
 -- What carrying out an answer leaves, by the effect of the source's call.
 use Rattle.std.specs.Prelude.{◌≡◌, ◌≢◌, ℕ, ◌-◌, ◌^◌, ◌<◌, ◌≤◌, Bool, true, false, if◌then◌else◌, List, [], ◌∷◌, ◌++◌, length, slice_get, slice_set, IsSome, Option, Some, None}
-use Rattle.base.specs.Bytes.{Identifier}
 use Rattle.syntax.specs.Tree.{SourceUnit}
 use Rattle.syntax.specs.Views.{unit_tree}
 use Rattle.class_rules.specs.Class.{Classes}
 use Rattle.code.specs.declared.instr.Call.{Call}
-use Rattle.code.specs.declared.instr.LocalArray.{LocalArray}
 use Rattle.heap.specs.Heap.{Space, left_of}
 use Rattle.jni.specs.Prototype.{ResultKind, NewLocal, NewGlobal, NewWeak, GivesFlag, GivesInt, GivesField, GivesMethod, GivesBuffer}
 use Rattle.jni.specs.Table.{result_value}
+use Rattle.semantics.specs.Answer.{Answer as SourceAnswer}
+use Rattle.semantics.specs.Arguments.{Actual}
 use Rattle.semantics.specs.CallEffects.{CallResult, NoResult, NullResult, ReferenceResult, WeakResult, BufferResult, CallEffect, Leaves, Throws, Halts, Enters, out_of_memory}
 use Rattle.semantics.specs.CallStep.{failure, makes_objects, static_result}
 use Rattle.semantics.specs.Heap.{next_name}
@@ -33,7 +33,7 @@ use Rattle.machine_scenes.specs.Statics.{held}
 use Rattle.machine_scenes.specs.Statics.{StaticReference}
 use Rattle.semantics.specs.declared.static_reference.StaticReference.TheVariants as static
 use Rattle.machine_scenes.specs.StoreAgrees.{HeldAgrees, StoreAgrees, Keeps}
-use Rattle.machine_answers.specs.Answers.{Brought, GivenAgrees, IsAnswer, bringing}
+use Rattle.machine_answers.specs.Answers.{Brought, GivenAgrees, IsAnswer, bringing, effect_told}
 use Rattle.machine_answers.specs.declared.answer.Answer.{Answer}
 use Rattle.machine_answers.specs.declared.answer.Answer.TheVariants as answer
 use Rattle.machine_answers.specs.Copies.{numbers_with}
@@ -238,35 +238,40 @@ pub record IsPossible (p : Lowered) (w : World) (store : Store) (pending : Optio
   pub pending_agrees : ReferenceAgrees store.heap pending s.pending
   pub frames_agree : FramesAgree store.heap locals s.frames
 
--- ---- what is carried out, of any call of the source that has the answer
+-- ---- what is carried out, of any call of the source for whose answer the answer stands
+
+-- what a call of thread k brings, of this number and with these slots, of which the source's has these arguments
+abbrev pub brought_to : Lowered → Store → Activation → Call → (k owner : ℕ) → (others : Acquired) → Thread → List Actual → Brought
+brought_to p store activation call k owner others s args =
+    bringing (unit_tree p.unit) (texts_in call.texts.items) call.operands.items activation.slots.numbers.items
+    (holding activation.slots.buffers.items store.elements owner) k (in_use_of (beside others (acquired_by s))) args
 
 -- a call of thread k, of the number that its copies have as their owner's, can be carried out and has this answer
 abbrev pub HasAnswer : World → Store → (pending : Option ℕ) → Activation → Call → (k owner : ℕ) → Answer → Type 0
 HasAnswer w store pending activation call k owner a =
-    (p : Lowered) × (array : Option (Identifier × LocalArray)) × (others : Acquired) × (shared : Shared) × (s : Thread)
-    × (effect : CallEffect) × IsPossible p w store pending activation.locals others shared s
-    × IsAnswer w.classes (bringing (unit_tree p.unit) (texts_in call.texts.items) activation.slots.numbers.items
-    (holding activation.slots.buffers.items store.elements owner) k (in_use_of (beside others (acquired_by s))) array)
-    store.heap activation.locals shared s a (result_value call.result) effect
+    (p : Lowered) × (args : List Actual) × (others : Acquired) × (shared : Shared) × (s : Thread)
+    × (of_source : SourceAnswer) × IsPossible p w store pending activation.locals others shared s
+    × IsAnswer w.classes (brought_to p store activation call k owner others s args)
+    store.heap activation.locals shared s a (result_value call.result) of_source
 
 -- what carrying it out leaves is what the call does
 abbrev pub CarriesOutAnswer : World → (old store : Store) → (pending left : Option ℕ) → (before after : Activation) → Call
     → (k owner : ℕ) → Answer → Carried → Type 0
 CarriesOutAnswer w old store pending left before after call k owner a carried =
-    (p : Lowered) (array : Option (Identifier × LocalArray)) (others : Acquired) (shared : Shared) (s : Thread)
-    (effect : CallEffect) → IsPossible p w old pending before.locals others shared s
-    → IsAnswer w.classes (bringing (unit_tree p.unit) (texts_in call.texts.items) before.slots.numbers.items
-    (holding before.slots.buffers.items old.elements owner) k (in_use_of (beside others (acquired_by s))) array)
-    old.heap before.locals shared s a (result_value call.result) effect
-    → CarriesOut p w old.heap before.locals a (result_value call.result) others owner shared s effect
+    (p : Lowered) (args : List Actual) (others : Acquired) (shared : Shared) (s : Thread)
+    (of_source : SourceAnswer) → IsPossible p w old pending before.locals others shared s
+    → IsAnswer w.classes (brought_to p old before call k owner others s args)
+    old.heap before.locals shared s a (result_value call.result) of_source
+    → CarriesOut p w old.heap before.locals a (result_value call.result) others owner shared s
+    (effect_told w.classes (brought_to p old before call k owner others s args) shared s of_source)
     carried.refused store left after.locals carried.given
 
 -- a call of thread k, which has these buffers and this number, has an answer of buffers, and can be carried out
 abbrev pub HasAnswerOfBuffers : World → Store → (pending : Option ℕ) → LocalTable → List Buffer → (k owner : ℕ) → Answer → Type 0
 HasAnswerOfBuffers w store pending locals buffers k owner a =
     (p : Lowered) × (kind : ResultKind) × (brought : Brought) × (others : Acquired) × (shared : Shared) × (s : Thread)
-    × (effect : CallEffect) × IsPossible p w store pending locals others shared s
-    × IsAnswer w.classes brought store.heap locals shared s a kind effect
+    × (of_source : SourceAnswer) × IsPossible p w store pending locals others shared s
+    × IsAnswer w.classes brought store.heap locals shared s a kind of_source
     × (brought.buffers ≡ holding buffers store.elements owner) × (brought.in_use ≡ in_use_of (beside others (acquired_by s)))
     × (brought.thread ≡ k)
 
@@ -275,39 +280,42 @@ abbrev pub CarriesOutBuffers : World → (old store : Store) → (pending left :
     → List Buffer → (k owner : ℕ) → Answer → Carried → Type 0
 CarriesOutBuffers w old store pending left before locals buffers k owner a carried =
     (p : Lowered) (kind : ResultKind) (brought : Brought) (others : Acquired) (shared : Shared) (s : Thread)
-    (effect : CallEffect) → IsPossible p w old pending before others shared s
-    → IsAnswer w.classes brought old.heap before shared s a kind effect
+    (of_source : SourceAnswer) → IsPossible p w old pending before others shared s
+    → IsAnswer w.classes brought old.heap before shared s a kind of_source
     → brought.buffers ≡ holding buffers old.elements owner → brought.in_use ≡ in_use_of (beside others (acquired_by s))
-    → brought.thread ≡ k → CarriesOut p w old.heap before a kind others owner shared s effect carried.refused store left locals carried.given
+    → brought.thread ≡ k → CarriesOut p w old.heap before a kind others owner shared s (effect_told w.classes brought shared s of_source)
+    carried.refused store left locals carried.given
 
 -- a call of thread k has an answer of monitors, and can be carried out
 abbrev pub HasAnswerOfMonitors : World → Store → (pending : Option ℕ) → LocalTable → (k : ℕ) → Answer → Type 0
 HasAnswerOfMonitors w store pending locals k a =
     (p : Lowered) × (kind : ResultKind) × (brought : Brought) × (others : Acquired) × (shared : Shared) × (s : Thread)
-    × (effect : CallEffect) × IsPossible p w store pending locals others shared s
-    × IsAnswer w.classes brought store.heap locals shared s a kind effect × (brought.thread ≡ k)
+    × (of_source : SourceAnswer) × IsPossible p w store pending locals others shared s
+    × IsAnswer w.classes brought store.heap locals shared s a kind of_source × (brought.thread ≡ k)
 
 -- what carrying that out leaves is what the call does, whatever its number
 abbrev pub CarriesOutMonitors : World → (old store : Store) → (pending left : Option ℕ) → (before locals : LocalTable)
     → (k : ℕ) → Answer → Carried → Type 0
 CarriesOutMonitors w old store pending left before locals k a carried =
     (p : Lowered) (kind : ResultKind) (brought : Brought) (others : Acquired) (owner : ℕ) (shared : Shared) (s : Thread)
-    (effect : CallEffect) → IsPossible p w old pending before others shared s
-    → IsAnswer w.classes brought old.heap before shared s a kind effect → brought.thread ≡ k
-    → CarriesOut p w old.heap before a kind others owner shared s effect carried.refused store left locals carried.given
+    (of_source : SourceAnswer) → IsPossible p w old pending before others shared s
+    → IsAnswer w.classes brought old.heap before shared s a kind of_source → brought.thread ≡ k
+    → CarriesOut p w old.heap before a kind others owner shared s (effect_told w.classes brought shared s of_source)
+    carried.refused store left locals carried.given
 
 -- a call has an answer of references, and can be carried out
 abbrev pub HasAnswerOfReferences : World → Store → (pending : Option ℕ) → LocalTable → Answer → Type 0
 HasAnswerOfReferences w store pending locals a =
     (p : Lowered) × (kind : ResultKind) × (brought : Brought) × (others : Acquired) × (shared : Shared) × (s : Thread)
-    × (effect : CallEffect) × IsPossible p w store pending locals others shared s
-    × IsAnswer w.classes brought store.heap locals shared s a kind effect
+    × (of_source : SourceAnswer) × IsPossible p w store pending locals others shared s
+    × IsAnswer w.classes brought store.heap locals shared s a kind of_source
 
 -- what carrying that out leaves is what the call does, whichever thread makes it and whatever its number
 abbrev pub CarriesOutReferences : World → (old store : Store) → (pending left : Option ℕ) → (before locals : LocalTable)
     → Answer → Carried → Type 0
 CarriesOutReferences w old store pending left before locals a carried =
     (p : Lowered) (kind : ResultKind) (brought : Brought) (others : Acquired) (owner : ℕ) (shared : Shared) (s : Thread)
-    (effect : CallEffect) → IsPossible p w old pending before others shared s
-    → IsAnswer w.classes brought old.heap before shared s a kind effect
-    → CarriesOut p w old.heap before a kind others owner shared s effect carried.refused store left locals carried.given
+    (of_source : SourceAnswer) → IsPossible p w old pending before others shared s
+    → IsAnswer w.classes brought old.heap before shared s a kind of_source
+    → CarriesOut p w old.heap before a kind others owner shared s (effect_told w.classes brought shared s of_source)
+    carried.refused store left locals carried.given

@@ -19,4 +19,3 @@ pub mod OperandsThere
 pub mod MonitorPlaces
 pub mod Taken
 pub mod WeakLaws
-pub mod SourceEffects

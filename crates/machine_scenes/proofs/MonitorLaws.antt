@@ -3,10 +3,14 @@ use Rattle.std.proofs.Common.{◌≡◌, ◌≢◌, ℕ, ◌+◌, ◌-◌, Bool,
 use Rattle.std.specs.Prelude.{nat_lt, negsuc}
 use Rattle.std.proofs.lemmas.Bool.Decides.{eqb_tells}
 use Rattle.class_rules.specs.BuiltIns.{illegal_monitor_state}
+use Rattle.class_rules.specs.Class.{Classes}
+use Rattle.semantics.specs.Answer.{Answer, Disowns, Gives, Owns, Raises, effect_of}
+use Rattle.semantics.specs.AnswerTable.{monitor_entered, monitor_left}
+use Rattle.semantics.specs.Arguments.{Actual}
 use Rattle.semantics.specs.Thread as source
+use Rattle.semantics.specs.Thread.{BuffersInUse}
 use Rattle.semantics.specs.Value.{Int}
-use Rattle.semantics.specs.CallEffects.{CallEffect, Leaves, Throws, ScalarResult, monitor, monitors_effect}
-use Rattle.machine_scenes.specs.SourceEffects.{enter_effect, exit_effect}
+use Rattle.semantics.specs.CallEffects.{CallEffect, ScalarResult, monitor, monitors_effect}
 use Rattle.monitors.specs.declared.monitors.Monitor.{Monitor}
 use Rattle.monitors.specs.declared.monitors.Object.{Object}
 use Rattle.monitors.specs.declared.monitors.Enter.TheVariants.{Entered, Limit, Busy}
@@ -114,37 +118,33 @@ goes ms ms' ss n h changes = record {
   different = without_different ss n h.different;
 }
 
--- where it has none, nothing goes
-none_without : (ss : List source.Monitor) (n : ℕ) → source.monitor_of ss n ≡ None → source.without_monitor ss n ≡ ss
-none_without [] n none = refl
-none_without (s ∷ ss) n none = by_test (eqb s.object n) none (λ rest. none_without ss n rest)
-  where
-    by_test : (b : Bool) → cond b (Some s) (source.monitor_of ss n) ≡ None → (source.monitor_of ss n ≡ None → source.without_monitor ss n ≡ ss) → cond (not b) (s ∷ source.without_monitor ss n) (source.without_monitor ss n) ≡ s ∷ ss
-    by_test true e rest = absurd (cc)
-    by_test false e rest = ap (λ l. s ∷ l) (rest e)
-
 -- what the source's state is after an effect that changes monitors alone
 pub record Does (effect : CallEffect) (shared : source.Shared) (t : source.Thread) (ms' : List Monitor) : Type 0 where
   pub monitors : List source.Monitor
   pub is : effect ≡ monitors_effect shared t monitors
   pub agree : MonitorsAgree ms' monitors
 
-module _ (k : ℕ) (shared : source.Shared) (t : source.Thread) (ms ms' : List Monitor) (h : MonitorsAgree ms shared.monitors) where
+-- a call of thread k whose answer changes a monitor
+module _ (classes : Classes) (in_use : BuffersInUse) (k : ℕ) (shared : source.Shared) (t : source.Thread) (args : List Actual) (ms ms' : List Monitor) (h : MonitorsAgree ms shared.monitors) where
+  -- the effect of an answer
+  abbrev of : Answer → CallEffect
+  of a = effect_of classes in_use k shared t args a
+
   -- ---- entering
 
-  enters_at : (object : Object) (o : Option Monitor) (p : Option source.Monitor) → source.monitor_of shared.monitors object.name ≡ p → ((s : source.Monitor) → p ≡ Some s → s.object ≡ object.name) → MonitorAgrees o p → Entered ≡ entering k o
-      → ChangesAt ms ms' object.name (Some (entered object k o)) → Does (enter_effect k shared t object.name p) shared t ms'
-  enters_at object None None is named agrees enters changes = record {
-    monitors = monitor object.name k 1 ∷ shared.monitors;
+  enters_at : (object : Object) (o : Option Monitor) (p : Option source.Monitor) → ((s : source.Monitor) → p ≡ Some s → s.object ≡ object.name) → MonitorAgrees o p → Entered ≡ entering k o
+      → ChangesAt ms ms' object.name (Some (entered object k o)) → Does (of (monitor_entered object.name p)) shared t ms'
+  unfolding effect_of
+  enters_at object None None named agrees enters changes = record {
+    monitors = monitor object.name k 1 ∷ source.without_monitor shared.monitors object.name;
     is = refl;
-    agree = subst (λ l. MonitorsAgree ms' (monitor object.name k 1 ∷ l)) (none_without shared.monitors object.name is)
-        (put_first ms ms' shared.monitors object.name (entered object k None) (monitor object.name k 1) h changes refl (refl, refl, refl));
+    agree = put_first ms ms' shared.monitors object.name (entered object k None) (monitor object.name k 1) h changes refl (refl, refl, refl);
   }
-  enters_at object None (Some s) is named agrees enters changes = absurd agrees
-  enters_at object (Some m) None is named agrees enters changes = absurd agrees
-  enters_at object (Some m) (Some s) is named agrees enters changes = by_tests (eqb m.owner k) refl (nat_lt m.count 255) refl enters
+  enters_at object None (Some s) named agrees enters changes = absurd agrees
+  enters_at object (Some m) None named agrees enters changes = absurd agrees
+  enters_at object (Some m) (Some s) named agrees enters changes = by_tests (eqb m.owner k) refl (nat_lt m.count 255) refl enters
     where
-      by_tests : (a : Bool) → eqb m.owner k ≡ a → (b : Bool) → nat_lt m.count 255 ≡ b → Entered ≡ cond a (cond b Entered Limit) Busy → Does (cond (nat_lt s.count 255) (monitors_effect shared t (monitor object.name k (s.count + 1) ∷ source.without_monitor shared.monitors object.name)) (Leaves [] shared t (ScalarResult (Int (negsuc 0))))) shared t ms'
+      by_tests : (a : Bool) → eqb m.owner k ≡ a → (b : Bool) → nat_lt m.count 255 ≡ b → Entered ≡ cond a (cond b Entered Limit) Busy → Does (of (cond (nat_lt s.count 255) (Owns object.name (s.count + 1)) (Gives (ScalarResult (Int (negsuc 0)))))) shared t ms'
       by_tests false own b more e = absurd (cc)
       by_tests true own false more e = absurd (cc)
       by_tests true own true more e =
@@ -152,29 +152,30 @@ module _ (k : ℕ) (shared : source.Shared) (t : source.Thread) (ms ms' : List M
           let owner : m.owner ≡ k = by_equal m.owner k (λ same e. e) (λ other apart. let clash : true ≡ false = sym own ∙ other in absurd (cc)) in
           record {
             monitors = monitor object.name k (s.count + 1) ∷ source.without_monitor shared.monitors object.name;
-            is = ap (λ c. cond c (monitors_effect shared t (monitor object.name k (s.count + 1) ∷ source.without_monitor shared.monitors object.name)) (Leaves [] shared t (ScalarResult (Int (negsuc 0))))) below;
+            is = ap (λ c. of (cond c (Owns object.name (s.count + 1)) (Gives (ScalarResult (Int (negsuc 0)))))) below;
             agree = put_first ms ms' shared.monitors object.name (record m { count = m.count + 1 }) (monitor object.name k (s.count + 1)) h changes refl (agrees.0 ∙ named s refl, owner, ap (λ c. c + 1) agrees.2);
           }
 
   -- ---- leaving
 
   leaves_at : (n : ℕ) (o : Option Monitor) (p : Option source.Monitor) → ((s : source.Monitor) → p ≡ Some s → s.object ≡ n) → MonitorAgrees o p → Left ≡ leaving k o
-      → ChangesAt ms ms' n (left o) → Does (exit_effect k shared t n p) shared t ms'
+      → ChangesAt ms ms' n (left o) → Does (of (monitor_left k n p)) shared t ms'
+  unfolding effect_of
   leaves_at n None None named agrees leaves changes = absurd (cc)
   leaves_at n None (Some s) named agrees leaves changes = absurd agrees
   leaves_at n (Some m) None named agrees leaves changes = absurd agrees
   leaves_at n (Some m) (Some s) named agrees leaves changes = by_tests (eqb m.owner k) refl (eqb m.count 1) refl leaves changes
     where
       by_tests : (a : Bool) → eqb m.owner k ≡ a → (b : Bool) → eqb m.count 1 ≡ b → Left ≡ cond a Left NotOwner → ChangesAt ms ms' n (cond b None (Some (record m { count = m.count - 1 })))
-          → Does (cond (eqb s.owner k) (monitors_effect shared t (cond (eqb s.count 1) (source.without_monitor shared.monitors n) (monitor n k (s.count - 1) ∷ source.without_monitor shared.monitors n))) (Throws illegal_monitor_state)) shared t ms'
+          → Does (of (cond (eqb s.owner k) (cond (eqb s.count 1) (Disowns n) (Owns n (s.count - 1))) (Raises illegal_monitor_state))) shared t ms'
       by_tests false own b one e changes = absurd (cc)
       by_tests true own true one e changes =
           let owns : eqb s.owner k ≡ true = ap (λ c. eqb c k) (sym agrees.1) ∙ own in
           let last : eqb s.count 1 ≡ true = ap (λ c. eqb c 1) (sym agrees.2) ∙ one in
           record {
             monitors = source.without_monitor shared.monitors n;
-            is = ap (λ c. cond c (monitors_effect shared t (cond (eqb s.count 1) (source.without_monitor shared.monitors n) (monitor n k (s.count - 1) ∷ source.without_monitor shared.monitors n))) (Throws illegal_monitor_state)) owns
-                ∙ ap (λ c. monitors_effect shared t (cond c (source.without_monitor shared.monitors n) (monitor n k (s.count - 1) ∷ source.without_monitor shared.monitors n))) last;
+            is = ap (λ c. of (cond c (cond (eqb s.count 1) (Disowns n) (Owns n (s.count - 1))) (Raises illegal_monitor_state))) owns
+                ∙ ap (λ c. of (cond c (Disowns n) (Owns n (s.count - 1)))) last;
             agree = goes ms ms' shared.monitors n h changes;
           }
       by_tests true own false more e changes =
@@ -183,8 +184,8 @@ module _ (k : ℕ) (shared : source.Shared) (t : source.Thread) (ms ms' : List M
           let owner : m.owner ≡ k = by_equal m.owner k (λ same e. e) (λ other apart. let clash : true ≡ false = sym own ∙ other in absurd (cc)) in
           record {
             monitors = monitor n k (s.count - 1) ∷ source.without_monitor shared.monitors n;
-            is = ap (λ c. cond c (monitors_effect shared t (cond (eqb s.count 1) (source.without_monitor shared.monitors n) (monitor n k (s.count - 1) ∷ source.without_monitor shared.monitors n))) (Throws illegal_monitor_state)) owns
-                ∙ ap (λ c. monitors_effect shared t (cond c (source.without_monitor shared.monitors n) (monitor n k (s.count - 1) ∷ source.without_monitor shared.monitors n))) further;
+            is = ap (λ c. of (cond c (cond (eqb s.count 1) (Disowns n) (Owns n (s.count - 1))) (Raises illegal_monitor_state))) owns
+                ∙ ap (λ c. of (cond c (Disowns n) (Owns n (s.count - 1)))) further;
             agree = put_first ms ms' shared.monitors n (record m { count = m.count - 1 }) (monitor n k (s.count - 1)) h changes refl (agrees.0 ∙ named s refl, owner, ap (λ c. c - 1) agrees.2);
           }
 
@@ -196,25 +197,31 @@ source_named (x ∷ ss) n s is =
     (λ same e. let found : Some x ≡ Some s = sym (own_first x ss n e) ∙ is in let it : x ≡ s = cc in ap (λ (y : source.Monitor). y.object) (sym it) ∙ e)
     (λ other ne. source_named ss n s (sym (other_first x ss n ne) ∙ is))
 
-module _ (k : ℕ) (shared : source.Shared) (t : source.Thread) (ms : List Monitor) (h : MonitorsAgree ms shared.monitors) where
+module _ (classes : Classes) (in_use : BuffersInUse) (k : ℕ) (shared : source.Shared) (t : source.Thread) (args : List Actual) (ms : List Monitor) (h : MonitorsAgree ms shared.monitors) where
   -- what `enter` ensures, where it answers `Entered`
   pub enters : (ms' : List Monitor) (object : Object) → Entered ≡ entering k (monitor_of ms object.name) → ChangesAt ms ms' object.name (Some (entered object k (monitor_of ms object.name)))
-      → Does (enter_effect k shared t object.name (source.monitor_of shared.monitors object.name)) shared t ms'
-  enters ms' object answer changes = enters_at k shared t ms ms' h object (monitor_of ms object.name) (source.monitor_of shared.monitors object.name) refl (source_named shared.monitors object.name) (h.at object.name) answer changes
+      → Does (effect_of classes in_use k shared t args (monitor_entered object.name (source.monitor_of shared.monitors object.name))) shared t ms'
+  enters ms' object answer changes = enters_at classes in_use k shared t args ms ms' h object (monitor_of ms object.name) (source.monitor_of shared.monitors object.name) (source_named shared.monitors object.name) (h.at object.name) answer changes
 
-  -- where it answers `Limit`
-  pub limited : (n : ℕ) → Limit ≡ entering k (monitor_of ms n) → enter_effect k shared t n (source.monitor_of shared.monitors n) ≡ Leaves [] shared t (ScalarResult (Int (negsuc 0)))
+  -- what `exit` ensures, where it answers `Left`
+  pub leaves : (ms' : List Monitor) (n : ℕ) → Left ≡ leaving k (monitor_of ms n) → ChangesAt ms ms' n (left (monitor_of ms n))
+      → Does (effect_of classes in_use k shared t args (monitor_left k n (source.monitor_of shared.monitors n))) shared t ms'
+  leaves ms' n answer changes = leaves_at classes in_use k shared t args ms ms' h n (monitor_of ms n) (source.monitor_of shared.monitors n) (source_named shared.monitors n) (h.at n) answer changes
+
+module _ (k : ℕ) (shared : source.Shared) (ms : List Monitor) (h : MonitorsAgree ms shared.monitors) where
+  -- where `enter` answers `Limit`
+  pub limited : (n : ℕ) → Limit ≡ entering k (monitor_of ms n) → monitor_entered n (source.monitor_of shared.monitors n) ≡ Gives (ScalarResult (Int (negsuc 0)))
   limited n answer = by_monitor (monitor_of ms n) (source.monitor_of shared.monitors n) (h.at n) answer
     where
-      by_monitor : (o : Option Monitor) (p : Option source.Monitor) → MonitorAgrees o p → Limit ≡ entering k o → enter_effect k shared t n p ≡ Leaves [] shared t (ScalarResult (Int (negsuc 0)))
+      by_monitor : (o : Option Monitor) (p : Option source.Monitor) → MonitorAgrees o p → Limit ≡ entering k o → monitor_entered n p ≡ Gives (ScalarResult (Int (negsuc 0)))
       by_monitor None p agrees answer = absurd (cc)
       by_monitor (Some m) None agrees answer = absurd agrees
       by_monitor (Some m) (Some s) agrees answer = by_tests (eqb m.owner k) (nat_lt m.count 255) refl answer
         where
-          by_tests : (a b : Bool) → nat_lt m.count 255 ≡ b → Limit ≡ cond a (cond b Entered Limit) Busy → cond (nat_lt s.count 255) (monitors_effect shared t (monitor n k (s.count + 1) ∷ source.without_monitor shared.monitors n)) (Leaves [] shared t (ScalarResult (Int (negsuc 0)))) ≡ Leaves [] shared t (ScalarResult (Int (negsuc 0)))
+          by_tests : (a b : Bool) → nat_lt m.count 255 ≡ b → Limit ≡ cond a (cond b Entered Limit) Busy → cond (nat_lt s.count 255) (Owns n (s.count + 1)) (Gives (ScalarResult (Int (negsuc 0)))) ≡ Gives (ScalarResult (Int (negsuc 0)))
           by_tests false b most e = absurd (cc)
           by_tests true true most e = absurd (cc)
-          by_tests true false most e = ap (λ c. cond c (monitors_effect shared t (monitor n k (s.count + 1) ∷ source.without_monitor shared.monitors n)) (Leaves [] shared t (ScalarResult (Int (negsuc 0))))) (ap (λ c. nat_lt c 255) (sym agrees.2) ∙ most)
+          by_tests true false most e = ap (λ c. cond c (Owns n (s.count + 1)) (Gives (ScalarResult (Int (negsuc 0))))) (ap (λ c. nat_lt c 255) (sym agrees.2) ∙ most)
 
   -- where it answers `Busy`: another thread owns the object
   pub busy : (n : ℕ) → Busy ≡ entering k (monitor_of ms n) → (s : source.Monitor) × (source.monitor_of shared.monitors n ≡ Some s) × (s.owner ≢ k)
@@ -230,23 +237,19 @@ module _ (k : ℕ) (shared : source.Shared) (t : source.Thread) (ms : List Monit
           by_tests true true own e = cc
           by_tests true false own e = cc
 
-  -- what `exit` ensures, where it answers `Left`
-  pub leaves : (ms' : List Monitor) (n : ℕ) → Left ≡ leaving k (monitor_of ms n) → ChangesAt ms ms' n (left (monitor_of ms n)) → Does (exit_effect k shared t n (source.monitor_of shared.monitors n)) shared t ms'
-  leaves ms' n answer changes = leaves_at k shared t ms ms' h n (monitor_of ms n) (source.monitor_of shared.monitors n) (source_named shared.monitors n) (h.at n) answer changes
-
-  -- where it answers `NotOwner`
-  pub refuses : (n : ℕ) → NotOwner ≡ leaving k (monitor_of ms n) → exit_effect k shared t n (source.monitor_of shared.monitors n) ≡ Throws illegal_monitor_state
+  -- where `exit` answers `NotOwner`
+  pub refuses : (n : ℕ) → NotOwner ≡ leaving k (monitor_of ms n) → monitor_left k n (source.monitor_of shared.monitors n) ≡ Raises illegal_monitor_state
   refuses n answer = by_monitor (monitor_of ms n) (source.monitor_of shared.monitors n) (h.at n) answer
     where
-      by_monitor : (o : Option Monitor) (p : Option source.Monitor) → MonitorAgrees o p → NotOwner ≡ leaving k o → exit_effect k shared t n p ≡ Throws illegal_monitor_state
+      by_monitor : (o : Option Monitor) (p : Option source.Monitor) → MonitorAgrees o p → NotOwner ≡ leaving k o → monitor_left k n p ≡ Raises illegal_monitor_state
       by_monitor None None agrees answer = refl
       by_monitor None (Some s) agrees answer = absurd agrees
       by_monitor (Some m) None agrees answer = absurd agrees
       by_monitor (Some m) (Some s) agrees answer = by_test (eqb m.owner k) refl answer
         where
-          by_test : (a : Bool) → eqb m.owner k ≡ a → NotOwner ≡ cond a Left NotOwner → exit_effect k shared t n (Some s) ≡ Throws illegal_monitor_state
+          by_test : (a : Bool) → eqb m.owner k ≡ a → NotOwner ≡ cond a Left NotOwner → monitor_left k n (Some s) ≡ Raises illegal_monitor_state
           by_test true own e = absurd (cc)
-          by_test false own e = ap (λ c. cond c (monitors_effect shared t (cond (eqb s.count 1) (source.without_monitor shared.monitors n) (monitor n k (s.count - 1) ∷ source.without_monitor shared.monitors n))) (Throws illegal_monitor_state)) (ap (λ c. eqb c k) (sym agrees.1) ∙ own)
+          by_test false own e = ap (λ c. cond c (cond (eqb s.count 1) (Disowns n) (Owns n (s.count - 1))) (Raises illegal_monitor_state)) (ap (λ c. eqb c k) (sym agrees.1) ∙ own)
 
   -- what `drop_thread` ensures
   pub drops : (ms' : List Monitor) → ((n : ℕ) → monitor_of ms' n ≡ kept_from k (monitor_of ms n)) → MonitorsAgree ms' (source.without_owner shared.monitors k)

@@ -9,4 +9,3 @@ pub mod FieldIds
 pub mod Scenes
 pub mod Given
 pub mod NewObjects
-pub mod SourceEffects

@@ -7,7 +7,9 @@ use Rattle.jni.specs.Table.{function_value}
 use Rattle.syntax.specs.Views.{unit_tree}
 use Rattle.semantics.specs.CallEffects.{CallEffect, Halts}
 use Rattle.semantics.specs.CallStep.{effect_of_call, trap_of_call}
-use Rattle.semantics.specs.AnswerTable.{call_effect}
+use Rattle.semantics.specs.Answer.{Answer as SourceAnswer}
+use Rattle.semantics.specs.AnswerTable.{call_answer}
+use Rattle.semantics.specs.CallSight.{sight_of_call}
 use Rattle.semantics.specs.Effect.{Effect, effect_of}
 use Rattle.semantics.specs.Task.{Task}
 use Rattle.semantics.specs.Thread.{BuffersInUse, Shared, Thread, sight_of}
@@ -22,7 +24,7 @@ use Rattle.semantics.specs.declared.trap.Trap.{Trap}
 use Rattle.semantics.specs.EventViews.{trap_view}
 use Rattle.machine_scenes.specs.declared.store.Store.{Store}
 use Rattle.machine_scenes.specs.declared.activation.Activation.{Activation}
-use Rattle.machine_answers.specs.Answers.{Brought, IsAnswer, is_carried}
+use Rattle.machine_answers.specs.Answers.{Brought, IsAnswer, effect_told, is_carried}
 use Rattle.machine_answers.proofs.TrapsSeen.{with_depth}
 use Rattle.machine_answers.specs.Asked.{brought_by, scene_of}
 use Rattle.machine_calls.specs.CarriedOut.{IsPossible}
@@ -90,18 +92,22 @@ module _ (p : Lowered) (w : World) (store : Store) (pending : Option ℕ) (call 
       sym (trap_is p w store pending call function others k owner own shared s task rest h)
       ∙ (λ i. with_depth (no_method i && nat_le 64 (length s.callers + 1)) (given.free i))
 
-  -- the effect of the source's call
+  -- what the source's call answers
+  abbrev pub told : SourceAnswer
+  told = call_answer (unit_tree p.unit) w.classes k (sight_of_call shared s it.f it.args) it.f
+
+  -- what that does
   abbrev pub does : CallEffect
-  does = call_effect (unit_tree p.unit) w.classes in_use k shared s it.args it.f
+  does = effect_told w.classes brings shared s told
 
   -- the kind of its result
   module _ (kind : ResultKind) (same : kind ≡ (prototype (function_value function.function)).result) where
     pub kind_is : kind ≡ (prototype it.f).result
     kind_is = same ∙ ap (λ (f : JniFunction). (prototype f).result) it.asked.same_function
 
-    pub answered : IsAnswer w.classes brings store.heap call.locals shared s answer kind does
+    pub answered : IsAnswer w.classes brings store.heap call.locals shared s answer kind told
     answered =
-        subst (λ (x : ResultKind). IsAnswer w.classes brings store.heap call.locals shared s answer x does) (sym kind_is)
+        subst (λ (x : ResultKind). IsAnswer w.classes brings store.heap call.locals shared s answer x told) (sym kind_is)
         (answers p w store pending call (call_view function) others k owner shared s it.target given.sound it.args it.f it.asked free answer worked
         (owned_key p w store pending call function others k owner own shared s task rest h) (held p w store pending call function others k owner own shared s task rest h))
 

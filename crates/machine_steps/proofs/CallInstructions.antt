@@ -13,7 +13,7 @@ use Rattle.syntax.specs.Views.{unit_tree}
 use Rattle.semantics.specs.Arguments.{Actual, address_given}
 use Rattle.semantics.specs.CallEffects.{CallEffect, CallResult}
 use Rattle.semantics.specs.CallStep.{call_step, tell_copy, trap_of_call}
-use Rattle.semantics.specs.AnswerTable.{call_effect}
+use Rattle.semantics.specs.Answer.{Answer as SourceAnswer}
 use Rattle.semantics.specs.Checks.{frames_after as source_frames_after}
 use Rattle.semantics.specs.Effect.{Calls, Effect, NoEffect, effect_of}
 use Rattle.semantics.specs.Object.{sizes}
@@ -48,8 +48,8 @@ use Rattle.machine_scenes.specs.declared.buffer.Buffer.{Buffer as HeldBuffer}
 use Rattle.machine_scenes.specs.declared.buffer.Buffer.TheVariants as held
 use Rattle.machine_scenes.specs.Statics.{StaticReference}
 use Rattle.machine_scenes.specs.declared.store.Store.{Store}
-use Rattle.machine_answers.specs.Answers.{IsAnswer, is_carried}
-use Rattle.machine_answers.specs.Asked.{brought_by, scene_of}
+use Rattle.machine_answers.specs.Answers.{Brought, IsAnswer, effect_told, is_carried}
+use Rattle.machine_answers.specs.Asked.{scene_of}
 use Rattle.machine_scenes.specs.Buffers.{Acquired, AreViewed, BuffersAgree, acquired_by, beside, gives_up}
 use Rattle.machine_calls.specs.CarriedOut.{CarriesOut, CopiesStay, GoesByRoom, IsNewCopy, IsShortOf, buffers_after, frames_left, made_by, pending_after, result_after, shared_after, slots_after, variables_left}
 use Rattle.machine_answers.specs.WorkedOut.{IsWorkedOut}
@@ -71,7 +71,7 @@ use Rattle.machine_steps.proofs.EffectFrames.{left_is}
 use Rattle.machine_steps.proofs.Effects.{call_cases}
 use Rattle.machine_steps.proofs.GivenBuffers.{gives_buffer, small_given, told_free, told_kind, told_nothing, told_number}
 use Rattle.machine_steps.proofs.Invocations.{finishes, going}
-use Rattle.machine_steps.proofs.OwnersLeft.{LeavesOwners, leaves_owners, left_own as owners_left}
+use Rattle.machine_steps.proofs.OwnersLeft.{LeavesOwners, brings as brought_in, leaves_owners, left_own as owners_left, of_source as answer_of}
 use Rattle.machine_steps.proofs.SlotBuffers.{buffers_count, elements_fit}
 use Rattle.machine_steps.proofs.ViewCounts.{views_same, views_stay}
 
@@ -153,15 +153,26 @@ module _ (p : Lowered) (w : World) (store : Store) (pending : Option ℕ) (call 
   no_target destination.Test kind target x nothing goes is = let clash : GivesNothing ≡ GivesInt = sym nothing ∙ goes.0 in cc
   no_target destination.Dropped kind target x nothing goes is = let clash : false ≡ true = sym (ap (λ (t : Target). is_target t x) goes.0) ∙ is in cc
 
-  module _ (answer : Answer) (works : IsWorkedOut (scene_of (unit_tree p.unit) w.classes store call k pending) function called.f answer) where
+  abbrev in_use : BuffersInUse
+  in_use = in_use_with others s
+
+  -- what the source's call answers, and what the call brings
+  abbrev of_source : SourceAnswer
+  of_source = answer_of p w store pending call in_memory others k owner own shared s task rest h
+
+  abbrev brings : Brought
+  brings = brought_in p w store pending call in_memory others k owner own shared s task rest h
+
+  module _ (answer : Answer) (works : IsWorkedOut (scene_of (unit_tree p.unit) w.classes store call k pending) function called.f answer)
+      (does : IsAnswer w.classes brings store.heap call.locals shared s answer kind of_source) where
     abbrev left_own : Owners
-    left_own = owners_left p w store pending call in_memory others k owner own shared s task rest h answer works
+    left_own = owners_left p w store pending call in_memory others k owner own shared s task rest h answer works does
 
     abbrev owners : LeavesOwners p w store pending call in_memory others k owner own shared s task rest h called.f answer
-    owners = leaves_owners p w store pending call in_memory others k owner own shared s task rest h answer works
+    owners = leaves_owners p w store pending call in_memory others k owner own shared s task rest h answer works does
 
     abbrev Shown : CallResult → Variables → List ℕ → List HeldBuffer → Type 0
-    Shown c vs numbers slots = ShowsLeft p w store pending call in_memory others k owner own shared s task rest h answer works c vs numbers slots
+    Shown c vs numbers slots = ShowsLeft p w store pending call in_memory others k owner own shared s task rest h answer works does c vs numbers slots
 
     -- ---- the call with fewer owners, and with these slots, stands for the thread with these variables
     module _ (sound : IsSound w) (c : CallResult) (vs : Variables) (numbers : Vec ℕ) (slots : Vec HeldBuffer) (left : Shown c vs numbers.items slots.items) (count : length slots.items ≡ length call.slots.buffers.items) where
@@ -311,21 +322,16 @@ module _ (p : Lowered) (w : World) (store : Store) (pending : Option ℕ) (call 
 
     -- ---- what carrying out the answer leaves
 
-    abbrev in_use : BuffersInUse
-    in_use = in_use_with others s
-
+    -- what the source's call does
     abbrev effect : CallEffect
-    effect = call_effect (unit_tree p.unit) w.classes in_use k shared s called.args called.f
-
-    abbrev Does : Type 0
-    Does = IsAnswer w.classes (brought_by (unit_tree p.unit) store call k owner in_use function called.args) store.heap call.locals shared s answer kind effect
+    effect = effect_told w.classes brings shared s of_source
 
     -- a function that gives a buffer leaves the variables as they were
-    untold_same : (refused : Bool) → is_carried answer ≡ true → Does → IsBufferResult kind → variables_left refused s effect ≡ s.variables
-    untold_same true runs does b = refl
-    untold_same false runs does b = by_answer (kept_or_copied runs does)
+    untold_same : (refused : Bool) → is_carried answer ≡ true → IsBufferResult kind → variables_left refused s effect ≡ s.variables
+    untold_same true runs b = refl
+    untold_same false runs b = by_answer (kept_or_copied w.classes brings store.heap call.locals shared s runs does)
       where
-        by_answer : AreKept w.classes (brought_by (unit_tree p.unit) store call k owner in_use function called.args) store.heap call.locals kind shared s answer effect ⊎ (Copied w.classes (brought_by (unit_tree p.unit) store call k owner in_use function called.args) store.heap call.locals kind shared s answer effect ⊎ Released w.classes (brought_by (unit_tree p.unit) store call k owner in_use function called.args) store.heap call.locals kind shared s answer effect)
+        by_answer : AreKept w.classes brings store.heap call.locals kind shared s answer of_source ⊎ (Copied w.classes brings store.heap call.locals kind shared s answer of_source ⊎ Released w.classes brings store.heap call.locals kind shared s answer of_source)
             → variables_left false s effect ≡ s.variables
         by_answer (inl it) = it.0
         by_answer (inr (inl it)) = absurd (let clash : GivesNothing ≡ GivesBuffer b.0 = sym it.nothing ∙ b.1 in cc)
@@ -337,7 +343,7 @@ module _ (p : Lowered) (w : World) (store : Store) (pending : Option ℕ) (call 
     stepped false t next h = h
     stepped true t next h = h
 
-    module _ (sound : IsSound w) (runs : is_carried answer ≡ true) (free : trap_of_call w.classes shared s called.target called.f called.args ≡ None) (does : Does) (refused : Bool) (store' : Store) (pending' : Option ℕ) (locals : LocalTable) (g : Given) (carried : CarriesOut p w store.heap call.locals answer kind others owner shared s effect refused store' pending' locals g)
+    module _ (sound : IsSound w) (runs : is_carried answer ≡ true) (free : trap_of_call w.classes shared s called.target called.f called.args ≡ None) (refused : Bool) (store' : Store) (pending' : Option ℕ) (locals : LocalTable) (g : Given) (carried : CarriesOut p w store.heap call.locals answer kind others owner shared s effect refused store' pending' locals g)
         (stacked : AreStacked locals) (copies : CopiesStay answer store.elements store'.elements) (new_copy : IsNewCopy store.elements g) (numbers : Vec ℕ) (slots : Vec HeldBuffer) (numbers_are : numbers.items ≡ slots_after store.heap answer call.slots.numbers.items) (slots_are : slots.items ≡ buffers_after answer call.slots.buffers.items) where
       abbrev gave : CallResult
       gave = result_after kind refused effect
@@ -362,7 +368,7 @@ module _ (p : Lowered) (w : World) (store : Store) (pending : Option ℕ) (call 
           let numbers_left : told_numbers.items ≡ told_with told g (slots_after store.heap answer call.slots.numbers.items) = with_told_is told g numbers ∙ ap (told_with told g) numbers_are in
           subst (λ (l : List ℕ). Shown gave told_variables l slots.items) (sym numbers_left)
           (subst (Shown gave told_variables (told_with told g (slots_after store.heap answer call.slots.numbers.items))) (sym slots_are)
-          (shows_left p w store pending call in_memory others k owner own shared s task rest h answer works refused store' g runs does carried.could_refuse carried.given_agrees))
+          (shows_left p w store pending call in_memory others k owner own shared s task rest h answer works does refused store' g runs carried.could_refuse carried.given_agrees))
 
       -- what the variable that is told of a buffer was
       told_taken : taken_by told_variables ≡ taken_by untold
@@ -370,14 +376,14 @@ module _ (p : Lowered) (w : World) (store : Store) (pending : Option ℕ) (call 
           told_nothing told_variable gave untold
           (λ b x is at.
           let buffer = gives_buffer (unit_tree p.unit) w.classes store' owner kind g gave b carried.given_agrees is in
-          subst (λ (us : Variables). HoldsNoBuffer (lookup x us)) (sym (untold_same refused runs does buffer)) (told_holds buffer x at))
+          subst (λ (us : Variables). HoldsNoBuffer (lookup x us)) (sym (untold_same refused runs buffer)) (told_holds buffer x at))
 
       -- each view that is left in a slot is a variable's
       told_viewed : AreViewed store'.heap slots.items (record s { variables = told_variables })
       told_viewed =
           views_stay store.heap store'.heap store.elements owner slots.items left_shown.buffers (record s { variables = told_variables }) (record s { variables = told_variables }) carried.keeps.names left_shown.agree.agree refl
           (views_same store.heap (buffers_after answer call.slots.buffers.items) slots.items (record s { variables = untold }) (record s { variables = told_variables }) slots_are told_taken
-          (views_left p w store pending call in_memory others k owner own shared s task rest h answer works refused runs does carried.could_refuse))
+          (views_left p w store pending call in_memory others k owner own shared s task rest h answer works does refused runs carried.could_refuse))
 
       -- what was carried out and received is what the source's call leaves
       pub goes_on : (after : Activation) (statics : Vec StaticReference) → Receives function.target kind told g (record call { locals = locals; slots = record call.slots { numbers = numbers; buffers = slots } }) after
@@ -401,7 +407,7 @@ module _ (p : Lowered) (w : World) (store : Store) (pending : Option ℕ) (call 
           (left_free sound gave told_variables told_numbers slots left_shown count) refl (goes_left sound gave told_variables told_numbers slots left_shown count)
           (told_before function.target kind told g (record call { locals = locals; slots = record call.slots { numbers = numbers; buffers = slots } }) after received) put in
           let steps = step_leaves (unit_tree p.unit) w.classes in_use k shared s called.line called.target called.f called.args rest refused effect (effect_is p w store pending call in_memory others k owner own shared s task rest h free)
-          (stays_with runs does) carried.could_refuse in
+          (stays_with w.classes brings shared s runs does) carried.could_refuse in
           subst (λ (e : Effect). GoesOn p w store (record store' { statics = statics }) others k owner own shared s rest after pending' e refused event.Quiet) (sym called.is) (record {
             next_shared = ends.now;
             next = going called.line called.f called.args ends.tasks s left q gave ends.variables;

@@ -1,23 +1,23 @@
 -- What an effect of a call leaves of its thread.
-use Rattle.std.proofs.Common.{◌≡◌, ℕ, Bool, true, false, List, [], ◌∷◌, Option, refl, ap, ◌∙◌, append-nil}
+use Rattle.std.proofs.Common.{◌≡◌, ℕ, Bool, true, false, List, [], ◌∷◌, refl, ap, ◌∙◌, append-nil}
 use Rattle.std.specs.Prelude.{nat_le}
 use Rattle.std.proofs.lemmas.Bool.{cond_both}
-use Rattle.base.specs.Bytes.{Identifier}
 use Rattle.class_rules.specs.Class.{Classes}
 use Rattle.heap.specs.Heap.{Space}
 use Rattle.jni.specs.JniFunction.{JniFunction, prototype}
 use Rattle.jni.specs.Prototype.{ResultKind}
 use Rattle.syntax.specs.Tree.{SourceUnit}
+use Rattle.semantics.specs.Answer.{Answer as SourceAnswer, effect_of}
+use Rattle.semantics.specs.AnswerTable.{released}
 use Rattle.semantics.specs.Arguments.{Actual}
 use Rattle.semantics.specs.CallEffects.{CallEffect, Enters, Halts, Leaves, Throws, frames_effect, refuses_frames, with_capacity}
-use Rattle.machine_scenes.specs.SourceEffects.{enter_effect, exit_effect, release_effect}
 use Rattle.semantics.specs.CallStep.{after_call, after_refusal, call_step, effect_of_call, makes_objects, put}
 use Rattle.semantics.specs.Heap.{Heap}
 use Rattle.semantics.specs.Task.{Target, Task}
 use Rattle.semantics.specs.Thread as source
 use Rattle.semantics.specs.Thread.{BuffersInUse, Shared}
 use Rattle.machine_answers.specs.declared.answer.Answer.{Answer}
-use Rattle.machine_answers.specs.Answers.{Brought, IsAnswer, is_carried}
+use Rattle.machine_answers.specs.Answers.{Brought, IsAnswer, effect_told, is_carried}
 use Rattle.machine_answers.specs.Answers as row
 use Rattle.machine_calls.specs.CarriedOut.{frames_left, pending_after, result_after, shared_after, variables_left}
 use Rattle.tables.specs.Locals.{LocalTable}
@@ -57,25 +57,26 @@ module _ (unit : SourceUnit) (classes : Classes) (in_use : BuffersInUse) (k : �
 stays_framed : (classes : Classes) (shared : Shared) (s : source.Thread) (frames : List source.Frame) → StaysBut s (frames_effect classes shared s frames)
 stays_framed classes shared s frames = cond_both (nat_le (source.capacities frames) 1024) _ (refuses_frames classes shared s) (StaysBut s) (λ e. refl) (λ e. refl)
 
-stays_released : (shared : Shared) (s : source.Thread) (n : ℕ) (x : Identifier) (mode : ReleaseMode) → StaysBut s (release_effect shared s n x mode)
-stays_released shared s n x CopyBackAndFree = refl
-stays_released shared s n x CopyBack = refl
-stays_released shared s n x FreeUncopied = refl
+module _ (classes : Classes) (brought : Brought) (shared : Shared) (s : source.Thread) where
+  -- so does the effect of an answer
+  abbrev Stays : SourceAnswer → Type 0
+  Stays a = StaysBut s (effect_told classes brought shared s a)
 
-stays_entered : (k : ℕ) (shared : Shared) (s : source.Thread) (n : ℕ) (o : Option source.Monitor) → StaysBut s (enter_effect k shared s n o)
-stays_entered k shared s n o = enter_cases k shared s n (StaysBut s) (λ monitors. refl) refl o
+  stays_released : (n : ℕ) (mode : ReleaseMode) → Stays (released n mode)
+  unfolding effect_of
+  stays_released n CopyBackAndFree = refl
+  stays_released n CopyBack = refl
+  stays_released n FreeUncopied = refl
 
-stays_exited : (k : ℕ) (shared : Shared) (s : source.Thread) (n : ℕ) (o : Option source.Monitor) → StaysBut s (exit_effect k shared s n o)
-stays_exited k shared s n o = exit_cases k shared s n (StaysBut s) (λ monitors. refl) tt o
-
-pub stays_with : {classes : Classes} {brought : Brought} {space : Space} {locals : LocalTable} {shared : Shared} {s : source.Thread} {answer : Answer} {kind : ResultKind} {effect : CallEffect} → is_carried answer ≡ true
-    → IsAnswer classes brought space locals shared s answer kind effect → StaysBut s effect
-stays_with {classes = classes} {shared = shared} {s = s} runs (row.ensures {more = more}) = stays_framed classes shared s (with_capacity more s.frames)
-stays_with {classes = classes} {shared = shared} {s = s} runs (row.pushes {capacity = capacity}) = stays_framed classes shared s (record { capacity = capacity; references = [] } ∷ s.frames)
-stays_with {brought = brought} {shared = shared} {s = s} runs (row.enters {o = o} it) = stays_entered brought.thread shared s o.name (source.monitor_of shared.monitors o.name)
-stays_with {brought = brought} {shared = shared} {s = s} runs (row.exits {n = n} it) = stays_exited brought.thread shared s n (source.monitor_of shared.monitors n)
-stays_with {shared = shared} {s = s} runs (row.releases it) = stays_released shared s it.name it.variable it.mode
-stays_with runs (row.throws makeable) = tt
-stays_with runs (row.calls function arguments) = absurd (let clash : false ≡ true = runs in cc)
-stays_with runs row.halts = absurd (let clash : false ≡ true = runs in cc)
-stays_with runs does = refl
+  pub stays_with : {space : Space} {locals : LocalTable} {answer : Answer} {kind : ResultKind} {of_source : SourceAnswer} → is_carried answer ≡ true
+      → IsAnswer classes brought space locals shared s answer kind of_source → Stays of_source
+  unfolding effect_of
+  stays_with runs (row.ensures {more = more}) = stays_framed classes shared s (with_capacity more s.frames)
+  stays_with runs (row.pushes {capacity = capacity}) = stays_framed classes shared s (record { capacity = capacity; references = [] } ∷ s.frames)
+  stays_with runs (row.enters {o = o} it) = enter_cases classes brought shared s o.name (StaysBut s) (λ monitors. refl) refl (source.monitor_of shared.monitors o.name)
+  stays_with runs (row.exits {n = n} it) = exit_cases classes brought shared s n (StaysBut s) (λ monitors. refl) tt (source.monitor_of shared.monitors n)
+  stays_with runs (row.releases it) = stays_released it.name it.mode
+  stays_with runs (row.throws makeable) = tt
+  stays_with runs (row.calls method) = absurd (let clash : false ≡ true = runs in cc)
+  stays_with runs row.halts = absurd (let clash : false ≡ true = runs in cc)
+  stays_with runs does = refl

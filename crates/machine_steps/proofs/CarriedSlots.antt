@@ -1,6 +1,6 @@
 -- What the slots show once an answer is carried out, and `isCopy` is told.
 use Rattle.syntax.specs.Tree.{SourceUnit}
-use Rattle.std.proofs.Common.{◌≡◌, ◌≢◌, ◌⊎◌, inl, inr, take, drop, ℕ, ◌≤◌, Bool, true, false, List, [], ◌∷◌, length, Option, Some, None, refl, sym, ap, ◌∙◌, subst, arith, ⊎_elim}
+use Rattle.std.proofs.Common.{◌≡◌, ◌≢◌, ◌⊎◌, inl, inr, take, drop, ℕ, ℤ, ◌≤◌, Bool, true, false, List, [], ◌∷◌, length, Option, Some, None, refl, sym, ap, ◌∙◌, subst, arith, ⊎_elim}
 use Rattle.std.specs.Prelude.{slice_get, slice_set, if◌then◌else◌}
 use Rattle.std.specs.List.{AllByRecursion, AllZip}
 use Rattle.std.proofs.lemmas.List.{length-map, length-take}
@@ -9,17 +9,17 @@ use Rattle.base.specs.Bytes.{Identifier, lookup}
 use Rattle.base.specs.Element.{ElementType}
 use Rattle.class_rules.specs.Class.{Classes}
 use Rattle.heap.specs.Heap.{Space, values_at}
-use Rattle.jni.specs.Access.{Access, ElementsCopy, ArrayView, CharsCopy, CharsView}
-use Rattle.jni.specs.JniFunction.{JniFunction, parameters_for, DeleteLocalRef, PopLocalFrame, GetBuffer, ReleaseBuffer, prototype}
-use Rattle.jni.specs.Prototype.{ParameterKind, BufferVariable, IsCopy, Mode, ResultKind, GivesNothing, owner as owner_kind}
+use Rattle.jni.specs.Access.{Access}
+use Rattle.jni.specs.JniFunction.{JniFunction, parameters_for, GetBuffer, prototype}
+use Rattle.jni.specs.Prototype.{ParameterKind, IsCopy, ResultKind, GivesNothing, owner as owner_kind}
 use Rattle.syntax.specs.Views.{unit_tree}
-use Rattle.semantics.specs.Arguments.{Actual, ReleaseMode, CopyBackAndFree, CopyBack, FreeUncopied, mode_given, object_given, variable_given, variable_in_actual, address_given, address_in_actual}
+use Rattle.semantics.specs.Arguments.{Actual, ReleaseMode, CopyBackAndFree, CopyBack, FreeUncopied, variable_given, variable_in_actual, address_given, address_in_actual}
 use Rattle.semantics.specs.CallEffects.{CallEffect, CallResult, NoResult, NullResult, ScalarResult, ReferenceResult, WeakResult, FieldResult, MethodResult, BufferResult, begun_with, freed}
-use Rattle.machine_scenes.specs.SourceEffects.{release_effect}
 use Rattle.semantics.specs.CallStep.{makes_objects, tell_copy}
 use Rattle.semantics.specs.Answer as source_answer
-use Rattle.semantics.specs.AnswerTable.{call_answer, call_effect}
-use Rattle.machine_scenes.proofs.SourceEffects.{releases as source_releases}
+use Rattle.semantics.specs.Answer.{Answer as SourceAnswer}
+use Rattle.semantics.specs.AnswerTable.{released}
+use Rattle.semantics.specs.Heap.{numbers_of}
 use Rattle.semantics.specs.Effect.{effect_of}
 use Rattle.semantics.specs.Task.{Task}
 use Rattle.semantics.specs.Thread as source
@@ -35,7 +35,6 @@ use Rattle.code.specs.Effect.{truth_word}
 use Rattle.code.specs.declared.instr.Call.{Call as InMemory}
 use Rattle.code.specs.declared.instr.Operand.{Operand}
 use Rattle.code.specs.declared.instr.Operand.TheVariants as operand
-use Rattle.jni.specs.declared.mode.ReleaseMode.{ReleaseMode as ModeOfCode}
 use Rattle.type_rules.specs.ExprTypes as ty
 use Rattle.type_rules.specs.ExprTypes.{Buffer}
 use Rattle.code_meaning.specs.Coding.{mode_code}
@@ -56,18 +55,15 @@ use Rattle.machine_scenes.specs.declared.buffer.Buffer.{Buffer as HeldBuffer}
 use Rattle.machine_scenes.specs.declared.buffer.Buffer.TheVariants as held
 use Rattle.machine_scenes.specs.declared.buffer.Release.{Release}
 use Rattle.machine_scenes.specs.declared.store.Store.{Store}
-use Rattle.machine_answers.specs.Answers.{IsAnswer, is_carried}
-use Rattle.machine_calls.proofs.AnswerCases.{as_answer, released}
-use Rattle.machine_answers.specs.Asked.{brought_by, buffers_of, references_of, scene_of}
+use Rattle.machine_answers.specs.Answers.{Brought, IsAnswer, IsReleased, effect_told, is_carried}
+use Rattle.machine_calls.proofs.AnswerCases.{as_answer, released as releases_so}
+use Rattle.machine_answers.specs.Asked.{scene_of}
 use Rattle.machine_scenes.specs.Buffers.{Acquired, AreViewed, BuffersAgree, gives_up}
 use Rattle.machine_calls.specs.CarriedOut.{LeavesCopy, ResultAgrees, buffers_after, result_after, slots_after, variables_left}
 use Rattle.machine_answers.specs.Copies.{overlaid, word_of as word_in, words_of}
 use Rattle.machine_scenes.specs.Given.{operand_of}
-use Rattle.machine_scenes.specs.Scenes.{Scene}
-use Rattle.machine_answers.specs.WorkedOut.{IsWorkedOut, buffer_there, deletes, mode_of, region, releases, slot_of}
-use Rattle.machine_answers.proofs.BufferOperands.{given_buffer, given_mode}
+use Rattle.machine_answers.specs.WorkedOut.{IsWorkedOut}
 use Rattle.machine_scenes.proofs.KeyLaws.{set_cases}
-use Rattle.machine_steps.specs.Executes.{in_use_with}
 use Rattle.machine_steps.specs.Invoked.{AtCall}
 use Rattle.machine_steps.specs.Received.{told_slot, told_with}
 use Rattle.machine_threads.specs.SlotsHold.{IsSmallCopy, slots_of}
@@ -76,8 +72,7 @@ use Rattle.machine_steps.proofs.AskedCalls.{CalledAs, called as called_at, r as 
 use Rattle.machine_steps.proofs.Calls.{Ready}
 use Rattle.machine_steps.proofs.Changes.{buffer_by_kind, change_is, is_buffer_set, is_set}
 use Rattle.machine_steps.proofs.CopiedArrays.{AreKept, Copied, Released, array_known, copied_taken, kept_or_copied, meant_after, shows_copied}
-use Rattle.machine_steps.proofs.KeysLeft.{others_are_quiet}
-use Rattle.machine_steps.proofs.OwnersLeft.{leaves_owners, left_own}
+use Rattle.machine_steps.proofs.OwnersLeft.{brings as brought_in, leaves_owners, left_own, of_source as answer_of}
 use Rattle.machine_steps.proofs.Receives.{IsNoBuffer, no_buffer, nothing_told, plain_static}
 use Rattle.machine_steps.proofs.SlotBuffers.{all_put, buffers_nulled}
 use Rattle.machine_steps.proofs.ViewCounts.{views_freed, views_same}
@@ -262,27 +257,6 @@ module _ (space : Space) (copies : List (Option OwnedNumbers)) (k : ℕ) (slots 
       by_place (inr (other, found)) is = other (h.apart i r.slot key found (there r refl ∙ ap (λ (b : HeldBuffer). Some b) is))
   lists_left a h there i key at = tt
 
--- ---- what releases a buffer
-
-module _ (scene : Scene) (function : Call) (release : Release) where
-  no_deletion : (o : Option ℕ) → answers.Releases release ≡ deletes o → ⊥
-  no_deletion None is = cc
-  no_deletion (Some key) is = cc
-
-  -- a function that gives nothing and releases a buffer
-  releases_by : (f : JniFunction) → (prototype f).result ≡ GivesNothing → IsWorkedOut scene function f (answers.Releases release) → (access : Access) × (f ≡ ReleaseBuffer access)
-  releases_by (ReleaseBuffer access) nothing is = (access, refl)
-  releases_by DeleteLocalRef nothing is = absurd (no_deletion _ is)
-  releases_by PopLocalFrame nothing is = absurd (cc)
-  releases_by f nothing is = absurd (let clash : false ≡ true = others_are_quiet scene function f (answers.Releases release) refl is in cc)
-
-  release_is : (slots : List HeldBuffer) (object : Option ℕ) (o : Operand) (mode : ModeOfCode) → answers.Releases release ≡ releases slots object o mode → (release.slot ≡ slot_of o) × (release.held ≡ buffer_there slots (slot_of o)) × (release.mode ≡ mode)
-  release_is slots None o mode e = absurd (cc)
-  release_is slots (Some a) o mode e =
-      let made : Release = record { object = a; slot = slot_of o; held = buffer_there slots (slot_of o); mode = mode } in
-      let same : release ≡ made = cc in
-      (ap (λ (x : Release). x.slot) same, ap (λ (x : Release). x.held) same, ap (λ (x : Release). x.mode) same)
-
 -- ---- the call
 
 module _ (p : Lowered) (w : World) (store : Store) (pending : Option ℕ) (call : Activation) (in_memory : InMemory) (others : Acquired) (k owner : ℕ) (own : Owners) (shared : Shared) (s : source.Thread) (task : Task) (rest : List Task) (h : AtCall p w store pending call in_memory others k owner own shared s task rest) where
@@ -295,20 +269,32 @@ module _ (p : Lowered) (w : World) (store : Store) (pending : Option ℕ) (call 
   abbrev called : CalledAs p w store pending call h.code function others k owner own shared s task rest r (effect_of (sight_of shared s) task)
   called = called_at p w store pending call in_memory others k owner own shared s task rest h
 
-  -- what the source's call does
+  -- what the source's call answers, and what the call brings
+  abbrev of_source : SourceAnswer
+  of_source = answer_of p w store pending call in_memory others k owner own shared s task rest h
+
+  abbrev brings : Brought
+  brings = brought_in p w store pending call in_memory others k owner own shared s task rest h
+
+  -- what that does
   abbrev effect : CallEffect
-  effect = call_effect (unit_tree p.unit) w.classes (in_use_with others s) k shared s called.args called.f
+  effect = effect_told w.classes brings shared s of_source
+
+  -- the variables that an answer leaves
+  abbrev variables_told : SourceAnswer → Variables
+  variables_told a = variables_left false s (effect_told w.classes brings shared s a)
 
   abbrev kind : ResultKind
   kind = (prototype called.f).result
 
-  module _ (answer : Answer) (works : IsWorkedOut (scene_of (unit_tree p.unit) w.classes store call k pending) function called.f answer) where
+  module _ (answer : Answer) (works : IsWorkedOut (scene_of (unit_tree p.unit) w.classes store call k pending) function called.f answer)
+      (does : IsAnswer w.classes brings store.heap call.locals shared s answer kind of_source) where
     abbrev own_left : Owners
-    own_left = left_own p w store pending call in_memory others k owner own shared s task rest h answer works
+    own_left = left_own p w store pending call in_memory others k owner own shared s task rest h answer works does
 
     -- the slots with these numbers and these buffers, for which the others stand as they did
     abbrev pub left_slots : List ℕ → List source_variable.Buffer → Slots
-    left_slots numbers buffers = record { numbers = numbers; references = r.meant.references; owners = (leaves_owners p w store pending call in_memory others k owner own shared s task rest h answer works).owners; fields = r.meant.fields; buffers = buffers }
+    left_slots numbers buffers = record { numbers = numbers; references = r.meant.references; owners = (leaves_owners p w store pending call in_memory others k owner own shared s task rest h answer works does).owners; fields = r.meant.fields; buffers = buffers }
 
     -- What slots show of the thread with these variables, once the answer is carried out, its result is this, and `isCopy` is told: number
     -- slots and buffers as they lie there, with what the buffers stand for. Lists are those of before.
@@ -324,54 +310,12 @@ module _ (p : Lowered) (w : World) (store : Store) (pending : Option ℕ) (call 
     -- ---- a release
 
     -- the call releases a buffer
-    record Frees (release : Release) : Type 0 where
-      type : ElementType
-      writable : Bool
-      there : lookup (variable_given called.args 1) r.known ≡ Some (record { ty = Buffer type writable; index = release.slot })
-      mode : ReleaseMode
-      coded : release.mode ≡ mode_code mode
-      object : ℕ
-      does : effect ≡ release_effect shared s object (variable_given called.args 1) mode
+    abbrev Frees : Release → Type 0
+    Frees release = IsReleased brings store.heap shared s release
 
-    abbrev Fits : List ParameterKind → Type 0
-    Fits l = AllZip OperandFits l function.operands
-
-    abbrev Effect : JniFunction → CallEffect
-    Effect f = call_effect (unit_tree p.unit) w.classes (in_use_with others s) k shared s called.args f
-
-    frees_by : (release : Release) (access : Access) (more : List ParameterKind) → called.f ≡ ReleaseBuffer access → Fits (owner_kind access ∷ BufferVariable access ∷ more) → IsWorkedOut (scene_of (unit_tree p.unit) w.classes store call k pending) function (ReleaseBuffer access) (answers.Releases release)
-        → (mode : ReleaseMode) → mode_of access (operand_of function.operands 2) ≡ mode_code mode → Effect (ReleaseBuffer access) ≡ release_effect shared s (object_given called.args 0) (variable_given called.args 1) mode → Frees release
-    frees_by release access more same kinds is mode coded does =
-        let b = given_buffer store.heap (buffers_of store call owner) s.variables access (owner_kind access) more function.operands called.args kinds called.asked.buffers in
-        let it = release_is (scene_of (unit_tree p.unit) w.classes store call k pending) function release call.slots.buffers.items _ (operand_of function.operands 1) (mode_of access (operand_of function.operands 2)) is in
-        let slot : release.slot ≡ b.slot = it.0 ∙ ap slot_of b.at in
-        let named = buffer_known h.code r.known call.place call.stack (slots_of call r.meant) (visible_to own shared s) function.operands called.args called.operands b.slot b.at in
-        record {
-          type = named.0;
-          writable = named.1;
-          there = subst (λ (i : ℕ). lookup (variable_given called.args 1) r.known ≡ Some (record { ty = Buffer named.0 named.1; index = i })) (sym slot) named.2;
-          mode = mode;
-          coded = it.2 ∙ coded;
-          object = object_given called.args 0;
-          does = ap Effect same ∙ does;
-        }
-
-    frees_as : (release : Release) (access : Access) → called.f ≡ ReleaseBuffer access → Fits (parameters_for (ReleaseBuffer access) (length called.args)) → IsWorkedOut (scene_of (unit_tree p.unit) w.classes store call k pending) function (ReleaseBuffer access) (answers.Releases release) → Frees release
-    unfolding call_answer source_answer.effect_of
-    frees_as release (ElementsCopy T) same kinds is =
-        frees_by release (ElementsCopy T) (Mode ∷ []) same kinds is (mode_given called.args 2)
-        (given_mode (unit_tree p.unit) w.classes store.heap (references_of store call) call.slots.fields.items T (owner_kind (ElementsCopy T)) (BufferVariable (ElementsCopy T)) function.operands called.args kinds called.asked.given)
-        (sym (source_releases w.classes (in_use_with others s) k shared s called.args (object_given called.args 0) (mode_given called.args 2)))
-    frees_as release ArrayView same kinds is = frees_by release ArrayView (Mode ∷ []) same kinds is FreeUncopied refl refl
-    frees_as release CharsCopy same kinds is = frees_by release CharsCopy [] same kinds is FreeUncopied refl refl
-    frees_as release CharsView same kinds is = frees_by release CharsView [] same kinds is FreeUncopied refl refl
-
-    frees : (release : Release) → answer ≡ answers.Releases release → kind ≡ GivesNothing → Frees release
-    frees release is nothing =
-        let released = subst (IsWorkedOut (scene_of (unit_tree p.unit) w.classes store call k pending) function called.f) is works in
-        let by = releases_by (scene_of (unit_tree p.unit) w.classes store call k pending) function release called.f nothing released in
-        frees_as release by.0 by.1 (subst (λ (f : JniFunction). Fits (parameters_for f (length called.args))) by.1 called.asked.kinds)
-        (subst (λ (f : JniFunction). IsWorkedOut (scene_of (unit_tree p.unit) w.classes store call k pending) function f (answers.Releases release)) by.1 released)
+    -- it is that of the variable of argument 1
+    released_known : (release : Release) → Frees release → (type : ElementType) × (writable : Bool) × (lookup (variable_given called.args 1) r.known ≡ Some (record { ty = Buffer type writable; index = release.slot }))
+    released_known release f = buffer_known h.code r.known call.place call.stack (slots_of call r.meant) (visible_to own shared s) function.operands called.args called.operands release.slot f.given
 
     -- ---- what carrying out the answer leaves
 
@@ -379,7 +323,7 @@ module _ (p : Lowered) (w : World) (store : Store) (pending : Option ℕ) (call 
     Shown vs numbers buffers = Shows h.code r.known (visible_to own_left shared (record s { variables = vs })) (left_slots numbers buffers)
 
     as_before : Shown s.variables call.slots.numbers.items r.meant.buffers
-    as_before = (leaves_owners p w store pending call in_memory others k owner own shared s task rest h answer works).shows
+    as_before = (leaves_owners p w store pending call in_memory others k owner own shared s task rest h answer works does).shows
 
     same_shown : (vs : Variables) (numbers : List ℕ) (buffers : List source_variable.Buffer) → vs ≡ s.variables → numbers ≡ call.slots.numbers.items → buffers ≡ r.meant.buffers → Shown vs numbers buffers
     same_shown vs numbers buffers same_variables same_numbers same_buffers =
@@ -390,50 +334,61 @@ module _ (p : Lowered) (w : World) (store : Store) (pending : Option ℕ) (call 
     abbrev ShownFreed : Release → Variables → Bool → Type 0
     ShownFreed release vs b = Shown vs call.slots.numbers.items (if b then slice_set r.meant.buffers release.slot NoBuffer else r.meant.buffers)
 
-    release_shown : (release : Release) → Frees release → Shown (variables_left false s effect) call.slots.numbers.items (if gives_up release.mode then slice_set r.meant.buffers release.slot NoBuffer else r.meant.buffers)
-    release_shown release f = by_mode f.mode f.coded f.does
+    release_shown : (release : Release) → (f : Frees release) → of_source ≡ released f.name f.mode → Shown (variables_left false s effect) call.slots.numbers.items (if gives_up release.mode then slice_set r.meant.buffers release.slot NoBuffer else r.meant.buffers)
+    unfolding source_answer.effect_of
+    release_shown release f told = subst (λ (a : SourceAnswer). ShownFreed release (variables_told a) (gives_up release.mode)) (sym told) (by_mode f.mode f.coded)
       where
-        with_these : (vs : Variables) (b : Bool) → variables_left false s effect ≡ vs → gives_up release.mode ≡ b → ShownFreed release vs b → ShownFreed release (variables_left false s effect) (gives_up release.mode)
-        with_these vs b variables up here = subst (λ (us : Variables). ShownFreed release us (gives_up release.mode)) (sym variables) (subst (ShownFreed release vs) (sym up) here)
-
         freed_here : ShownFreed release (change (variable_given called.args 1) freed s.variables) true
-        freed_here = freed_shown h.code r.known own_left shared s (left_slots call.slots.numbers.items r.meant.buffers) as_before called.own_slots (variable_given called.args 1) f.type f.writable release.slot f.there
+        freed_here =
+            let it = released_known release f in
+            freed_shown h.code r.known own_left shared s (left_slots call.slots.numbers.items r.meant.buffers) as_before called.own_slots (variable_given called.args 1) it.0 it.1 release.slot it.2
 
-        by_mode : (mode : ReleaseMode) → release.mode ≡ mode_code mode → effect ≡ release_effect shared s f.object (variable_given called.args 1) mode → ShownFreed release (variables_left false s effect) (gives_up release.mode)
-        by_mode CopyBack coded does = with_these s.variables false (ap (variables_left false s) does) (ap gives_up coded) as_before
-        by_mode CopyBackAndFree coded does = with_these _ true (ap (variables_left false s) does) (ap gives_up coded) freed_here
-        by_mode FreeUncopied coded does = with_these _ true (ap (variables_left false s) does) (ap gives_up coded) freed_here
-
-    abbrev Does : Type 0
-    Does = IsAnswer w.classes (brought_by (unit_tree p.unit) store call k owner (in_use_with others s) function called.args) store.heap call.locals shared s answer kind effect
+        by_mode : (mode : ReleaseMode) → release.mode ≡ mode_code mode → ShownFreed release (variables_told (released f.name mode)) (gives_up release.mode)
+        by_mode CopyBack coded = subst (ShownFreed release s.variables) (sym (ap gives_up coded)) as_before
+        by_mode CopyBackAndFree coded = subst (ShownFreed release (change (variable_given called.args 1) freed s.variables)) (sym (ap gives_up coded)) freed_here
+        by_mode FreeUncopied coded = subst (ShownFreed release (change (variable_given called.args 1) freed s.variables)) (sym (ap gives_up coded)) freed_here
 
     abbrev WasCopied : Type 0
-    WasCopied = Copied w.classes (brought_by (unit_tree p.unit) store call k owner (in_use_with others s) function called.args) store.heap call.locals kind shared s answer effect
+    WasCopied = Copied w.classes brings store.heap call.locals kind shared s answer of_source
 
     abbrev WasReleased : Type 0
-    WasReleased = Released w.classes (brought_by (unit_tree p.unit) store call k owner (in_use_with others s) function called.args) store.heap call.locals kind shared s answer effect
+    WasReleased = Released w.classes brings store.heap call.locals kind shared s answer of_source
 
     abbrev WasKept : Type 0
-    WasKept = AreKept w.classes (brought_by (unit_tree p.unit) store call k owner (in_use_with others s) function called.args) store.heap call.locals kind shared s answer effect
+    WasKept = AreKept w.classes brings store.heap call.locals kind shared s answer of_source
+
+    -- the variable of the array, the numbers that it begins with, and the variables with it
+    abbrev array_variable : Identifier
+    array_variable = variable_given called.args 3
+
+    abbrev copied_numbers : WasCopied → List ℤ
+    copied_numbers it = take it.region.count (drop it.region.start (numbers_of shared.heap it.copied.name))
+
+    abbrev copied_variables : WasCopied → Variables
+    copied_variables it = change array_variable (begun_with (copied_numbers it)) s.variables
+
+    copied_left : (it : WasCopied) → variables_left false s effect ≡ copied_variables it
+    unfolding source_answer.effect_of
+    copied_left it = ap variables_told it.told
+
+    few_copied : (it : WasCopied) → length (words_of store.heap it.region) ≤ it.copied.array.len
+    few_copied it = omega (arith, it.copied.few, length-map (take it.region.count (drop it.region.start (values_at store.heap it.region.object))) word_in, length-take it.region.count (drop it.region.start (values_at store.heap it.region.object)))
 
     copied_shown : WasCopied → Shown (variables_left false s effect) (slots_after store.heap answer call.slots.numbers.items) (meant_after answer r.meant.buffers)
     copied_shown it =
         let c = it.copied in
-        let named = array_known h.code r.known call.place call.stack (slots_of call r.meant) (visible_to own shared s) function.operands called.args c.name c.array called.operands c.given in
-        let few : length (words_of store.heap it.region) ≤ c.array.len =
-        omega (arith, c.few, length-map (take it.region.count (drop it.region.start (values_at store.heap it.region.object))) word_in, length-take it.region.count (drop it.region.start (values_at store.heap it.region.object))) in
-        let variables : variables_left false s effect ≡ change c.name (begun_with c.numbers) s.variables = ap (variables_left false s) it.left in
+        let named = array_known h.code r.known call.place call.stack (slots_of call r.meant) (visible_to own shared s) function.operands called.args c.array called.operands c.given in
         let numbers : slots_after store.heap answer call.slots.numbers.items ≡ overlaid call.slots.numbers.items c.array.start (words_of store.heap it.region) =
         ap (λ (a : Answer). slots_after store.heap a call.slots.numbers.items) it.is ∙ ap (λ (i : ℕ). overlaid call.slots.numbers.items i (words_of store.heap it.region)) c.slot in
         let buffers : meant_after answer r.meant.buffers ≡ r.meant.buffers = ap (λ (a : Answer). meant_after a r.meant.buffers) it.is in
-        subst (λ (us : Variables). Shown us (slots_after store.heap answer call.slots.numbers.items) (meant_after answer r.meant.buffers)) (sym variables)
-        (subst (λ (l : List ℕ). Shown (change c.name (begun_with c.numbers) s.variables) l (meant_after answer r.meant.buffers)) (sym numbers)
-        (subst (Shown (change c.name (begun_with c.numbers) s.variables) (overlaid call.slots.numbers.items c.array.start (words_of store.heap it.region))) (sym buffers)
-        (shows_copied h.code r.known own_left shared s (left_slots call.slots.numbers.items r.meant.buffers) as_before c.name named.0 c.array named.1 (words_of store.heap it.region) c.numbers c.words few called.own_slots)))
+        subst (λ (us : Variables). Shown us (slots_after store.heap answer call.slots.numbers.items) (meant_after answer r.meant.buffers)) (sym (copied_left it))
+        (subst (λ (l : List ℕ). Shown (copied_variables it) l (meant_after answer r.meant.buffers)) (sym numbers)
+        (subst (Shown (copied_variables it) (overlaid call.slots.numbers.items c.array.start (words_of store.heap it.region))) (sym buffers)
+        (shows_copied h.code r.known own_left shared s (left_slots call.slots.numbers.items r.meant.buffers) as_before array_variable named.0 c.array named.1 (words_of store.heap it.region) (copied_numbers it) c.words (few_copied it) called.own_slots)))
 
     released_shown : WasReleased → Shown (variables_left false s effect) (slots_after store.heap answer call.slots.numbers.items) (meant_after answer r.meant.buffers)
     released_shown it =
-        subst (λ (a : Answer). Shown (variables_left false s effect) (slots_after store.heap a call.slots.numbers.items) (meant_after a r.meant.buffers)) (sym it.is) (release_shown it.release (frees it.release it.is it.nothing))
+        subst (λ (a : Answer). Shown (variables_left false s effect) (slots_after store.heap a call.slots.numbers.items) (meant_after a r.meant.buffers)) (sym it.is) (release_shown it.release it.released it.told)
 
     -- ---- what the slots view
 
@@ -443,40 +398,40 @@ module _ (p : Lowered) (w : World) (store : Store) (pending : Option ℕ) (call 
     same_viewed : (vs : Variables) (slots : List HeldBuffer) → taken_by vs ≡ taken_by s.variables → slots ≡ call.slots.buffers.items → Viewed vs slots
     same_viewed vs slots same_variables same_slots = views_same store.heap call.slots.buffers.items slots s (record s { variables = vs }) same_slots same_variables h.views
 
-    freed_viewed : (release : Release) (f : Frees release) (vs : Variables) → vs ≡ change (variable_given called.args 1) freed s.variables → Viewed vs (slice_set call.slots.buffers.items release.slot held.Null)
+    freed_viewed : (release : Release) → Frees release → (vs : Variables) → vs ≡ change (variable_given called.args 1) freed s.variables → Viewed vs (slice_set call.slots.buffers.items release.slot held.Null)
     freed_viewed release f vs is =
         let x = variable_given called.args 1 in
-        let shown = r.shows.each x (record { ty = Buffer f.type f.writable; index = release.slot }) f.there in
-        let variable = buffer_by_kind (lookup x s.variables) f.type shown.kind in
+        let it = released_known release f in
+        let shown = r.shows.each x (record { ty = Buffer it.0 it.1; index = release.slot }) it.2 in
+        let variable = buffer_by_kind (lookup x s.variables) it.0 shown.kind in
         let same : variable.0 ≡ shown.buffer = sym (ap held_buffer variable.1) ∙ shown.is in
-        views_freed store.heap store.elements owner call.slots.buffers.items r.meant.buffers release.slot x f.type shown.buffer s (record s { variables = vs }) r.holds.buffers.agree shown.there
-        (variable.1 ∙ ap (λ (b : source_variable.Buffer). Some (Elements f.type b)) same) is h.views
+        views_freed store.heap store.elements owner call.slots.buffers.items r.meant.buffers release.slot x it.0 shown.buffer s (record s { variables = vs }) r.holds.buffers.agree shown.there
+        (variable.1 ∙ ap (λ (b : source_variable.Buffer). Some (Elements it.0 b)) same) is h.views
 
-    abbrev ViewedIf : Release → Bool → Type 0
-    ViewedIf release b = Viewed (variables_left false s effect) (if b then slice_set call.slots.buffers.items release.slot held.Null else call.slots.buffers.items)
+    abbrev ViewedIf : Release → Variables → Bool → Type 0
+    ViewedIf release vs b = Viewed vs (if b then slice_set call.slots.buffers.items release.slot held.Null else call.slots.buffers.items)
 
-    release_viewed : (release : Release) → Frees release → Viewed (variables_left false s effect) (buffers_after (answers.Releases release) call.slots.buffers.items)
-    release_viewed release f = by_mode f.mode f.coded f.does
+    release_viewed : (release : Release) → (f : Frees release) → of_source ≡ released f.name f.mode → Viewed (variables_left false s effect) (buffers_after (answers.Releases release) call.slots.buffers.items)
+    unfolding source_answer.effect_of
+    release_viewed release f told = subst (λ (a : SourceAnswer). ViewedIf release (variables_told a) (gives_up release.mode)) (sym told) (by_mode f.mode f.coded)
       where
-        by_mode : (mode : ReleaseMode) → release.mode ≡ mode_code mode → effect ≡ release_effect shared s f.object (variable_given called.args 1) mode → ViewedIf release (gives_up release.mode)
-        by_mode CopyBack coded does = subst (ViewedIf release) (sym (ap gives_up coded)) (same_viewed (variables_left false s effect) call.slots.buffers.items (ap (λ (e : CallEffect). taken_by (variables_left false s e)) does) refl)
-        by_mode CopyBackAndFree coded does = subst (ViewedIf release) (sym (ap gives_up coded)) (freed_viewed release f (variables_left false s effect) (ap (variables_left false s) does))
-        by_mode FreeUncopied coded does = subst (ViewedIf release) (sym (ap gives_up coded)) (freed_viewed release f (variables_left false s effect) (ap (variables_left false s) does))
+        by_mode : (mode : ReleaseMode) → release.mode ≡ mode_code mode → ViewedIf release (variables_told (released f.name mode)) (gives_up release.mode)
+        by_mode CopyBack coded = subst (ViewedIf release s.variables) (sym (ap gives_up coded)) (same_viewed s.variables call.slots.buffers.items refl refl)
+        by_mode CopyBackAndFree coded = subst (ViewedIf release (change (variable_given called.args 1) freed s.variables)) (sym (ap gives_up coded)) (freed_viewed release f _ refl)
+        by_mode FreeUncopied coded = subst (ViewedIf release (change (variable_given called.args 1) freed s.variables)) (sym (ap gives_up coded)) (freed_viewed release f _ refl)
 
     copied_viewed : WasCopied → Viewed (variables_left false s effect) (buffers_after answer call.slots.buffers.items)
     copied_viewed it =
         let c = it.copied in
-        let named = array_known h.code r.known call.place call.stack (slots_of call r.meant) (visible_to own shared s) function.operands called.args c.name c.array called.operands c.given in
-        let few : length (words_of store.heap it.region) ≤ c.array.len =
-        omega (arith, c.few, length-map (take it.region.count (drop it.region.start (values_at store.heap it.region.object))) word_in, length-take it.region.count (drop it.region.start (values_at store.heap it.region.object))) in
+        let named = array_known h.code r.known call.place call.stack (slots_of call r.meant) (visible_to own shared s) function.operands called.args c.array called.operands c.given in
         same_viewed (variables_left false s effect) (buffers_after answer call.slots.buffers.items)
-        (ap (λ (e : CallEffect). taken_by (variables_left false s e)) it.left
-        ∙ copied_taken h.code r.known own_left shared s (left_slots call.slots.numbers.items r.meant.buffers) as_before c.name named.0 c.array named.1 (words_of store.heap it.region) c.numbers c.words few)
+        (ap taken_by (copied_left it)
+        ∙ copied_taken h.code r.known own_left shared s (left_slots call.slots.numbers.items r.meant.buffers) as_before array_variable named.0 c.array named.1 (words_of store.heap it.region) (copied_numbers it) c.words (few_copied it))
         (ap (λ (a : Answer). buffers_after a call.slots.buffers.items) it.is)
 
     released_viewed : WasReleased → Viewed (variables_left false s effect) (buffers_after answer call.slots.buffers.items)
     released_viewed it =
-        subst (λ (a : Answer). Viewed (variables_left false s effect) (buffers_after a call.slots.buffers.items)) (sym it.is) (release_viewed it.release (frees it.release it.is it.nothing))
+        subst (λ (a : Answer). Viewed (variables_left false s effect) (buffers_after a call.slots.buffers.items)) (sym it.is) (release_viewed it.release it.released it.told)
 
     -- what it leaves before `isCopy` is told
     record Carried (vs : Variables) : Type 0 where
@@ -484,22 +439,34 @@ module _ (p : Lowered) (w : World) (store : Store) (pending : Option ℕ) (call 
       shows : Shown vs (slots_after store.heap answer call.slots.numbers.items) (meant_after answer r.meant.buffers)
       kept : (vs ≡ s.variables) ⊎ (kind ≡ GivesNothing)
 
-    nothing_made : (object : ℕ) (x : Identifier) (mode : ReleaseMode) → effect ≡ release_effect shared s object x mode → makes_objects effect ≡ true → ⊥
-    nothing_made object x CopyBack is made = let e : false ≡ true = sym (ap makes_objects is) ∙ made in cc
-    nothing_made object x CopyBackAndFree is made = let e : false ≡ true = sym (ap makes_objects is) ∙ made in cc
-    nothing_made object x FreeUncopied is made = let e : false ≡ true = sym (ap makes_objects is) ∙ made in cc
+    -- what copies numbers or releases a buffer makes nothing
+    abbrev MakesNone : SourceAnswer → Type 0
+    MakesNone a = makes_objects (effect_told w.classes brings shared s a) ≡ false
+
+    none_copied : (it : WasCopied) → MakesNone of_source
+    unfolding source_answer.effect_of
+    none_copied it = subst MakesNone (sym it.told) refl
+
+    none_released : (it : WasReleased) → MakesNone of_source
+    unfolding source_answer.effect_of
+    none_released it = subst MakesNone (sym it.told) (by_mode it.released.mode)
+      where
+        by_mode : (mode : ReleaseMode) → MakesNone (released it.released.name mode)
+        by_mode CopyBack = refl
+        by_mode CopyBackAndFree = refl
+        by_mode FreeUncopied = refl
 
     carried : (refused : Bool) → (refused ≡ true → makes_objects effect ≡ true) → WasKept ⊎ (WasCopied ⊎ WasReleased) → Carried (variables_left refused s effect)
     carried false could (inl kept) = record { views = same_viewed (variables_left false s effect) (buffers_after answer call.slots.buffers.items) (ap taken_by kept.0) (kept.2 call.slots.buffers.items); shows = same_shown _ _ _ kept.0 (kept.1 call.slots.numbers.items) (kept.3 r.meant.buffers); kept = inl kept.0 }
     carried true could (inl kept) = record { views = same_viewed s.variables (buffers_after answer call.slots.buffers.items) refl (kept.2 call.slots.buffers.items); shows = same_shown _ _ _ refl (kept.1 call.slots.numbers.items) (kept.3 r.meant.buffers); kept = inl refl }
     carried false could (inr (inl it)) = record { views = copied_viewed it; shows = copied_shown it; kept = inr it.nothing }
-    carried true could (inr (inl it)) = absurd (let e : false ≡ true = sym (ap makes_objects it.left) ∙ could refl in cc)
+    carried true could (inr (inl it)) = absurd (let e : false ≡ true = sym (none_copied it) ∙ could refl in cc)
     carried false could (inr (inr it)) = record { views = released_viewed it; shows = released_shown it; kept = inr it.nothing }
-    carried true could (inr (inr it)) = absurd (nothing_made it.released.name it.released.variable it.released.mode it.left (could refl))
+    carried true could (inr (inr it)) = absurd (let e : false ≡ true = sym (none_released it) ∙ could refl in cc)
 
     -- each view in slots is one of a variable's
-    pub views_left : (refused : Bool) → is_carried answer ≡ true → Does → (refused ≡ true → makes_objects effect ≡ true) → AreViewed store.heap (buffers_after answer call.slots.buffers.items) (record s { variables = variables_left refused s effect })
-    views_left refused runs does could = (carried refused could (kept_or_copied runs does)).views
+    pub views_left : (refused : Bool) → is_carried answer ≡ true → (refused ≡ true → makes_objects effect ≡ true) → AreViewed store.heap (buffers_after answer call.slots.buffers.items) (record s { variables = variables_left refused s effect })
+    views_left refused runs could = (carried refused could (kept_or_copied w.classes brings store.heap call.locals shared s runs does)).views
 
     -- ---- and once it is told
 
@@ -533,18 +500,17 @@ module _ (p : Lowered) (w : World) (store : Store) (pending : Option ℕ) (call 
               subst (λ (us : Variables). Shown us (told_with (told_slot (slice_get function.operands 1)) g numbers) buffers) (sym (ap (λ (x : Option Identifier). tell_copy x c vs) n.1 ∙ t.unnamed vs))
               (subst (λ (l : List ℕ). Shown vs l buffers) (sym (ap (λ (o : Option ℕ). told_with o g numbers) n.0 ∙ t.none numbers)) shows)
 
-    released_there : Does → (release : Release) → answer ≡ answers.Releases release → slice_get call.slots.buffers.items release.slot ≡ Some release.held
-    released_there does release is =
-        let d = released (as_answer is does) in
+    released_there : (release : Release) → answer ≡ answers.Releases release → slice_get call.slots.buffers.items release.slot ≡ Some release.held
+    released_there release is =
+        let d = releases_so (as_answer is does) in
         d.holds.there ∙ ap (λ (b : HeldBuffer). Some b) (sym d.held)
 
     pub shows_left : (refused : Bool) (after : Store) (g : Given) → is_carried answer ≡ true
-        → Does
         → (refused ≡ true → makes_objects effect ≡ true) → ResultAgrees (unit_tree p.unit) w.classes after owner g kind (result_after kind refused effect)
         → ShowsLeft (result_after kind refused effect) (tell_copy (address_given called.args 1) (result_after kind refused effect) (variables_left refused s effect))
         (told_with (told_slot (slice_get function.operands 1)) g (slots_after store.heap answer call.slots.numbers.items)) (buffers_after answer call.slots.buffers.items)
-    shows_left refused after g runs does could agrees =
-        by_told (carried refused could (kept_or_copied runs does))
+    shows_left refused after g runs could agrees =
+        by_told (carried refused could (kept_or_copied w.classes brings store.heap call.locals shared s runs does))
         (what_told (unit_tree p.unit) w.classes after owner kind g (result_after kind refused effect) agrees)
       where
         by_told : Carried (variables_left refused s effect) → Told (unit_tree p.unit) w.classes after owner kind g (result_after kind refused effect)
@@ -556,7 +522,7 @@ module _ (p : Lowered) (w : World) (store : Store) (pending : Option ℕ) (call 
               (λ t. flag_told (variables_left refused s effect) (slots_after store.heap answer call.slots.numbers.items) (meant_after answer r.meant.buffers) there.shows g (result_after kind refused effect) t.1.0 t.1.1 t.0) told;
           agree = agree_after store.heap store.elements owner call.slots.buffers.items r.meant.buffers answer r.holds.buffers;
           small = small_after store.heap store.elements owner call.slots.buffers.items r.meant.buffers answer r.holds.small;
-          left = lists_left store.heap store.elements owner call.slots.buffers.items r.meant.buffers answer r.holds.buffers (released_there does);
+          left = lists_left store.heap store.elements owner call.slots.buffers.items r.meant.buffers answer r.holds.buffers released_there;
           kept = ⊎_elim (λ t. ⊎_elim (λ same. inl (t.variables (address_given called.args 1) (variables_left refused s effect) ∙ same)) (λ nothing. inr (inl nothing)) there.kept)
               (λ t. ⊎_elim (λ same. inr (inr (t.0, ap (tell_copy (address_given called.args 1) (result_after kind refused effect)) same))) (λ nothing. inr (inl nothing)) there.kept) told;
         }

@@ -1,5 +1,5 @@
 -- What the slots show once numbers have gone into a local array.
-use Rattle.std.proofs.Common.{true, ◌≡◌, ◌⊎◌, inl, inr, ℕ, ℤ, zero, suc, ◌+◌, ◌<◌, ◌≤◌, false, List, [], ◌∷◌, length, Option, Some, refl, sym, ap, ◌∙◌, subst, arith}
+use Rattle.std.proofs.Common.{None, true, ◌≡◌, ◌⊎◌, inl, inr, ℕ, ℤ, zero, suc, ◌+◌, ◌<◌, ◌≤◌, false, List, [], ◌∷◌, length, Option, Some, refl, sym, ap, ◌∙◌, subst, arith}
 use Rattle.std.specs.Prelude.{slice_get, slice_set, nat_le, FitsSigned, if◌then◌else◌}
 use Rattle.std.specs.Int.{w32, cast_unsigned}
 use Rattle.std.specs.List.{AllByRecursion, AllZip}
@@ -23,22 +23,25 @@ use Rattle.code_meaning.specs.Layout.{Known}
 use Rattle.code_meaning.specs.Slots.{Shows, ShowsElement, Slots, Visible, type_of_array, visible_to}
 use Rattle.code_meaning.proofs.SlotLaws.{fewer_shown, known_among, with_changed}
 use Rattle.code_meaning.proofs.StaticPlaces.{statics_stay}
-use Rattle.semantics.specs.Arguments.{Actual, VariableActual}
-use Rattle.semantics.specs.CallEffects.{CallEffect, Leaves, NoResult, begun_with, frames_effect, overwritten, refuses_frames, with_capacity}
-use Rattle.machine_scenes.specs.SourceEffects.{enter_effect, exit_effect, release_effect}
+use Rattle.semantics.specs.Answer.{Answer as SourceAnswer, GetsRegion, effect_of}
+use Rattle.semantics.specs.AnswerTable as table
+use Rattle.semantics.specs.AnswerTable.{monitor_entered, monitor_left}
+use Rattle.semantics.specs.Arguments.{Actual, variable_given, variable_in_actual}
+use Rattle.semantics.specs.CallEffects.{CallEffect, begun_with, frames_effect, overwritten, refuses_frames, with_capacity}
 use Rattle.semantics.specs.Sight.{in_range}
 use Rattle.semantics.specs.Thread as source
 use Rattle.semantics.specs.Thread.{Shared}
 use Rattle.semantics.specs.Variable as source_variable
-use Rattle.semantics.specs.Variable.{Variable, LocalArray, NoBuffer, assign, change}
+use Rattle.semantics.specs.Variable.{Variable, Variables, LocalArray, NoBuffer, assign, change}
 use Rattle.semantics_safety.specs.Owners.{Owners}
 use Rattle.tables.specs.Locals.{LocalTable}
 use Rattle.machine_answers.specs.declared.answer.Answer.{Answer}
 use Rattle.machine_answers.specs.declared.answer.Answer.TheVariants as answers
 use Rattle.machine_scenes.specs.declared.array_region.ArrayRegion.{ArrayRegion}
-use Rattle.machine_answers.specs.Answers.{AreWordsOf, Brought, IsAnswer, IsCopiedOut, IsReleased, array_given, is_carried, named_array}
+use Rattle.machine_answers.specs.Answers.{AreWordsOf, Brought, IsAnswer, IsCopiedOut, IsReleased, effect_told, is_carried, region_named}
 use Rattle.machine_answers.specs.Answers as row
 use Rattle.machine_scenes.specs.Buffers.{gives_up}
+use Rattle.machine_scenes.specs.Given.{operand_of, operand_or_null}
 use Rattle.machine_calls.specs.CarriedOut.{buffers_after, slots_after, variables_left}
 use Rattle.machine_scenes.specs.declared.buffer.Buffer.{Buffer}
 use Rattle.machine_scenes.specs.declared.buffer.Release.{Release}
@@ -132,27 +135,22 @@ module _ (code : Listing) (known : Known) (own : Owners) (shared : Shared) (s : 
 
 -- ---- the array that a call names
 
-zip_at : {A B : Type 0} (P : A → B → Type 0) (xs : List A) (ys : List B) (i : ℕ) (x : A) (y : B) → AllZip P xs ys → slice_get xs i ≡ Some x → slice_get ys i ≡ Some y → P x y
-zip_at P [] ys i x y h at there = absurd (cc (at))
-zip_at P (a ∷ xs) [] i x y h at there = absurd h
-zip_at P (a ∷ xs) (b ∷ ys) zero x y h at there =
-    let first : a ≡ x = cc (at) in
-    let second : b ≡ y = cc (there) in
-    subst (λ v. P v y) first (subst (λ v. P a v) second h.0)
-zip_at P (a ∷ xs) (b ∷ ys) (suc i) x y h at there = zip_at P xs ys i x y h.1 at there
+zip_at : {A B : Type 0} (P : A → B → Type 0) (xs : List A) (ys : List B) (i : ℕ) (x : A) → AllZip P xs ys → slice_get xs i ≡ Some x → (y : B) × (slice_get ys i ≡ Some y) × P x y
+zip_at P [] ys i x h at = absurd (cc (at))
+zip_at P (a ∷ xs) [] i x h at = absurd h
+zip_at P (a ∷ xs) (b ∷ ys) zero x h at = let first : a ≡ x = cc (at) in (b, refl, subst (λ v. P v b) first h.0)
+zip_at P (a ∷ xs) (b ∷ ys) (suc i) x h at = zip_at P xs ys i x h.1 at
 
-named_is : (o : Option Operand) (a : Option Actual) (name : Identifier) (array : ArraySlots) → named_array o a ≡ Some (name, array) → (o ≡ Some (operand.Array array)) × (a ≡ Some (VariableActual name))
-named_is (Some (operand.Array slots)) (Some (VariableActual x)) name array h =
-    let both : (x, slots) ≡ (name, array) = cc in
-    (ap (λ (p : Identifier × ArraySlots). Some (operand.Array p.1)) both, ap (λ (p : Identifier × ArraySlots). Some (VariableActual p.0)) both)
-named_is o a name array h = absurd (cc)
+array_operand : (o : Option Operand) (array : ArraySlots) → operand_or_null o ≡ operand.Array array → o ≡ Some (operand.Array array)
+array_operand None array h = absurd (cc)
+array_operand (Some o) array h = ap (λ (x : Operand). Some x) h
 
-pub array_known : (code : Listing) (known : Known) (place : ℕ) (stack : List ℕ) (slots : Slots) (visible : Visible) (operands : List Operand) (args : List Actual) (name : Identifier) (array : ArraySlots) → AllZip (IsOperand code known place stack slots visible) operands args
-    → array_given operands args ≡ Some (name, array) → (t : ElementType) × IsArray known name t array.len array.start
-array_known code known place stack slots visible operands args name array h given =
-    let named = named_is (slice_get operands 3) (slice_get args 3) name array given in
-    let is = zip_at (IsOperand code known place stack slots visible) operands args 3 (operand.Array array) (VariableActual name) h named.0 named.1 in
-    let same : is.0 ≡ name = let e : VariableActual name ≡ VariableActual is.0 = is.1 in cc in
+pub array_known : (code : Listing) (known : Known) (place : ℕ) (stack : List ℕ) (slots : Slots) (visible : Visible) (operands : List Operand) (args : List Actual) (array : ArraySlots) → AllZip (IsOperand code known place stack slots visible) operands args
+    → operand_of operands 3 ≡ operand.Array array → (t : ElementType) × IsArray known (variable_given args 3) t array.len array.start
+array_known code known place stack slots visible operands args array h given =
+    let it = zip_at (IsOperand code known place stack slots visible) operands args 3 (operand.Array array) h (array_operand (slice_get operands 3) array given) in
+    let is = it.2 in
+    let same : is.0 ≡ variable_given args 3 = sym (ap variable_in_actual it.1 ∙ ap (λ (a : Actual). variable_in_actual (Some a)) is.1) in
     (is.2, subst (λ (x : Identifier). IsArray known x is.2 array.len array.start) same is.3)
 
 -- ---- which answers change variables
@@ -164,43 +162,49 @@ meant_after a buffers = buffers
 
 module _ (classes : Classes) (brought : Brought) (space : Space) (locals : LocalTable) (kind : ResultKind) (shared : Shared) (s : source.Thread) where
   -- numbers were copied into the array that the call names
-  pub record Copied (answer : Answer) (effect : CallEffect) : Type 0 where
+  pub record Copied (answer : Answer) (of_source : SourceAnswer) : Type 0 where
     pub region : ArrayRegion
     pub is : answer ≡ answers.CopiesOut region
     pub nothing : kind ≡ GivesNothing
-    pub copied : IsCopiedOut brought space region
-    pub left : effect ≡ Leaves [] shared (record s { variables = change copied.name (begun_with copied.numbers) s.variables }) NoResult
+    pub copied : IsCopiedOut brought space shared region
+    pub told : of_source ≡ GetsRegion (region_named region copied.name)
 
   -- a buffer is released
-  pub record Released (answer : Answer) (effect : CallEffect) : Type 0 where
+  pub record Released (answer : Answer) (of_source : SourceAnswer) : Type 0 where
     pub release : Release
     pub is : answer ≡ answers.Releases release
     pub nothing : kind ≡ GivesNothing
     pub released : IsReleased brought space shared s release
-    pub left : effect ≡ release_effect shared s released.name released.variable released.mode
+    pub told : of_source ≡ table.released released.name released.mode
 
   -- or the variables, the number slots and the buffers are as they were
-  abbrev pub AreKept : Answer → CallEffect → Type 0
-  AreKept answer effect =
-      (variables_left false s effect ≡ s.variables) × ((numbers : List ℕ) → slots_after space answer numbers ≡ numbers) × ((buffers : List Buffer) → buffers_after answer buffers ≡ buffers) × ((buffers : List source_variable.Buffer) → meant_after answer buffers ≡ buffers)
+  abbrev pub AreKept : Answer → SourceAnswer → Type 0
+  AreKept answer of_source =
+      (variables_left false s (effect_told classes brought shared s of_source) ≡ s.variables) × ((numbers : List ℕ) → slots_after space answer numbers ≡ numbers) × ((buffers : List Buffer) → buffers_after answer buffers ≡ buffers) × ((buffers : List source_variable.Buffer) → meant_after answer buffers ≡ buffers)
 
-of_frames : (classes : Classes) (shared : Shared) (s : source.Thread) (frames : List source.Frame) → variables_left false s (frames_effect classes shared s frames) ≡ s.variables
-of_frames classes shared s frames = cond_both (nat_le (source.capacities frames) 1024) _ (refuses_frames classes shared s) (λ (e : CallEffect). variables_left false s e ≡ s.variables) (λ e. refl) (λ e. refl)
+module _ (classes : Classes) (brought : Brought) (space : Space) (locals : LocalTable) (shared : Shared) (s : source.Thread) where
+  -- the variables that the effect of an answer leaves
+  abbrev variables_told : SourceAnswer → Variables
+  variables_told a = variables_left false s (effect_told classes brought shared s a)
 
-of_enter : (shared : Shared) (s : source.Thread) (k n : ℕ) (o : Option source.Monitor) → variables_left false s (enter_effect k shared s n o) ≡ s.variables
-of_enter shared s k n o = enter_cases k shared s n (λ (e : CallEffect). variables_left false s e ≡ s.variables) (λ monitors. refl) refl o
+  of_frames : (frames : List source.Frame) → variables_left false s (frames_effect classes shared s frames) ≡ s.variables
+  of_frames frames = cond_both (nat_le (source.capacities frames) 1024) _ (refuses_frames classes shared s) (λ (e : CallEffect). variables_left false s e ≡ s.variables) (λ e. refl) (λ e. refl)
 
-of_exit : (shared : Shared) (s : source.Thread) (k n : ℕ) (o : Option source.Monitor) → variables_left false s (exit_effect k shared s n o) ≡ s.variables
-of_exit shared s k n o = exit_cases k shared s n (λ (e : CallEffect). variables_left false s e ≡ s.variables) (λ monitors. refl) refl o
+  of_enter : (n : ℕ) (o : Option source.Monitor) → variables_told (monitor_entered n o) ≡ s.variables
+  of_enter n o = enter_cases classes brought shared s n (λ (e : CallEffect). variables_left false s e ≡ s.variables) (λ monitors. refl) refl o
 
-pub kept_or_copied : {classes : Classes} {brought : Brought} {space : Space} {locals : LocalTable} {kind : ResultKind} {shared : Shared} {s : source.Thread} {answer : Answer} {effect : CallEffect} → is_carried answer ≡ true → IsAnswer classes brought space locals shared s answer kind effect
-    → AreKept classes brought space locals kind shared s answer effect ⊎ (Copied classes brought space locals kind shared s answer effect ⊎ Released classes brought space locals kind shared s answer effect)
-kept_or_copied runs (row.copies_out {region = region} it) = inr (inl (record { region = region; is = refl; nothing = refl; copied = it; left = refl }))
-kept_or_copied runs (row.releases {r = r} it) = inr (inr (record { release = r; is = refl; nothing = refl; released = it; left = refl }))
-kept_or_copied runs (row.calls function arguments) = absurd (cc (runs))
-kept_or_copied runs row.halts = absurd (cc (runs))
-kept_or_copied {classes = classes} {shared = shared} {s = s} runs (row.ensures {more = more}) = inl (of_frames classes shared s (with_capacity more s.frames), λ numbers. refl, λ buffers. refl, λ buffers. refl)
-kept_or_copied {classes = classes} {shared = shared} {s = s} runs (row.pushes {capacity = capacity}) = inl (of_frames classes shared s (record { capacity = capacity; references = [] } ∷ s.frames), λ numbers. refl, λ buffers. refl, λ buffers. refl)
-kept_or_copied {brought = brought} {shared = shared} {s = s} runs (row.enters {o = o} it) = inl (of_enter shared s brought.thread o.name (source.monitor_of shared.monitors o.name), λ numbers. refl, λ buffers. refl, λ buffers. refl)
-kept_or_copied {brought = brought} {shared = shared} {s = s} runs (row.exits {n = n} it) = inl (of_exit shared s brought.thread n (source.monitor_of shared.monitors n), λ numbers. refl, λ buffers. refl, λ buffers. refl)
-kept_or_copied runs does = inl (refl, λ numbers. refl, λ buffers. refl, λ buffers. refl)
+  of_exit : (n : ℕ) (o : Option source.Monitor) → variables_told (monitor_left brought.thread n o) ≡ s.variables
+  of_exit n o = exit_cases classes brought shared s n (λ (e : CallEffect). variables_left false s e ≡ s.variables) (λ monitors. refl) refl o
+
+  pub kept_or_copied : {kind : ResultKind} {answer : Answer} {of_source : SourceAnswer} → is_carried answer ≡ true → IsAnswer classes brought space locals shared s answer kind of_source
+      → AreKept classes brought space locals kind shared s answer of_source ⊎ (Copied classes brought space locals kind shared s answer of_source ⊎ Released classes brought space locals kind shared s answer of_source)
+  unfolding effect_of
+  kept_or_copied runs (row.copies_out {region = region} it) = inr (inl (record { region = region; is = refl; nothing = refl; copied = it; told = refl }))
+  kept_or_copied runs (row.releases {r = r} it) = inr (inr (record { release = r; is = refl; nothing = refl; released = it; told = refl }))
+  kept_or_copied runs (row.calls method) = absurd (cc (runs))
+  kept_or_copied runs row.halts = absurd (cc (runs))
+  kept_or_copied runs (row.ensures {more = more}) = inl (of_frames (with_capacity more s.frames), λ numbers. refl, λ buffers. refl, λ buffers. refl)
+  kept_or_copied runs (row.pushes {capacity = capacity}) = inl (of_frames (record { capacity = capacity; references = [] } ∷ s.frames), λ numbers. refl, λ buffers. refl, λ buffers. refl)
+  kept_or_copied runs (row.enters {o = o} it) = inl (of_enter o.name (source.monitor_of shared.monitors o.name), λ numbers. refl, λ buffers. refl, λ buffers. refl)
+  kept_or_copied runs (row.exits {n = n} it) = inl (of_exit n (source.monitor_of shared.monitors n), λ numbers. refl, λ buffers. refl, λ buffers. refl)
+  kept_or_copied runs does = inl (refl, λ numbers. refl, λ buffers. refl, λ buffers. refl)

@@ -391,12 +391,12 @@ module _ (p : Lowered) (w : World) (store : Store) (others : Acquired) (k owner 
           let next : source.Thread = with_tasks s rest in
           let named : name_at space a ≡ Some n = subst (λ (g : HeldBuffer). BufferAgrees space store.elements owner g (View n)) of (subst (λ (b : variable.Buffer). BufferAgrees space store.elements owner it.0 b) is_view it.2) in
           let there : nat_lt j (length (words_held store (held_as.View a))) ≡ true = ap (λ (b : HeldBuffer). nat_lt j (length (words_held store b))) (sym of) ∙ inside in
-          let writes : WritesAt space shared now a j (Word (cast_unsigned w32 number)) =
-          record { name = n; there = named; value = Number number; agrees = (convert_fits h.type z, refl); within = omega (arith, ltb-true j (length (words_held store (held_as.View a))) there, length-map (values_at space a) word_of); is = refl } in
+          let writes : WritesAt space a j (Word (cast_unsigned w32 number)) n (Number number) =
+          record { there = named; agrees = (convert_fits h.type z, refl); within = omega (arith, ltb-true j (length (words_held store (held_as.View a))) there, length-map (values_at space a) word_of) } in
           let store_is : store' ≡ record store { heap = with_value space a j (Word (cast_unsigned w32 number)) } = wrote.0 ∙ ap (λ (b : HeldBuffer). with_word store b j (cast_unsigned w32 number)) of in
           let was : lookup x s.variables ≡ Some (Elements h.type (View n)) = variable_is ∙ ap (λ (b : variable.Buffer). Some (Elements h.type b)) is_view in
           let space' : Space = with_value space a j (Word (cast_unsigned w32 number)) in
-          let keeps = written_keeps p w store shared now a j (Word (cast_unsigned w32 number)) all shares writes in
+          let keeps = written_keeps p w store shared a j n (Word (cast_unsigned w32 number)) (Number number) all shares writes in
           let shown : Shows code h.names (visible_to own now next) held =
           subst (λ (l : List variable.Buffer). Shows code h.names (visible_to own now next) (record held { buffers = l })) (set_same r.meant.buffers h.slot (View n) (h.there ∙ ap (λ (b : variable.Buffer). Some b) is_view))
           (subst (λ (b : variable.Buffer). Shows code h.names (visible_to own now next) (record held { buffers = slice_set r.meant.buffers h.slot b })) (ap (with_element h.type j z) is_view)
@@ -405,7 +405,7 @@ module _ (p : Lowered) (w : World) (store : Store) (others : Acquired) (k owner 
             next_shared = now;
             next = next;
             steps = ap (set_element shared (with_tasks s rest) x j z) was ∙ ap (λ (v : Event). source.Advances now next (event_view v)) (sym wrote.1.1);
-            store_agrees = written_agrees p w store shared now a j (Word (cast_unsigned w32 number)) all shares writes;
+            store_agrees = written_agrees p w store shared a j n (Word (cast_unsigned w32 number)) (Number number) all shares writes;
             keeps = keeps;
             keeps_copies = λ key c found other. found;
             work = stands_in p classes space store.elements owner call code seen s.frames task rest r space' store.elements after (call.place + 1) [] (values_in call) r.meant h.names (visible_to own now next) rest

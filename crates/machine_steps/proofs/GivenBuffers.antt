@@ -14,7 +14,9 @@ use Rattle.jni.specs.Access.{Access}
 use Rattle.jni.specs.Prototype.{ParameterKind, ArrayVariable, BufferVariable, IsCopy, owner, ResultKind, GivesBuffer}
 use Rattle.base.specs.Bytes.{Identifier, lookup}
 use Rattle.semantics.specs.Arguments.{Actual, address_given, address_in_actual}
-use Rattle.semantics.specs.CallEffects.{CallEffect, CallResult, NoResult, NullResult, BufferResult}
+use Rattle.semantics.specs.Answer as source_answer
+use Rattle.semantics.specs.Answer.{Answer as SourceAnswer}
+use Rattle.semantics.specs.CallEffects.{CallResult, NoResult, NullResult, BufferResult}
 use Rattle.semantics.specs.CallStep.{tell_copy}
 use Rattle.semantics.specs.Heap.{numbers_of}
 use Rattle.semantics.specs.Task.{ScalarKind}
@@ -37,7 +39,7 @@ use Rattle.tables.specs.Locals.{LocalTable}
 use Rattle.machine_answers.specs.declared.answer.Answer.{Answer}
 use Rattle.machine_answers.specs.declared.answer.Given.{Given}
 use Rattle.machine_scenes.specs.declared.store.Store.{Store}
-use Rattle.machine_answers.specs.Answers.{Brought, IsAnswer}
+use Rattle.machine_answers.specs.Answers.{Brought, IsAnswer, effect_told}
 use Rattle.machine_answers.specs.Answers as row
 use Rattle.machine_calls.specs.CarriedOut.{ResultAgrees, result_after}
 use Rattle.machine_threads.specs.SlotsHold.{IsSmallCopy}
@@ -149,20 +151,21 @@ small_view n views b = by_test (nat_lt views 64)
     by_test false is = let same : NoBuffer ≡ b = cc in subst IsSmallCopy same tt
 
 module _ (classes : Classes) (brought : Brought) (space : Space) (locals : LocalTable) (access : Access) (shared : Shared) (s : source.Thread) (b : variable.Buffer) where
-  small_answer : {answer : Answer} {effect : CallEffect} → IsAnswer classes brought space locals shared s answer (GivesBuffer access) effect → result_after (GivesBuffer access) false effect ≡ BufferResult b → IsSmallCopy b
+  small_answer : {answer : Answer} {of_source : SourceAnswer} → IsAnswer classes brought space locals shared s answer (GivesBuffer access) of_source → result_after (GivesBuffer access) false (effect_told classes brought shared s of_source) ≡ BufferResult b → IsSmallCopy b
+  unfolding source_answer.effect_of
   small_answer (row.gives agrees) gave = elim agrees [ ]
   small_answer (row.pends r there agrees) gave = elim agrees [ ]
   small_answer (row.throws makeable) gave = absurd (let clash : NullResult ≡ BufferResult b = gave in cc)
-  small_answer (row.calls function arguments) gave = absurd (let clash : NoResult ≡ BufferResult b = gave in cc)
+  small_answer (row.calls method) gave = absurd (let clash : NoResult ≡ BufferResult b = gave in cc)
   small_answer row.halts gave = absurd (let clash : NoResult ≡ BufferResult b = gave in cc)
   small_answer (row.acquires_copy buffer it) gave = small_copy it.name (numbers_of shared.heap it.name) brought.in_use.copied b it.words.fit gave
   small_answer (row.acquires_view n buffer there) gave = small_view n brought.in_use.views b gave
 
 -- what is given is small
-pub small_given : {classes : Classes} {brought : Brought} {space : Space} {locals : LocalTable} {kind : ResultKind} {shared : Shared} {s : source.Thread} {answer : Answer} {effect : CallEffect} (refused : Bool) (b : variable.Buffer)
-    → IsBufferResult kind → IsAnswer classes brought space locals shared s answer kind effect → result_after kind refused effect ≡ BufferResult b → IsSmallCopy b
-small_given {effect = effect} true b of_buffer h gave =
-    absurd (let clash : NullResult ≡ BufferResult b = ap (λ (k : ResultKind). result_after k true effect) (sym of_buffer.1) ∙ gave in cc)
-small_given {classes = classes} {brought = brought} {space = space} {locals = locals} {shared = shared} {s = s} {answer = answer} {effect = effect} false b of_buffer h gave =
-    small_answer classes brought space locals of_buffer.0 shared s b (subst (λ (k : ResultKind). IsAnswer classes brought space locals shared s answer k effect) of_buffer.1 h)
-    (ap (λ (k : ResultKind). result_after k false effect) (sym of_buffer.1) ∙ gave)
+pub small_given : {classes : Classes} {brought : Brought} {space : Space} {locals : LocalTable} {kind : ResultKind} {shared : Shared} {s : source.Thread} {answer : Answer} {of_source : SourceAnswer} (refused : Bool) (b : variable.Buffer)
+    → IsBufferResult kind → IsAnswer classes brought space locals shared s answer kind of_source → result_after kind refused (effect_told classes brought shared s of_source) ≡ BufferResult b → IsSmallCopy b
+small_given {classes = classes} {brought = brought} {shared = shared} {s = s} {of_source = of_source} true b of_buffer h gave =
+    absurd (let clash : NullResult ≡ BufferResult b = ap (λ (k : ResultKind). result_after k true (effect_told classes brought shared s of_source)) (sym of_buffer.1) ∙ gave in cc)
+small_given {classes = classes} {brought = brought} {space = space} {locals = locals} {shared = shared} {s = s} {answer = answer} {of_source = of_source} false b of_buffer h gave =
+    small_answer classes brought space locals of_buffer.0 shared s b (subst (λ (k : ResultKind). IsAnswer classes brought space locals shared s answer k of_source) of_buffer.1 h)
+    (ap (λ (k : ResultKind). result_after k false (effect_told classes brought shared s of_source)) (sym of_buffer.1) ∙ gave)

@@ -22,7 +22,8 @@ use Rattle.machine_steps.specs.declared.invoke.Invoked.{Invoked}
 use Rattle.machine_steps.specs.declared.invoke.Invoked.TheVariants as invoked
 use Rattle.semantics.specs.CallEffects.{Enters}
 use Rattle.semantics.specs.CallStep.{after_call, checked, effect_of_call, trap_of_call}
-use Rattle.semantics.specs.AnswerTable.{call_effect}
+use Rattle.semantics.specs.AnswerTable.{call_answer, call_effect}
+use Rattle.semantics.specs.CallSight.{sight_of_call}
 use Rattle.semantics.specs.Effect.{effect_of}
 use Rattle.semantics.specs.Task.{Task}
 use Rattle.semantics.specs.Thread.{Shared, Thread, sight_of}
@@ -64,7 +65,7 @@ module _ (p : Lowered) (w : World) (store : Store) (pending : Option ℕ) (call 
   method_is true is = is
   method_is false is =
       let free = trap_now ∙ ap (λ (m : Bool). with_depth (m && nat_le 64 (length s.callers + 1)) None) is in
-      let a : IsAnswer w.classes (brought_by (unit_tree p.unit) store call k owner (in_use_with others s) (call_view function) it.args) store.heap call.locals shared s answer.Calls (prototype it.f).result (call_effect (unit_tree p.unit) w.classes (in_use_with others s) k shared s it.args it.f) =
+      let a : IsAnswer w.classes (brought_by (unit_tree p.unit) store call k owner (in_use_with others s) (call_view function) it.args) store.heap call.locals shared s answer.Calls (prototype it.f).result (call_answer (unit_tree p.unit) w.classes k (sight_of_call shared s it.f it.args) it.f) =
       answers p w store pending call (call_view function) others k owner shared s it.target given.sound it.args it.f it.asked free answer.Calls worked
       (owned_key p w store pending call function others k owner own shared s task rest h) (held p w store pending call function others k owner own shared s task rest h) in
       let entered = called_so a in

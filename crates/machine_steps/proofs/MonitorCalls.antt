@@ -6,11 +6,11 @@ use Rattle.code_meaning.specs.Lowered.{Lowered}
 use Rattle.heap.specs.Heap.{Space}
 use Rattle.jni.specs.Prototype.{ResultKind}
 use Rattle.monitors.specs.declared.monitors.Monitor.{Monitor}
-use Rattle.semantics.specs.CallEffects.{CallEffect}
+use Rattle.semantics.specs.Answer.{Answer as SourceAnswer}
 use Rattle.semantics.specs.Thread.{Shared, Thread}
 use Rattle.semantics.specs.World.{World}
 use Rattle.tables.specs.Locals.{LocalTable}
-use Rattle.machine_answers.specs.Answers.{Brought, IsAnswer, is_carried}
+use Rattle.machine_answers.specs.Answers.{Brought, IsAnswer, effect_told, is_carried}
 use Rattle.machine_answers.specs.declared.answer.Answer.{Answer}
 use Rattle.machine_answers.specs.declared.answer.Answer.TheVariants as answer
 use Rattle.machine_answers.specs.declared.answer.Given.TheVariants as given
@@ -44,9 +44,9 @@ statics_stay (target.Static slot) word statics = refl
 statics_stay t word statics = refl
 
 -- What is done is what the source's call leaves.
-module _ (p : Lowered) (w : World) (store : Store) (pending : Option ℕ) (locals : LocalTable) (kind : ResultKind) (others : Acquired) (k owner : ℕ) (shared : Shared) (s : Thread) (h : IsPossible p w store pending locals others shared s) (brought : Brought) (thread : brought.thread ≡ k) (effect : CallEffect) where
-  pub carries : (a : Answer) → changes_monitor a ≡ true → IsAnswer w.classes brought store.heap locals shared s a kind effect → (ms : List Monitor) → Changes k a store.monitors ms
-      → CarriesOut p w store.heap locals a kind others owner shared s effect false (record store { monitors = ms }) pending locals (given.Number 0)
+module _ (p : Lowered) (w : World) (store : Store) (pending : Option ℕ) (locals : LocalTable) (kind : ResultKind) (others : Acquired) (k owner : ℕ) (shared : Shared) (s : Thread) (h : IsPossible p w store pending locals others shared s) (brought : Brought) (thread : brought.thread ≡ k) (of_source : SourceAnswer) where
+  pub carries : (a : Answer) → changes_monitor a ≡ true → IsAnswer w.classes brought store.heap locals shared s a kind of_source → (ms : List Monitor) → Changes k a store.monitors ms
+      → CarriesOut p w store.heap locals a kind others owner shared s (effect_told w.classes brought shared s of_source) false (record store { monitors = ms }) pending locals (given.Number 0)
   carries (answer.Enters o) is does ms left = monitors.enters p w store pending locals others k owner shared s h brought thread o does left.0 ms left.1 left.2 left.3
   carries (answer.Exits n) is does ms left = monitors.exits p w store pending locals others k owner shared s h brought thread n does left.0 ms left.1 left.2 left.3
   carries a is does ms left = absurd (let clash : false ≡ true = is in cc)

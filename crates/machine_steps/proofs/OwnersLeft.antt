@@ -2,7 +2,11 @@
 use Rattle.syntax.specs.Views.{unit_tree}
 use Rattle.std.proofs.Common.{◌≡◌, ◌≢◌, ◌⊎◌, inl, inr, map, ℕ, false, List, length, Option, Some, None, refl, sym, ap, ◌∙◌, subst}
 use Rattle.std.specs.Prelude.{slice_get, slice_set, if◌then◌else◌}
-use Rattle.jni.specs.JniFunction.{JniFunction, DeleteLocalRef, PopLocalFrame}
+use Rattle.jni.specs.JniFunction.{JniFunction, DeleteLocalRef, PopLocalFrame, prototype}
+use Rattle.semantics.specs.Answer.{Answer as SourceAnswer}
+use Rattle.semantics.specs.AnswerTable.{call_answer}
+use Rattle.semantics.specs.CallSight.{sight_of_call}
+use Rattle.semantics.proofs.AnswerKinds.{answers_as, call_kind}
 use Rattle.semantics.specs.Effect.{effect_of}
 use Rattle.semantics.specs.Task.{Task}
 use Rattle.semantics.specs.Thread as source
@@ -19,14 +23,16 @@ use Rattle.machine_answers.specs.declared.answer.Answer.{Answer}
 use Rattle.machine_scenes.specs.declared.store.Store.{Store}
 use Rattle.machine_scenes.specs.declared.activation.Activation.{Activation}
 use Rattle.machine_answers.specs.WorkedOut.{IsWorkedOut, deletes}
-use Rattle.machine_answers.specs.Asked.{references_of, scene_of}
+use Rattle.machine_answers.specs.Answers.{Brought, IsAnswer}
+use Rattle.machine_answers.specs.Asked.{brought_by, references_of, scene_of}
 use Rattle.machine_calls.specs.CarriedOut.{IsLeft}
 use Rattle.machine_scenes.specs.Given.{held_in, key_at}
+use Rattle.machine_steps.specs.Executes.{in_use_with}
 use Rattle.machine_steps.specs.Invoked.{AtCall}
 use Rattle.machine_steps.proofs.Calls.{Ready}
 use Rattle.machine_threads.specs.SlotsHold.{slots_of}
 use Rattle.machine_scenes.proofs.KeyLaws.{name_there, set_cases}
-use Rattle.machine_steps.proofs.KeysLeft.{may_end, others_get, others_leave}
+use Rattle.machine_steps.proofs.KeysLeft.{LeavesLevel, ends_local, level_left, none_ended, others_get}
 use Rattle.machine_scenes.proofs.LocalFrames.{as_many_frames}
 use Rattle.machine_steps.proofs.OwnedKeys.{DeletesKey}
 use Rattle.code_meaning.proofs.OwnerLaws.{owner_lost_with_slot, owners_mapped}
@@ -52,7 +58,16 @@ module _ (p : Lowered) (w : World) (store : Store) (pending : Option ℕ) (call 
     pub among : (i level : ℕ) → slice_get owners i ≡ Some (Some level) → slice_get r.meant.owners i ≡ Some (Some level)
     pub left : (i key level : ℕ) → slice_get call.slots.references.items i ≡ Some (Some key) → slice_get owners i ≡ Some (Some level) → IsLeft answer (length call.locals.frames) key level
 
-  module _ (answer : Answer) (works : IsWorkedOut (scene_of (unit_tree p.unit) w.classes store call k pending) function called.f answer) where
+  -- what the source's call answers
+  abbrev pub of_source : SourceAnswer
+  of_source = call_answer (unit_tree p.unit) w.classes k (sight_of_call shared s called.f called.args) called.f
+
+  -- what the call brings
+  abbrev pub brings : Brought
+  brings = brought_by (unit_tree p.unit) store call k owner (in_use_with others s) function called.args
+
+  module _ (answer : Answer) (works : IsWorkedOut (scene_of (unit_tree p.unit) w.classes store call k pending) function called.f answer)
+      (does : IsAnswer w.classes brings store.heap call.locals shared s answer (prototype called.f).result of_source) where
     abbrev Works : JniFunction → Type 0
     Works f = IsWorkedOut (scene_of (unit_tree p.unit) w.classes store call k pending) function f answer
 
@@ -89,28 +104,38 @@ module _ (p : Lowered) (w : World) (store : Store) (pending : Option ℕ) (call 
             let owner = d.owned named.0 named.1 in
             other (r.holds.keys.apart i d.slot key level owner.0 found (at ∙ ap (λ (n : ℕ). Some (Some n)) (sym same)) owned owner.1))
 
-    pop_leaves : Works PopLocalFrame → LeavesOwners PopLocalFrame answer
-    pop_leaves is = record {
+    -- keys of this level are left, where function f leaves it
+    left_by_answer : (f : JniFunction) → called.f ≡ f → (key level : ℕ)
+        → LeavesLevel (call_answer (unit_tree p.unit) w.classes k (sight_of_call shared s called.f called.args) f) (length call.locals.frames) level → IsLeft answer (length call.locals.frames) key level
+    left_by_answer f e key level left =
+        level_left does (length call.locals.frames) key level
+        (subst (λ (g : JniFunction). LeavesLevel (call_answer (unit_tree p.unit) w.classes k (sight_of_call shared s called.f called.args) g) (length call.locals.frames) level) (sym e) left)
+
+    pop_leaves : called.f ≡ PopLocalFrame → LeavesOwners PopLocalFrame answer
+    unfolding call_answer
+    pop_leaves e = record {
       owners = map (other_than (length s.frames)) r.meant.owners;
       shows = owners_mapped h.code r.known (visible_to own shared s) (slots_of call r.meant) r.shows (other_than (length s.frames)) refl;
       among = λ i level at. (others_get (length s.frames) r.meant.owners i level at).0;
       left = λ i key level found at.
-          subst (λ (a : Answer). IsLeft a (length call.locals.frames) key level) (sym is)
+          left_by_answer PopLocalFrame e key level
           (λ same. (others_get (length s.frames) r.meant.owners i level at).1 (same ∙ as_many_frames store.heap call.locals s.frames r.frames_agree));
     }
 
-    other_leaves : (f : JniFunction) → may_end f ≡ false → left_by_call f called.args (length s.frames) own ≡ own → Works f → LeavesOwners f answer
-    other_leaves f none same is = record {
+    other_leaves : (f : JniFunction) → called.f ≡ f → ends_local (call_kind f) ≡ false → left_by_call f called.args (length s.frames) own ≡ own → LeavesOwners f answer
+    other_leaves f e none same = record {
       owners = r.meant.owners;
       shows = subst (λ (o : Owners). Shows h.code r.known (visible_to o shared s) (slots_of call r.meant)) (sym same) r.shows;
       among = λ i level at. at;
-      left = λ i key level found at. others_leave (scene_of (unit_tree p.unit) w.classes store call k pending) function f answer (length call.locals.frames) key level none is;
+      left = λ i key level found at.
+          left_by_answer f e key level
+          (none_ended (call_kind f) none (answers_as (unit_tree p.unit) w.classes k (sight_of_call shared s called.f called.args) f) (length call.locals.frames) level);
     }
 
     leaves : (f : JniFunction) → called.f ≡ f → Works f → LeavesOwners f answer
     leaves DeleteLocalRef e is = delete_leaves e is
-    leaves PopLocalFrame e is = pop_leaves is
-    leaves f e is = other_leaves f refl refl is
+    leaves PopLocalFrame e is = pop_leaves e
+    leaves f e is = other_leaves f e refl refl
 
     pub leaves_owners : LeavesOwners called.f answer
     leaves_owners = leaves called.f refl works

@@ -331,7 +331,7 @@ module _ (p : Lowered) (w : World) (k : ℕ) (shared : Shared) (s : source.Threa
   given_up g =
       subst (λ (x : Store). StoreAgrees p w x (record shared { monitors = source.without_owner shared.monitors k }) all) (sym g.is)
       (agrees_monitors p w old shared all shares (without_owner old.monitors k) (source.without_owner shared.monitors k)
-      (drops k shared s old.monitors shares.monitors (without_owner old.monitors k) (λ n. subst (λ (x : Store). monitor_of x.monitors n ≡ kept_from k (monitor_of old.monitors n)) g.is (g.each n)))
+      (drops k shared old.monitors shares.monitors (without_owner old.monitors k) (λ n. subst (λ (x : Store). monitor_of x.monitors n ≡ kept_from k (monitor_of old.monitors n)) g.is (g.each n)))
       (there_dropped old.heap old.monitors k shares.monitored))
 
   -- the store of a thread that has left its call

@@ -6,8 +6,6 @@ use Rattle.std.proofs.lemmas.List.{with_items_is}
 use Rattle.std.specs.Global.{Vec}
 use Rattle.std.specs.Prelude.{slice_get, IfOk, OnErr}
 use Rattle.std.specs.Vec.{with_items}
-use Rattle.syntax.specs.Tree.{SourceUnit}
-use Rattle.syntax.specs.Views.{unit_tree}
 use Rattle.class_rules.specs.Class.{Classes}
 use Rattle.class_rules.specs.declared.class_id.ClassId.{ClassId}
 use Rattle.heap.specs.Heap.{Space, left_of}
@@ -24,13 +22,11 @@ use Rattle.machine_answers.specs.declared.answer.Given.{Given}
 use Rattle.machine_answers.specs.declared.answer.Given.TheVariants as given
 use Rattle.machine_calls.specs.declared.carry_out.Carried.{Carried}
 use Rattle.machine_scenes.specs.declared.store.Store.{Store}
-use Rattle.base.specs.Bytes.{Identifier}
-use Rattle.code.specs.declared.instr.LocalArray.{LocalArray}
 use Rattle.machine_scenes.specs.declared.buffer.Buffer.{Buffer}
-use Rattle.machine_answers.specs.Answers.{Brought, bringing}
+use Rattle.machine_answers.specs.Answers.{effect_told}
 use Rattle.machine_answers.specs.Copies.{space_with}
-use Rattle.machine_scenes.specs.Buffers.{Acquired, acquired_by, beside, holding, in_use_of}
-use Rattle.machine_calls.specs.CarriedOut.{CarriesOut, failed}
+use Rattle.machine_scenes.specs.Buffers.{Acquired, holding}
+use Rattle.machine_calls.specs.CarriedOut.{CarriesOut, brought_to, failed}
 use Rattle.tables.specs.Locals.{LocalTable}
 use Rattle.machine_answers.specs.declared.answer.Answer.TheVariants as answer
 use Rattle.machine_calls.specs.Made.{HasMade, Makes, Raises}
@@ -44,10 +40,6 @@ use Rattle.machine_calls.specs.Barrier.{noted_at, reference_given}
 use Rattle.machine_calls.proofs.CarryOuts as carries
 use Rattle.machine_answers.proofs.LongTables.{classes_loaded}
 use Rattle.machine_calls.proofs.carry_out.carry_out.Goals as goal
-
--- what a call of thread k, of this number, brings
-abbrev brings : SourceUnit → (texts : List (List ℕ)) → (numbers : List ℕ) → List Buffer → Store → (k owner : ℕ) → (others : Acquired) → Thread → Option (Identifier × LocalArray) → Brought
-brings unit texts numbers buffers store k owner others s array = bringing unit texts numbers (holding buffers store.elements owner) k (in_use_of (beside others (acquired_by s))) array
 
 -- a class of the table has a small number
 small : (w : World) (class : ℕ) → IsSound w → class ≤ length w.classes → class < 2 ^ 32
@@ -92,12 +84,12 @@ make-requires-in-Throws-clause-class c =
 
 -- the value that is written is there, and so is what it refers to
 pub set-requires-clause-place : goal.set-requires-clause-place
-set-requires-clause-place c = (written (as_answer c.in-Writes.is c.requires.possible.7)).1.within
+set-requires-clause-place c = (written (as_answer c.in-Writes.is c.requires.possible.7)).2.within
 
 pub set-requires-clause-target : goal.set-requires-clause-target
 set-requires-clause-target c marked =
-    let it = (written (as_answer c.in-Writes.is c.requires.possible.7)).1 in
-    barriers.value_there c.args.store.now.heap c.in-Writes.value it.value it.agrees
+    let it = written (as_answer c.in-Writes.is c.requires.possible.7) in
+    barriers.value_there c.args.store.now.heap c.in-Writes.value it.1 it.2.agrees
 
 -- what is given is no new list
 pub returns-in-Gives-clause-new_copy : goal.returns-in-Gives-clause-new_copy
@@ -107,75 +99,81 @@ pub returns-in-Pends-clause-new_copy : goal.returns-in-Pends-clause-new_copy
 returns-in-Pends-clause-new_copy c = barriers.no_new_copy c.args.store.now.elements (pending (as_answer c.in-Pends.is c.requires.possible.7)).1.1
 
 pub returns-in-Writes-clause-carried : goal.returns-in-Writes-clause-carried
-returns-in-Writes-clause-carried c p array others shared s effect h does =
+returns-in-Writes-clause-carried c p args others shared s of_source h does =
     let w = c.args.world.now in
     let kind = result_value c.args.call.now.result in
     let texts = texts_in c.args.call.now.texts.items in
-    let brought = brings (unit_tree p.unit) texts c.args.activation.now.slots.numbers.items c.args.activation.now.slots.buffers.items c.args.store.now c.args.thread c.args.owner others s array in
+    let brought = brought_to p c.args.store.now c.args.activation.now c.args.call.now c.args.thread c.args.owner others s args in
     let old = c.args.store.now in
-    carries.by_answer p w old.heap c.args.activation.now.locals kind others c.args.owner shared s effect brought c.args.answer (answer.Writes c.in-Writes.addr c.in-Writes.place c.in-Writes.value) c.in-Writes.is _ _ _ _ _ (λ writes.
+    let effect = effect_told w.classes brought shared s of_source in
+    carries.by_answer p w old.heap c.args.activation.now.locals kind others c.args.owner shared s of_source brought c.args.answer (answer.Writes c.in-Writes.addr c.in-Writes.place c.in-Writes.value) c.in-Writes.is _ _ _ _ _ (λ writes.
     subst (λ (space : Space). CarriesOut p w old.heap c.args.activation.now.locals (answer.Writes c.in-Writes.addr c.in-Writes.place c.in-Writes.value) kind others c.args.owner shared s effect false (record old { heap = space }) c.args.pending.now c.args.activation.now.locals given.Nothing) (sym c.set.ensures)
     (carries.writes p w old c.args.pending.now c.args.activation.now.locals others c.args.owner shared s h brought c.in-Writes.addr c.in-Writes.place c.in-Writes.value writes)) does
 
 pub returns-in-Some-clause-carried : goal.returns-in-Some-clause-carried
-returns-in-Some-clause-carried c p array others shared s effect h does =
+returns-in-Some-clause-carried c p args others shared s of_source h does =
     let w = c.args.world.now in
     let kind = result_value c.args.call.now.result in
     let texts = texts_in c.args.call.now.texts.items in
-    let brought = brings (unit_tree p.unit) texts c.args.activation.now.slots.numbers.items c.args.activation.now.slots.buffers.items c.args.store.now c.args.thread c.args.owner others s array in
+    let brought = brought_to p c.args.store.now c.args.activation.now c.args.call.now c.args.thread c.args.owner others s args in
     let old = c.args.store.now in
+    let effect = effect_told w.classes brought shared s of_source in
     let made = subst (λ (l : List (Vec ℕ)). Makes c.classes.result.now (texts_in l) old c.in-Makes.new c.make.new.store c.make.result) c.deref-texts.ensures.value c.make.ensures in
-    carries.by_answer p w old.heap c.args.activation.now.locals kind others c.args.owner shared s effect brought c.args.answer (answer.Makes c.in-Makes.new) c.in-Makes.is _ _ _ _ _ (λ makes.
+    carries.by_answer p w old.heap c.args.activation.now.locals kind others c.args.owner shared s of_source brought c.args.answer (answer.Makes c.in-Makes.new) c.in-Makes.is _ _ _ _ _ (λ makes.
     carries.makes p w old c.args.pending.now c.args.activation.now.locals others c.args.owner shared s h brought c.make.new.store c.in-Makes.new c.in-Some.addr
     (has_made w.classes c.classes.result.now texts old c.make.new.store c.in-Makes.new c.in-Some.addr c.make.result c.classes.ensures.classes made c.in-Some.is) makes) does
 
 pub returns-in-None-clause-carried : goal.returns-in-None-clause-carried
-returns-in-None-clause-carried c p array others shared s effect h does =
+returns-in-None-clause-carried c p args others shared s of_source h does =
     let w = c.args.world.now in
     let kind = result_value c.args.call.now.result in
     let texts = texts_in c.args.call.now.texts.items in
-    let brought = brings (unit_tree p.unit) texts c.args.activation.now.slots.numbers.items c.args.activation.now.slots.buffers.items c.args.store.now c.args.thread c.args.owner others s array in
+    let brought = brought_to p c.args.store.now c.args.activation.now c.args.call.now c.args.thread c.args.owner others s args in
     let old = c.args.store.now in
+    let effect = effect_told w.classes brought shared s of_source in
     let made = subst (λ (l : List (Vec ℕ)). Makes c.classes.result.now (texts_in l) old c.in-Makes.new c.make.new.store c.make.result) c.deref-texts.ensures.value c.make.ensures in
-    carries.by_answer p w old.heap c.args.activation.now.locals kind others c.args.owner shared s effect brought c.args.answer (answer.Makes c.in-Makes.new) c.in-Makes.is _ _ _ _ _ (λ makes.
+    carries.by_answer p w old.heap c.args.activation.now.locals kind others c.args.owner shared s of_source brought c.args.answer (answer.Makes c.in-Makes.new) c.in-Makes.is _ _ _ _ _ (λ makes.
     refused_in p w old.heap c.args.activation.now.locals (answer.Makes c.in-Makes.new) kind others c.args.owner shared s effect old c.make.new.store c.refuse.new.pending c.args.activation.now.locals c.refuse.result
     (unchanged c.classes.result.now texts old c.make.new.store c.in-Makes.new c.make.result made c.in-None.is) c.refuse.ensures.pending c.refuse.ensures.carried
     (carries.refuses_object p w old c.args.pending.now c.args.activation.now.locals others c.args.owner shared s h brought c.in-Makes.new makes (short w.classes c.classes.result.now texts old c.make.new.store c.in-Makes.new c.make.result c.classes.ensures.classes made c.in-None.is))) does
 
 pub returns-in-Some-make-clause-carried : goal.returns-in-Some-make-clause-carried
-returns-in-Some-make-clause-carried c p array others shared s effect h does =
+returns-in-Some-make-clause-carried c p args others shared s of_source h does =
     let w = c.args.world.now in
     let kind = result_value c.args.call.now.result in
     let texts = texts_in c.args.call.now.texts.items in
-    let brought = brings (unit_tree p.unit) texts c.args.activation.now.slots.numbers.items c.args.activation.now.slots.buffers.items c.args.store.now c.args.thread c.args.owner others s array in
+    let brought = brought_to p c.args.store.now c.args.activation.now c.args.call.now c.args.thread c.args.owner others s args in
     let old = c.args.store.now in
+    let effect = effect_told w.classes brought shared s of_source in
     let made = subst (λ (l : List (Vec ℕ)). Makes c.classes-in-Throws.result.now (texts_in l) old (Fresh c.in-Throws.class) c.make-in-Throws.new.store c.make-in-Throws.result) c.deref-texts.ensures.value c.make-in-Throws.ensures in
-    carries.by_answer p w old.heap c.args.activation.now.locals kind others c.args.owner shared s effect brought c.args.answer (answer.Throws c.in-Throws.class) c.in-Throws.is _ _ _ _ _ (λ throws.
+    carries.by_answer p w old.heap c.args.activation.now.locals kind others c.args.owner shared s of_source brought c.args.answer (answer.Throws c.in-Throws.class) c.in-Throws.is _ _ _ _ _ (λ throws.
     subst (λ (g : Given). CarriesOut p w old.heap c.args.activation.now.locals (answer.Throws c.in-Throws.class) kind others c.args.owner shared s effect false c.make-in-Throws.new.store (Some c.in-Some-make.addr) c.args.activation.now.locals g) (sym c.failed.ensures)
     (carries.throws p w old c.args.pending.now c.args.activation.now.locals others c.args.owner shared s h brought c.make-in-Throws.new.store c.in-Throws.class c.in-Some-make.addr
     (has_made w.classes c.classes-in-Throws.result.now texts old c.make-in-Throws.new.store (Fresh c.in-Throws.class) c.in-Some-make.addr c.make-in-Throws.result c.classes-in-Throws.ensures.classes made c.in-Some-make.is) throws)) does
 
 pub returns-in-None-make-clause-carried : goal.returns-in-None-make-clause-carried
-returns-in-None-make-clause-carried c p array others shared s effect h does =
+returns-in-None-make-clause-carried c p args others shared s of_source h does =
     let w = c.args.world.now in
     let kind = result_value c.args.call.now.result in
     let texts = texts_in c.args.call.now.texts.items in
-    let brought = brings (unit_tree p.unit) texts c.args.activation.now.slots.numbers.items c.args.activation.now.slots.buffers.items c.args.store.now c.args.thread c.args.owner others s array in
+    let brought = brought_to p c.args.store.now c.args.activation.now c.args.call.now c.args.thread c.args.owner others s args in
     let old = c.args.store.now in
+    let effect = effect_told w.classes brought shared s of_source in
     let made = subst (λ (l : List (Vec ℕ)). Makes c.classes-in-Throws.result.now (texts_in l) old (Fresh c.in-Throws.class) c.make-in-Throws.new.store c.make-in-Throws.result) c.deref-texts.ensures.value c.make-in-Throws.ensures in
-    carries.by_answer p w old.heap c.args.activation.now.locals kind others c.args.owner shared s effect brought c.args.answer (answer.Throws c.in-Throws.class) c.in-Throws.is _ _ _ _ _ (λ throws.
+    carries.by_answer p w old.heap c.args.activation.now.locals kind others c.args.owner shared s of_source brought c.args.answer (answer.Throws c.in-Throws.class) c.in-Throws.is _ _ _ _ _ (λ throws.
     refused_in p w old.heap c.args.activation.now.locals (answer.Throws c.in-Throws.class) kind others c.args.owner shared s effect old c.make-in-Throws.new.store c.refuse-in-None-make.new.pending c.args.activation.now.locals c.refuse-in-None-make.result
     (unchanged c.classes-in-Throws.result.now texts old c.make-in-Throws.new.store (Fresh c.in-Throws.class) c.make-in-Throws.result made c.in-None-make.is) c.refuse-in-None-make.ensures.pending c.refuse-in-None-make.ensures.carried
     (carries.refuses_exception p w old c.args.pending.now c.args.activation.now.locals others c.args.owner shared s h brought c.in-Throws.class throws (short w.classes c.classes-in-Throws.result.now texts old c.make-in-Throws.new.store (Fresh c.in-Throws.class) c.make-in-Throws.result c.classes-in-Throws.ensures.classes made c.in-None-make.is))) does
 
 pub returns-in-Gives-clause-carried : goal.returns-in-Gives-clause-carried
-returns-in-Gives-clause-carried c p array others shared s effect h does =
+returns-in-Gives-clause-carried c p args others shared s of_source h does =
     let w = c.args.world.now in
     let kind = result_value c.args.call.now.result in
     let texts = texts_in c.args.call.now.texts.items in
-    let brought = brings (unit_tree p.unit) texts c.args.activation.now.slots.numbers.items c.args.activation.now.slots.buffers.items c.args.store.now c.args.thread c.args.owner others s array in
+    let brought = brought_to p c.args.store.now c.args.activation.now c.args.call.now c.args.thread c.args.owner others s args in
     let old = c.args.store.now in
-    carries.by_answer p w old.heap c.args.activation.now.locals kind others c.args.owner shared s effect brought c.args.answer (answer.Gives c.in-Gives.given) c.in-Gives.is _ _ _ _ _ (λ gives.
+    let effect = effect_told w.classes brought shared s of_source in
+    carries.by_answer p w old.heap c.args.activation.now.locals kind others c.args.owner shared s of_source brought c.args.answer (answer.Gives c.in-Gives.given) c.in-Gives.is _ _ _ _ _ (λ gives.
     barriers.noted_so p w old.heap c.args.activation.now.locals (answer.Gives c.in-Gives.given) kind others c.args.owner shared s effect old (noted_at (reference_given c.in-Gives.given) old.heap.marking) c.note_given.new.heap c.args.pending.now c.args.activation.now.locals c.in-Gives.given c.note_given.ensures (barriers.stays_at (reference_given c.in-Gives.given) old.heap.marking)
     (carries.gives p w old c.args.pending.now c.args.activation.now.locals others c.args.owner shared s h brought refl c.in-Gives.given gives)) does
 
@@ -195,8 +193,8 @@ told_on P Q (Err e) f h = h
 
 pub returns-in_default-clause-carried : goal.returns-in_default-clause-carried
 returns-in_default-clause-carried c =
-    told_on _ _ c.carry_out_buffers.result (λ carried told p array others shared s effect h does.
-    told p (result_value c.args.call.now.result) (brings (unit_tree p.unit) (texts_in c.args.call.now.texts.items) c.args.activation.now.slots.numbers.items c.args.activation.now.slots.buffers.items c.args.store.now c.args.thread c.args.owner others s array) others shared s effect h does (ap (λ (l : List Buffer). holding l c.args.store.now.elements c.args.owner) (sym c.deref_mut-in_default.ensures.value)) refl refl) c.carry_out_buffers.ensures.carried
+    told_on _ _ c.carry_out_buffers.result (λ carried told p args others shared s of_source h does.
+    told p (result_value c.args.call.now.result) (brought_to p c.args.store.now c.args.activation.now c.args.call.now c.args.thread c.args.owner others s args) others shared s of_source h does (ap (λ (l : List Buffer). holding l c.args.store.now.elements c.args.owner) (sym c.deref_mut-in_default.ensures.value)) refl refl) c.carry_out_buffers.ensures.carried
 
 -- where nothing was done the slots are as they were
 both_on_err : {T E : Type 0} (P Q R : Type 0) (r : Result T E) → (P → Q → R) → OnErr r P → OnErr r Q → OnErr r R
@@ -218,7 +216,7 @@ returns-in_default-clause-activation c =
 pub carry_out_buffers-requires-clause-possible : goal.carry_out_buffers-requires-clause-possible
 carry_out_buffers-requires-clause-possible c =
     let r = c.requires.possible in
-    (r.0, result_value c.args.call.now.result, brings (unit_tree r.0.unit) (texts_in c.args.call.now.texts.items) c.args.activation.now.slots.numbers.items c.args.activation.now.slots.buffers.items c.args.store.now c.args.thread c.args.owner r.2 r.4 r.1, r.2, r.3, r.4, r.5, r.6, r.7, ap (λ (l : List Buffer). holding l c.args.store.now.elements c.args.owner) (sym c.deref_mut-in_default.ensures.value), refl, refl)
+    (r.0, result_value c.args.call.now.result, brought_to r.0 c.args.store.now c.args.activation.now c.args.call.now c.args.thread c.args.owner r.2 r.4 r.1, r.2, r.3, r.4, r.5, r.6, r.7, ap (λ (l : List Buffer). holding l c.args.store.now.elements c.args.owner) (sym c.deref_mut-in_default.ensures.value), refl, refl)
 
 -- a message and an exception were made in the store of the world's classes
 both_made : (classes table : Classes) (texts : List (List ℕ)) (old after : Store) (class : ClassId) (place a : ℕ) (o : Option ℕ) → table ≡ classes → Raises table texts old class place after o → o ≡ Some a → Raises classes texts old class place after (Some a)
@@ -233,42 +231,45 @@ raise-requires-clause-class c =
     small c.args.world.now c.in-Raises.class.number c.threads.ensures.sound (raised (as_answer c.in-Raises.is r.7)).high
 
 pub returns-in-Some-raise-clause-carried : goal.returns-in-Some-raise-clause-carried
-returns-in-Some-raise-clause-carried c p array others shared s effect h does =
+returns-in-Some-raise-clause-carried c p args others shared s of_source h does =
     let w = c.args.world.now in
     let kind = result_value c.args.call.now.result in
     let texts = texts_in c.args.call.now.texts.items in
-    let brought = brings (unit_tree p.unit) texts c.args.activation.now.slots.numbers.items c.args.activation.now.slots.buffers.items c.args.store.now c.args.thread c.args.owner others s array in
+    let brought = brought_to p c.args.store.now c.args.activation.now c.args.call.now c.args.thread c.args.owner others s args in
     let old = c.args.store.now in
+    let effect = effect_told w.classes brought shared s of_source in
     let raised = subst (λ (l : List (Vec ℕ)). Raises c.classes-in-Raises.result.now (texts_in l) old c.in-Raises.class c.in-Raises.place c.raise.new.store c.raise.result) c.deref-texts.ensures.value c.raise.ensures in
     let class = c.in-Raises.class in
     let place = c.in-Raises.place in
     let made = both_made w.classes c.classes-in-Raises.result.now texts old c.raise.new.store class place c.in-Some-raise.exception c.raise.result c.classes-in-Raises.ensures.classes raised c.in-Some-raise.is in
-    carries.by_answer p w old.heap c.args.activation.now.locals kind others c.args.owner shared s effect brought c.args.answer (answer.Raises class place) c.in-Raises.is _ _ _ _ _ (λ raises.
+    carries.by_answer p w old.heap c.args.activation.now.locals kind others c.args.owner shared s of_source brought c.args.answer (answer.Raises class place) c.in-Raises.is _ _ _ _ _ (λ raises.
     carries.raises p w old c.args.pending.now c.args.activation.now.locals others c.args.owner shared s h brought class place raises made.0 c.raise.new.store made.1 c.in-Some-raise.exception made.2 made.3) does
 
 pub returns-in-None-raise-clause-carried : goal.returns-in-None-raise-clause-carried
-returns-in-None-raise-clause-carried c p array others shared s effect h does =
+returns-in-None-raise-clause-carried c p args others shared s of_source h does =
     let w = c.args.world.now in
     let kind = result_value c.args.call.now.result in
     let texts = texts_in c.args.call.now.texts.items in
-    let brought = brings (unit_tree p.unit) texts c.args.activation.now.slots.numbers.items c.args.activation.now.slots.buffers.items c.args.store.now c.args.thread c.args.owner others s array in
+    let brought = brought_to p c.args.store.now c.args.activation.now c.args.call.now c.args.thread c.args.owner others s args in
     let old = c.args.store.now in
+    let effect = effect_told w.classes brought shared s of_source in
     let raised = subst (λ (l : List (Vec ℕ)). Raises c.classes-in-Raises.result.now (texts_in l) old c.in-Raises.class c.in-Raises.place c.raise.new.store c.raise.result) c.deref-texts.ensures.value c.raise.ensures in
     let class = c.in-Raises.class in
     let place = c.in-Raises.place in
     let none = none_made w.classes c.classes-in-Raises.result.now texts old c.raise.new.store class place c.raise.result c.classes-in-Raises.ensures.classes raised c.in-None-raise.is in
-    carries.by_answer p w old.heap c.args.activation.now.locals kind others c.args.owner shared s effect brought c.args.answer (answer.Raises class place) c.in-Raises.is _ _ _ _ _ (λ raises.
+    carries.by_answer p w old.heap c.args.activation.now.locals kind others c.args.owner shared s of_source brought c.args.answer (answer.Raises class place) c.in-Raises.is _ _ _ _ _ (λ raises.
     refused_in p w old.heap c.args.activation.now.locals (answer.Raises class place) kind others c.args.owner shared s effect old c.raise.new.store c.refuse-in-None-raise.new.pending c.args.activation.now.locals c.refuse-in-None-raise.result none.0 c.refuse-in-None-raise.ensures.pending c.refuse-in-None-raise.ensures.carried
     (carries.refuses_raise p w old c.args.pending.now c.args.activation.now.locals others c.args.owner shared s h brought class place raises none.1)) does
 
 pub returns-in-Pends-clause-carried : goal.returns-in-Pends-clause-carried
-returns-in-Pends-clause-carried c p array others shared s effect h does =
+returns-in-Pends-clause-carried c p args others shared s of_source h does =
     let w = c.args.world.now in
     let kind = result_value c.args.call.now.result in
     let texts = texts_in c.args.call.now.texts.items in
-    let brought = brings (unit_tree p.unit) texts c.args.activation.now.slots.numbers.items c.args.activation.now.slots.buffers.items c.args.store.now c.args.thread c.args.owner others s array in
+    let brought = brought_to p c.args.store.now c.args.activation.now c.args.call.now c.args.thread c.args.owner others s args in
     let old = c.args.store.now in
-    carries.by_answer p w old.heap c.args.activation.now.locals kind others c.args.owner shared s effect brought c.args.answer (answer.Pends c.in-Pends.exception c.in-Pends.given) c.in-Pends.is _ _ _ _ _ (λ pends.
+    let effect = effect_told w.classes brought shared s of_source in
+    carries.by_answer p w old.heap c.args.activation.now.locals kind others c.args.owner shared s of_source brought c.args.answer (answer.Pends c.in-Pends.exception c.in-Pends.given) c.in-Pends.is _ _ _ _ _ (λ pends.
     barriers.noted_so p w old.heap c.args.activation.now.locals (answer.Pends c.in-Pends.exception c.in-Pends.given) kind others c.args.owner shared s effect old (noted_at (reference_given c.in-Pends.given) (noted_at c.in-Pends.exception old.heap.marking)) c.note_pending.new.heap c.in-Pends.exception c.args.activation.now.locals c.in-Pends.given c.note_pending.ensures (barriers.stays_both c.in-Pends.exception (reference_given c.in-Pends.given) old.heap.marking)
     (carries.pends p w old c.args.pending.now c.args.activation.now.locals others c.args.owner shared s h brought refl c.in-Pends.exception c.in-Pends.given pends)) does
 
@@ -288,21 +289,23 @@ pub returns-in-Pends-clause-barrier : goal.returns-in-Pends-clause-barrier
 returns-in-Pends-clause-barrier c = barriers.notes_pending c.args.store.now.heap c.note_pending.new.heap c.args.answer c.in-Pends.exception c.in-Pends.given c.in-Pends.is c.note_pending.ensures
 
 pub returns-in-CopiesOut-clause-carried : goal.returns-in-CopiesOut-clause-carried
-returns-in-CopiesOut-clause-carried c p array others shared s effect h does =
+returns-in-CopiesOut-clause-carried c p args others shared s of_source h does =
     let w = c.args.world.now in
     let kind = result_value c.args.call.now.result in
-    let brought = brings (unit_tree p.unit) (texts_in c.args.call.now.texts.items) c.args.activation.now.slots.numbers.items c.args.activation.now.slots.buffers.items c.args.store.now c.args.thread c.args.owner others s array in
+    let brought = brought_to p c.args.store.now c.args.activation.now c.args.call.now c.args.thread c.args.owner others s args in
     let old = c.args.store.now in
-    carries.by_answer p w old.heap c.args.activation.now.locals kind others c.args.owner shared s effect brought c.args.answer (answer.CopiesOut c.in-CopiesOut.region) c.in-CopiesOut.is _ _ _ _ _ (λ copies.
+    let effect = effect_told w.classes brought shared s of_source in
+    carries.by_answer p w old.heap c.args.activation.now.locals kind others c.args.owner shared s of_source brought c.args.answer (answer.CopiesOut c.in-CopiesOut.region) c.in-CopiesOut.is _ _ _ _ _ (λ copies.
     carries.copies_out p w old c.args.pending.now c.args.activation.now.locals others c.args.owner shared s h brought c.in-CopiesOut.region copies) does
 
 pub returns-in-CopiesIn-clause-carried : goal.returns-in-CopiesIn-clause-carried
-returns-in-CopiesIn-clause-carried c p array others shared s effect h does =
+returns-in-CopiesIn-clause-carried c p args others shared s of_source h does =
     let w = c.args.world.now in
     let kind = result_value c.args.call.now.result in
-    let brought = brings (unit_tree p.unit) (texts_in c.args.call.now.texts.items) c.args.activation.now.slots.numbers.items c.args.activation.now.slots.buffers.items c.args.store.now c.args.thread c.args.owner others s array in
+    let brought = brought_to p c.args.store.now c.args.activation.now c.args.call.now c.args.thread c.args.owner others s args in
     let old = c.args.store.now in
-    carries.by_answer p w old.heap c.args.activation.now.locals kind others c.args.owner shared s effect brought c.args.answer (answer.CopiesIn c.in-CopiesIn.region) c.in-CopiesIn.is _ _ _ _ _ (λ copies.
+    let effect = effect_told w.classes brought shared s of_source in
+    carries.by_answer p w old.heap c.args.activation.now.locals kind others c.args.owner shared s of_source brought c.args.answer (answer.CopiesIn c.in-CopiesIn.region) c.in-CopiesIn.is _ _ _ _ _ (λ copies.
     subst (λ (space : Space). CarriesOut p w old.heap c.args.activation.now.locals (answer.CopiesIn c.in-CopiesIn.region) kind others c.args.owner shared s effect false (record old { heap = space }) c.args.pending.now c.args.activation.now.locals given.Nothing) (ap (space_with old.heap c.in-CopiesIn.region) (sym c.deref.ensures.value) ∙ sym c.copy_in.ensures)
     (carries.copies_in p w old c.args.pending.now c.args.activation.now.locals others c.args.owner shared s h brought c.in-CopiesIn.region copies)) does
 

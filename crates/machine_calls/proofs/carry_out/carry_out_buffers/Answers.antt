@@ -44,33 +44,33 @@ release-requires-clause-slot c =
     (buffers.slot_there r.0 w old c.args.pending.now c.args.locals.now r.3 c.args.owner r.4 r.5 r.7 r.2 c.in-Releases.released (released (as_answer c.in-Releases.is r.8)) (ap (λ (b : HeldBuffers). b.copies) r.9) (ap (λ (b : HeldBuffers). b.owner) r.9))
 
 pub returns-in_ok-buffer-in-AcquiresCopy-clause-carried : goal.returns-in_ok-buffer-in-AcquiresCopy-clause-carried
-returns-in_ok-buffer-in-AcquiresCopy-clause-carried c p kind brought others shared s effect h does buffers_are uses thread =
+returns-in_ok-buffer-in-AcquiresCopy-clause-carried c p kind brought others shared s of_source h does buffers_are uses thread =
     let w = c.args.world.now in
     let old = c.args.store.now in
     let a = c.in-AcquiresCopy.object in
-    carries.by_answer p w old.heap c.args.locals.now kind others c.args.owner shared s effect brought c.args.answer (answer.AcquiresCopy a) c.in-AcquiresCopy.is _ _ _ _ _ (λ acquires.
+    carries.by_answer p w old.heap c.args.locals.now kind others c.args.owner shared s of_source brought c.args.answer (answer.AcquiresCopy a) c.in-AcquiresCopy.is _ _ _ _ _ (λ acquires.
     buffers.acquires_copy p w old c.args.pending.now c.args.locals.now others c.args.owner shared s h brought a acquires uses c.in_ok-buffer-in-AcquiresCopy.buffer c.acquire_copy.new.elements c.in_ok-buffer-in-AcquiresCopy.ensures.ok) does
 
 pub returns-in-AcquiresView-clause-carried : goal.returns-in-AcquiresView-clause-carried
-returns-in-AcquiresView-clause-carried c p kind brought others shared s effect h does buffers_are uses thread =
+returns-in-AcquiresView-clause-carried c p kind brought others shared s of_source h does buffers_are uses thread =
     let w = c.args.world.now in
     let old = c.args.store.now in
     let a = c.in-AcquiresView.object in
-    carries.by_answer p w old.heap c.args.locals.now kind others c.args.owner shared s effect brought c.args.answer (answer.AcquiresView a) c.in-AcquiresView.is _ _ _ _ _ (λ acquires.
+    carries.by_answer p w old.heap c.args.locals.now kind others c.args.owner shared s of_source brought c.args.answer (answer.AcquiresView a) c.in-AcquiresView.is _ _ _ _ _ (λ acquires.
     buffers.acquires_view p w old c.args.pending.now c.args.locals.now others c.args.owner shared s h brought a acquires uses c.acquire_view-buffer.result c.acquire_view-buffer.new.heap c.acquire_view-buffer.new.views c.acquire_view-buffer.ensures) does
 
 pub returns-in-Releases-clause-carried : goal.returns-in-Releases-clause-carried
-returns-in-Releases-clause-carried c p kind brought others shared s effect h does buffers_are uses thread =
+returns-in-Releases-clause-carried c p kind brought others shared s of_source h does buffers_are uses thread =
     let w = c.args.world.now in
     let old = c.args.store.now in
     let r = c.in-Releases.released in
-    carries.by_answer p w old.heap c.args.locals.now kind others c.args.owner shared s effect brought c.args.answer (answer.Releases r) c.in-Releases.is _ _ _ _ _ (λ releases.
+    carries.by_answer p w old.heap c.args.locals.now kind others c.args.owner shared s of_source brought c.args.answer (answer.Releases r) c.in-Releases.is _ _ _ _ _ (λ releases.
     buffers.releases p w old c.args.pending.now c.args.locals.now others c.args.owner shared s h brought r releases (ap (λ (b : HeldBuffers). b.copies) buffers_are) (ap (λ (b : HeldBuffers). b.owner) buffers_are) c.release.new.heap c.release.new.elements c.release.new.views c.release.ensures.released) does
 
 pub returns-in_default-clause-carried : goal.returns-in_default-clause-carried
 returns-in_default-clause-carried c =
     IfOk-weaker c.carry_out_monitors.result _ _
-    (λ carried told p kind brought others shared s effect h does buffers_are uses thread. told p kind brought others c.args.owner shared s effect h does thread) c.carry_out_monitors.ensures.carried
+    (λ carried told p kind brought others shared s of_source h does buffers_are uses thread. told p kind brought others c.args.owner shared s of_source h does thread) c.carry_out_monitors.ensures.carried
 
 pub returns-in_default-clause-new_copy : goal.returns-in_default-clause-new_copy
 returns-in_default-clause-new_copy c = IfOk-weaker c.carry_out_monitors.result _ _ (λ carried told. told c.args.store.now.elements) c.carry_out_monitors.ensures.new_copy
