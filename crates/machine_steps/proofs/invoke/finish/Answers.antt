@@ -2,10 +2,9 @@ use Rattle.std.specs.Vec.{with_items}
 use Rattle.std.specs.Prelude.{slice_get, slice_set, if◌then◌else◌}
 use Rattle.std.proofs.lemmas.List.{with_items_is, places, length-set}
 use Rattle.std.proofs.Common.{rules, ◌≡◌, ℕ, Bool, true, false, List, Option, length, refl, sym, ap, ◌∙◌, subst, arith}
-use Rattle.base.specs.Bytes.{Identifier}
 use Rattle.code.specs.Call.{call_view}
 use Rattle.code.specs.declared.instr.Call.{Call}
-use Rattle.code.specs.declared.instr.LocalArray.{LocalArray}
+use Rattle.semantics.specs.Arguments.{Actual}
 use Rattle.code.specs.declared.instr.Target.{Target}
 use Rattle.code_meaning.specs.Lowered.{Lowered}
 use Rattle.heap.specs.Heap.{Space}
@@ -20,7 +19,7 @@ use Rattle.semantics.specs.Thread.{Shared, Thread, sight_of}
 use Rattle.semantics.specs.World.{World}
 use Rattle.semantics_safety.specs.Owners.{Owners}
 use Rattle.tables.specs.Locals.{LocalTable}
-use Rattle.machine_answers.specs.Answers.{IsAnswer, array_given}
+use Rattle.machine_answers.specs.Answers.{IsAnswer}
 use Rattle.machine_scenes.specs.Buffers.{Acquired, gives_up}
 use Rattle.machine_calls.specs.CarriedOut.{CarriesOut, GoesByRoom, buffers_after, made_by, shared_after, slots_after}
 use Rattle.machine_answers.specs.Copies.{words_of}
@@ -42,7 +41,7 @@ use Rattle.machine_steps.specs.Invoked.{AtCall, IsAnswered, done_or_refused, exe
 use Rattle.machine_steps.specs.declared.invoke.Invoked.{Invoked}
 use Rattle.machine_steps.specs.declared.invoke.Invoked.TheVariants as invoked
 use Rattle.machine_steps.specs.Received.{told_slot, statics_with, HasBuffer, HasField, HasNumber, HasReference, HasRoom, HasStatic, HasTold, Receives}
-use Rattle.machine_steps.proofs.AnsweredCalls.{IsNoCall, answered, brings, can_carry, does, free, it, kind_is, no_call, worked}
+use Rattle.machine_steps.proofs.AnsweredCalls.{IsNoCall, answered, brings, can_carry, does, free, it, kind_is, no_call, told, worked}
 use Rattle.machine_steps.proofs.AskedCalls.{has_static, has_target, has_told, room_after}
 use Rattle.machine_steps.proofs.CallInstructions.{goes_on}
 use Rattle.machine_steps.proofs.invoke.finish.Goals as goal
@@ -54,9 +53,9 @@ module _ (p : Lowered) (w : World) (store : Store) (pending : Option ℕ) (call 
 
   -- the kind of its result
   module _ (kind : ResultKind) (same : kind ≡ (prototype (function_value function.function)).result) where
-    -- the local array that the call names
-    abbrev named : Option (Identifier × LocalArray)
-    named = array_given (call_view function).operands (it p w store pending call function others k owner own shared s task rest h answer given plain).args
+    -- the arguments of the source's call
+    abbrev args : List Actual
+    args = (it p w store pending call function others k owner own shared s task rest h answer given plain).args
 
     -- what was carried out
     module _ (refused : Bool) (after : Store) (exception : Option ℕ) (locals : LocalTable) (g : Given) (carried : CarriesOut p w store.heap call.locals answer kind others owner shared s effect refused after exception locals g) where
@@ -91,11 +90,11 @@ carry_out-requires-clause-possible c =
     let w = c.args.world.now in
     let kind = result_value c.args.call.now.result in (
       c.args.program.now,
-      named c.args.program.now w c.args.store.now c.args.pending.now c.args.activation.now c.args.call.now a.0 c.args.thread c.args.owner a.1 a.2 a.3 a.4 a.5 a.6 c.args.answer c.requires.answered (no_call c.args.answer c.requires.runs) kind c.requires.prepared.result,
+      args c.args.program.now w c.args.store.now c.args.pending.now c.args.activation.now c.args.call.now a.0 c.args.thread c.args.owner a.1 a.2 a.3 a.4 a.5 a.6 c.args.answer c.requires.answered (no_call c.args.answer c.requires.runs) kind c.requires.prepared.result,
       a.0,
       a.2,
       a.3,
-      effect c.args.program.now w c.args.store.now c.args.pending.now c.args.activation.now c.args.call.now a.0 c.args.thread c.args.owner a.1 a.2 a.3 a.4 a.5 a.6 c.args.answer c.requires.answered (no_call c.args.answer c.requires.runs),
+      told c.args.program.now w c.args.store.now c.args.pending.now c.args.activation.now c.args.call.now a.0 c.args.thread c.args.owner a.1 a.2 a.3 a.4 a.5 a.6 c.args.answer c.requires.answered (no_call c.args.answer c.requires.runs),
       can_carry c.args.program.now w c.args.store.now c.args.pending.now c.args.activation.now c.args.call.now a.0 c.args.thread c.args.owner a.1 a.2 a.3 a.4 a.5 a.6 c.args.answer c.requires.answered (no_call c.args.answer c.requires.runs) kind c.requires.prepared.result,
       answered c.args.program.now w c.args.store.now c.args.pending.now c.args.activation.now c.args.call.now a.0 c.args.thread c.args.owner a.1 a.2 a.3 a.4 a.5 a.6 c.args.answer c.requires.answered (no_call c.args.answer c.requires.runs) kind c.requires.prepared.result,
     )
@@ -133,7 +132,7 @@ receive-requires-clause-static_target c =
     let kind = result_value c.args.call.now.result in
     let same = c.requires.prepared.result in
     static_there c.args.program.now w c.args.store.now c.args.pending.now c.args.activation.now c.args.call.now a.0 c.args.thread c.args.owner a.1 a.2 a.3 a.4 a.5 a.6 c.args.answer c.requires.answered (no_call c.args.answer c.requires.runs) kind same c.in-Ok.carried.refused c.carry_out.new.store c.carry_out.new.pending c.carry_out.new.activation.locals c.in-Ok.carried.given
-    (c.in-Ok.ensures.carried c.args.program.now (named c.args.program.now w c.args.store.now c.args.pending.now c.args.activation.now c.args.call.now a.0 c.args.thread c.args.owner a.1 a.2 a.3 a.4 a.5 a.6 c.args.answer c.requires.answered (no_call c.args.answer c.requires.runs) kind same) a.0 a.2 a.3 _ (can_carry c.args.program.now w c.args.store.now c.args.pending.now c.args.activation.now c.args.call.now a.0 c.args.thread c.args.owner a.1 a.2 a.3 a.4 a.5 a.6 c.args.answer c.requires.answered (no_call c.args.answer c.requires.runs) kind same)
+    (c.in-Ok.ensures.carried c.args.program.now (args c.args.program.now w c.args.store.now c.args.pending.now c.args.activation.now c.args.call.now a.0 c.args.thread c.args.owner a.1 a.2 a.3 a.4 a.5 a.6 c.args.answer c.requires.answered (no_call c.args.answer c.requires.runs) kind same) a.0 a.2 a.3 _ (can_carry c.args.program.now w c.args.store.now c.args.pending.now c.args.activation.now c.args.call.now a.0 c.args.thread c.args.owner a.1 a.2 a.3 a.4 a.5 a.6 c.args.answer c.requires.answered (no_call c.args.answer c.requires.runs) kind same)
     (answered c.args.program.now w c.args.store.now c.args.pending.now c.args.activation.now c.args.call.now a.0 c.args.thread c.args.owner a.1 a.2 a.3 a.4 a.5 a.6 c.args.answer c.requires.answered (no_call c.args.answer c.requires.runs) kind same))
     c.deref_mut.result.now c.deref_mut.ensures.value
 
@@ -144,7 +143,7 @@ receive-requires-clause-room c =
     let kind = result_value c.args.call.now.result in
     let same = c.requires.prepared.result in
     room_there c.args.program.now w c.args.store.now c.args.pending.now c.args.activation.now c.args.call.now a.0 c.args.thread c.args.owner a.1 a.2 a.3 a.4 a.5 a.6 c.args.answer c.requires.answered (no_call c.args.answer c.requires.runs) kind same c.in-Ok.carried.refused c.carry_out.new.store c.carry_out.new.pending c.carry_out.new.activation.locals c.in-Ok.carried.given
-    (c.in-Ok.ensures.carried c.args.program.now (named c.args.program.now w c.args.store.now c.args.pending.now c.args.activation.now c.args.call.now a.0 c.args.thread c.args.owner a.1 a.2 a.3 a.4 a.5 a.6 c.args.answer c.requires.answered (no_call c.args.answer c.requires.runs) kind same) a.0 a.2 a.3 _ (can_carry c.args.program.now w c.args.store.now c.args.pending.now c.args.activation.now c.args.call.now a.0 c.args.thread c.args.owner a.1 a.2 a.3 a.4 a.5 a.6 c.args.answer c.requires.answered (no_call c.args.answer c.requires.runs) kind same)
+    (c.in-Ok.ensures.carried c.args.program.now (args c.args.program.now w c.args.store.now c.args.pending.now c.args.activation.now c.args.call.now a.0 c.args.thread c.args.owner a.1 a.2 a.3 a.4 a.5 a.6 c.args.answer c.requires.answered (no_call c.args.answer c.requires.runs) kind same) a.0 a.2 a.3 _ (can_carry c.args.program.now w c.args.store.now c.args.pending.now c.args.activation.now c.args.call.now a.0 c.args.thread c.args.owner a.1 a.2 a.3 a.4 a.5 a.6 c.args.answer c.requires.answered (no_call c.args.answer c.requires.runs) kind same)
     (answered c.args.program.now w c.args.store.now c.args.pending.now c.args.activation.now c.args.call.now a.0 c.args.thread c.args.owner a.1 a.2 a.3 a.4 a.5 a.6 c.args.answer c.requires.answered (no_call c.args.answer c.requires.runs) kind same))
 
 -- it was refused
@@ -161,7 +160,7 @@ returns-in-Ok-clause-refused c is =
     let same = c.requires.prepared.result in
     let does = effect c.args.program.now w store c.args.pending.now c.args.activation.now c.args.call.now a.0 c.args.thread c.args.owner a.1 a.2 a.3 a.4 a.5 a.6 c.args.answer c.requires.answered (no_call c.args.answer c.requires.runs) in
     let answer = answered c.args.program.now w store c.args.pending.now c.args.activation.now c.args.call.now a.0 c.args.thread c.args.owner a.1 a.2 a.3 a.4 a.5 a.6 c.args.answer c.requires.answered (no_call c.args.answer c.requires.runs) kind same in
-    let carried = c.in-Ok.ensures.carried c.args.program.now (named c.args.program.now w store c.args.pending.now c.args.activation.now c.args.call.now a.0 c.args.thread c.args.owner a.1 a.2 a.3 a.4 a.5 a.6 c.args.answer c.requires.answered (no_call c.args.answer c.requires.runs) kind same) a.0 a.2 a.3 does (can_carry c.args.program.now w store c.args.pending.now c.args.activation.now c.args.call.now a.0 c.args.thread c.args.owner a.1 a.2 a.3 a.4 a.5 a.6 c.args.answer c.requires.answered (no_call c.args.answer c.requires.runs) kind same) answer in
+    let carried = c.in-Ok.ensures.carried c.args.program.now (args c.args.program.now w store c.args.pending.now c.args.activation.now c.args.call.now a.0 c.args.thread c.args.owner a.1 a.2 a.3 a.4 a.5 a.6 c.args.answer c.requires.answered (no_call c.args.answer c.requires.runs) kind same) a.0 a.2 a.3 _ (can_carry c.args.program.now w store c.args.pending.now c.args.activation.now c.args.call.now a.0 c.args.thread c.args.owner a.1 a.2 a.3 a.4 a.5 a.6 c.args.answer c.requires.answered (no_call c.args.answer c.requires.runs) kind same) answer in
     let refused = was_refused c.in-Ok.carried.refused c.done_or_refused.result c.done_or_refused.ensures (cc (is)) in
     let short = subst (λ (b : Bool). GoesByRoom b (sizes (made_by w.classes does)) store.heap c.carry_out.new.store.heap) refused carried.room in
     omega (arith, short.0, cells_made w.classes (brings c.args.program.now w store c.args.pending.now c.args.activation.now c.args.call.now a.0 c.args.thread c.args.owner a.1 a.2 a.3 a.4 a.5 a.6 c.args.answer c.requires.answered (no_call c.args.answer c.requires.runs)) store.heap c.args.activation.now.locals a.2 a.3 answer)
@@ -195,17 +194,18 @@ returns-in-Ok-clause-done c others own shared s task rest h =
     let refused = c.in-Ok.carried.refused in
     let g = c.in-Ok.carried.given in
     let is = kind_is p w store pending activation call others k owner own shared s task rest h c.args.answer c.requires.answered (no_call c.args.answer c.requires.runs) kind same in
-    let does = effect p w store pending activation call others k owner own shared s task rest h c.args.answer c.requires.answered (no_call c.args.answer c.requires.runs) in
+    let of_source = told p w store pending activation call others k owner own shared s task rest h c.args.answer c.requires.answered (no_call c.args.answer c.requires.runs) in
     let answer = answered p w store pending activation call others k owner own shared s task rest h c.args.answer c.requires.answered (no_call c.args.answer c.requires.runs) kind same in
-    let carried = c.in-Ok.ensures.carried p (named p w store pending activation call others k owner own shared s task rest h c.args.answer c.requires.answered (no_call c.args.answer c.requires.runs) kind same) others shared s does (can_carry p w store pending activation call others k owner own shared s task rest h c.args.answer c.requires.answered (no_call c.args.answer c.requires.runs) kind same) answer in
+    let carried = c.in-Ok.ensures.carried p (args p w store pending activation call others k owner own shared s task rest h c.args.answer c.requires.answered (no_call c.args.answer c.requires.runs) kind same) others shared s _ (can_carry p w store pending activation call others k owner own shared s task rest h c.args.answer c.requires.answered (no_call c.args.answer c.requires.runs) kind same) answer in
     let left = c.carry_out.new.activation in
     let after = with_items c.carry_out.new.store.statics c.receive.new.statics in
     let final : Store = record c.carry_out.new.store { statics = after } in
     subst (λ (done : Executed). Executes p w store final others k owner own shared s rest c.receive.new.activation c.carry_out.new.pending (effect_of (sight_of shared s) task) done) (ap (executed_as call.line) (sym c.done_or_refused.ensures))
     (executes p w store final others k owner own shared s rest c.receive.new.activation c.carry_out.new.pending (effect_of (sight_of shared s) task) call.line refused
-    (goes_on p w store pending activation call others k owner own shared s task rest h c.args.answer (worked p w store pending activation call others k owner own shared s task rest h c.args.answer c.requires.answered (no_call c.args.answer c.requires.runs)) c.requires.answered.sound c.requires.runs
+    (goes_on p w store pending activation call others k owner own shared s task rest h c.args.answer (worked p w store pending activation call others k owner own shared s task rest h c.args.answer c.requires.answered (no_call c.args.answer c.requires.runs))
+    (subst (λ (x : ResultKind). IsAnswer w.classes (brings p w store pending activation call others k owner own shared s task rest h c.args.answer c.requires.answered (no_call c.args.answer c.requires.runs)) store.heap activation.locals shared s c.args.answer x of_source) is answer)
+    c.requires.answered.sound c.requires.runs
     (free p w store pending activation call others k owner own shared s task rest h c.args.answer c.requires.answered (no_call c.args.answer c.requires.runs))
-    (subst (λ (x : ResultKind). IsAnswer w.classes (brings p w store pending activation call others k owner own shared s task rest h c.args.answer c.requires.answered (no_call c.args.answer c.requires.runs)) store.heap activation.locals shared s c.args.answer x does) is answer)
     refused c.carry_out.new.store c.carry_out.new.pending c.carry_out.new.activation.locals g
     (carried_as p w store pending activation call others k owner own shared s task rest h c.args.answer c.requires.answered (no_call c.args.answer c.requires.runs) kind same refused c.carry_out.new.store c.carry_out.new.pending c.carry_out.new.activation.locals g carried)
     c.frames.ensures.stacked c.in-Ok.ensures.copies c.in-Ok.ensures.new_copy
