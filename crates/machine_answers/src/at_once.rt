@@ -2,32 +2,36 @@
 //! no check stops it. None says nothing of a call. Here checks and answers are one piece of code, so nothing is looked up
 //! twice.
 
-ghost use Rattle.std.specs.Prelude.{◌≡◌, ◌<◌, ℕ, Bool, true, false, None, Some, [], ◌∷◌, is_some, length, slice_get, IfSome};
+ghost use Rattle.std.specs.Prelude.{◌≡◌, ◌<◌, ℕ, Bool, true, false, None, Some, [], ◌∷◌, is_some, length, map, slice_get, IfSome};
+ghost use Rattle.std.specs.List.{list_any};
 ghost use Rattle.class_rules.specs.Class.{assignable};
 ghost use Rattle.class_rules.specs.Fields.{layout};
 ghost use Rattle.class_rules.specs.Grown.{IsGrown};
 ghost use Rattle.code.specs.Call.{call_view};
 ghost use Rattle.class_queries.specs.Kinds.{class_misfits};
 ghost use Rattle.heap.specs.Heap.{values_at, IsAddress};
-ghost use Rattle.jni.specs.Prototype.{ClassObject, ObjectArray};
+ghost use Rattle.jni.specs.Prototype.{ClassObject, MethodID, ObjectArray};
 ghost use Rattle.jni.specs.Table.{function_value};
 ghost use Rattle.machine_answers.specs.AtOnce.{field_in_spot};
-ghost use Rattle.machine_answers.specs.Checked.{misfits, trap_found};
-ghost use Rattle.machine_answers.specs.Sights.{element_wanted};
+ghost use Rattle.machine_answers.specs.Checked.{called, calls_well, function_in, misfits, returns, takes, takes_all, some_misfit, some_missing, trap_found};
+ghost use Rattle.machine_answers.specs.Sights.{element_wanted, gives_deleted};
 ghost use Rattle.machine_answers.specs.WorkedOut.{declaring, element_there, field, index_there, place_of_static, place_there, stack_number, value_there, IsWorkedOut};
-ghost use Rattle.machine_scenes.specs.Given.{class_there, field_at, field_there, operand_at, AreAddresses, AreHandles, FieldIsThere, ReferenceIsThere};
+ghost use Rattle.machine_scenes.specs.Given.{class_there, field_at, field_there, method_at, operand_at, operand_of, AreAddresses, AreHandles, FieldIsThere, ReferenceIsThere};
 ghost use Rattle.machine_scenes.specs.Locals.{locals_after};
 ghost use Rattle.machine_scenes.specs.Scenes.{scene_view};
+ghost use Rattle.machine_scenes.specs.Statics.{References};
+ghost use Rattle.syntax.specs.Tree.{Function};
+ghost use Rattle.syntax.specs.Views.{parameter_tree, parameter_type_tree, unit_tree};
 ghost use Rattle.tables.specs.Locals.{has_room};
 ghost use Rattle.machine_answers.specs.declared.answer.Given.TheVariants.{Number, Reference};
-ghost use Rattle.machine_answers.specs.declared.answer.Answer.TheVariants.{Gives, Writes, Deletes};
+ghost use Rattle.machine_answers.specs.declared.answer.Answer.TheVariants.{Calls, Gives, Writes, Deletes};
 
 use crate::answer::{
     address_in, argument, count_there, field_place, held_reference, holder_of_static, name_of,
     place_of_static, stored, value_of_static, value_there, word_in,
 };
 use crate::arrays::{index_in, stack_number};
-use crate::check::{asked_type, fits_type, has_static};
+use crate::check::{asked_type, fits_type, function_in, has_static, returns};
 use class_queries::{holds_number, holds_reference};
 use class_rules::ClassId;
 use classes::built_ins::CLASS;
@@ -35,8 +39,10 @@ use classes::class::{ClassKind, FieldHandle};
 use code::instr::{Call, Operand};
 use heap::{Addr, Value};
 use jni::JniFunction;
+use machine_scenes::handle::{Handle, MethodHandle};
 use machine_scenes::operands::{class_there, declaring, field_in, is_static, type_of};
 use machine_scenes::scene::Scene;
+use syntax::{Parameter, ParameterType};
 use tables::{Local, Locals};
 
 /// A change of a value of the object at an address, by its place, counted from 0.
@@ -463,5 +469,134 @@ pub fn deleted_at_once(scene: &Scene<'_>, call: &Call) -> Option<Local>
             _ => None,
         },
         _ => None,
+    }
+}
+
+/// The method that a call calls, where no check but that of how deep calls are stops it.
+#[inline(always)]
+pub fn method_at_once(scene: &Scene<'_>, locals: &Locals, call: &Call) -> Option<MethodHandle>
+    requires objects { AreAddresses scene.now.heap.now scene.now.references call.now.operands.items }
+    ensures free { IfSome result (λ method. trap_found (scene_view scene.now)
+        (has_room (locals_after (function_value call.now.function) locals.now))
+        (element_wanted call.now.target) (function_value call.now.function) call.now.operands.items ≡ None) }
+    ensures works { IfSome result (λ method. IsWorkedOut (scene_view scene.now) (call_view call.now)
+        (function_value call.now.function) Calls) }
+    ensures method { IfSome result (λ method. method_at scene.now.fields.now (operand_of call.now.operands.items 1) ≡ Some method) }
+{
+    if scene.pending.is_some() {
+        return None;
+    }
+    match call.function {
+        JniFunction::CallStaticVoidMethod => method_of_class(scene, call),
+        JniFunction::CallStaticIntMethod => method_of_class(scene, call),
+        JniFunction::CallStaticObjectMethod => {
+            if locals.has_room() {
+                method_of_class(scene, call)
+            } else {
+                None
+            }
+        }
+        _ => None,
+    }
+}
+
+/// The method of a call, where all that the call is given goes together, its class is a local reference, and it is passed no static.
+#[inline(always)]
+fn method_of_class(scene: &Scene<'_>, call: &Call) -> Option<MethodHandle>
+    requires { AreAddresses scene.now.heap.now scene.now.references call.now.operands.items }
+    ensures deleted { IfSome result (λ method. list_any (gives_deleted scene.now.references) call.now.operands.items ≡ false) }
+    ensures missing { IfSome result (λ method. some_missing scene.now.references scene.now.fields.now (ClassObject ∷ MethodID ∷ [])
+        call.now.operands.items ≡ false) }
+    ensures misfit { IfSome result (λ method. some_misfit scene.now.classes.now scene.now.heap.now scene.now.references
+        (ClassObject ∷ MethodID ∷ []) call.now.operands.items ≡ false) }
+    ensures well { IfSome result (λ method. calls_well (unit_tree scene.now.items.now) scene.now.classes.now scene.now.heap.now
+        scene.now.references scene.now.fields.now call.now.operands.items (function_value call.now.function)
+        (called (unit_tree scene.now.items.now) scene.now.classes.now scene.now.heap.now scene.now.references
+        scene.now.fields.now call.now.operands.items (Some method)) ≡ true) }
+    ensures method { IfSome result (λ method. method_at scene.now.fields.now (operand_of call.now.operands.items 1) ≡ Some method) }
+{
+    let operands: &[Operand] = &call.operands;
+    match operands {
+        [Operand::Local(slot), Operand::MethodId(id), passed @ ..] => match scene
+            .references
+            .local(*slot)
+        {
+            Some(class) => match method_of(scene.fields, *id) {
+                Some(method) => {
+                    if class_there(scene.heap, class) == CLASS
+                        && method.class.number == scene.heap.birth_of(class) as usize
+                        && calls_well_at_once(scene, call.function, method.item, passed)
+                    {
+                        Some(method)
+                    } else {
+                        None
+                    }
+                }
+                None => None,
+            },
+            None => None,
+        },
+        _ => None,
+    }
+}
+
+/// The method ID in a slot; none for NULL.
+#[inline(always)]
+fn method_of(methods: &[Option<Handle>], slot: u32) -> Option<MethodHandle>
+    ensures { result ≡ method_at methods.now (Operand.MethodId slot) }
+{
+    match methods.get(slot as usize) {
+        Some(Some(Handle::Method(method))) => Some(*method),
+        _ => None,
+    }
+}
+
+/// Whether the function whose item is at a place gives what a function that calls methods asks for, and takes these operands, of which none
+/// is a static.
+#[inline(always)]
+fn calls_well_at_once(
+    scene: &Scene<'_>,
+    function: JniFunction,
+    place: usize,
+    passed: &[Operand],
+) -> bool
+    ensures { result ≡ true → (method : Function)
+        × (function_in (slice_get (unit_tree scene.now.items.now).items place) ≡ Some method)
+        × (returns (function_value function) method.result ≡ true) × (takes_all method.parameters passed.now ≡ true)
+        × (list_any (gives_deleted scene.now.references) passed.now ≡ false) }
+{
+    match function_in(scene.items, place) {
+        Some(method) => {
+            returns(function, method.result) && takes_at_once(&method.parameters, passed)
+        }
+        None => false,
+    }
+}
+
+/// Whether there are as many operands as parameters, and each may be passed to its own, and is no static.
+fn takes_at_once(parameters: &[Parameter], operands: &[Operand]) -> bool
+    ensures all { result ≡ true → takes_all (map parameter_tree parameters.now) operands.now ≡ true }
+    ensures none { result ≡ true → (references : References) → list_any (gives_deleted references) operands.now ≡ false }
+{
+    match parameters {
+        [parameter, parameters @ ..] => match operands {
+            [operand, operands @ ..] => {
+                takes_one(parameter.kind, *operand) && takes_at_once(parameters, operands)
+            }
+            [] => false,
+        },
+        [] => operands.is_empty(),
+    }
+}
+
+/// Whether what an operand gives may be passed to a parameter, and is no static.
+#[inline(always)]
+fn takes_one(parameter: ParameterType, operand: Operand) -> bool
+    ensures all { result ≡ true → takes (parameter_type_tree parameter) operand ≡ true }
+    ensures none { result ≡ true → (references : References) → gives_deleted references operand ≡ false }
+{
+    match parameter {
+        ParameterType::Jint => matches!(operand, Operand::Number),
+        ParameterType::Reference(_) => matches!(operand, Operand::Null | Operand::Local(_)),
     }
 }

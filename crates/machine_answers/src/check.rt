@@ -197,7 +197,8 @@ pub(crate) fn has_static(scene: &Scene<'_>, call: &Call) -> bool
 }
 
 /// The function whose item is at a place.
-fn function_in(items: &[Item], place: usize) -> Option<&Function>
+#[inline(always)]
+pub(crate) fn function_in(items: &[Item], place: usize) -> Option<&Function>
     ensures { option_map (λ f. function_tree f.now) result ≡ function_in (slice_get (unit_tree items.now).items place) }
 {
     match items.get(place) {
@@ -222,7 +223,8 @@ fn called<'a>(scene: &Scene<'a>, call: &Call) -> Option<&'a Function>
 }
 
 /// Whether a method with this result gives what a function that calls methods asks for.
-fn returns(function: JniFunction, kind: ResultType) -> bool
+#[inline(always)]
+pub(crate) fn returns(function: JniFunction, kind: ResultType) -> bool
     ensures { result ≡ returns (function_value function) (result_tree kind) }
 {
     match function {

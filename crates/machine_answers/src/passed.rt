@@ -12,6 +12,7 @@ use machine_scenes::operands::reference_in;
 use machine_scenes::references::References;
 
 /// The operands of what is passed: those after the class and the method ID.
+#[inline(always)]
 pub(crate) fn passed_operands(operands: &[Operand]) -> &[Operand]
     ensures { result.now ≡ drop 2 operands.now }
 {
@@ -22,6 +23,7 @@ pub(crate) fn passed_operands(operands: &[Operand]) -> &[Operand]
 }
 
 /// What an operand gives, and the words that are left: a number takes the first.
+#[inline(always)]
 fn value_of<'a>(
     references: &References<'_>,
     operand: Operand,
@@ -40,6 +42,7 @@ fn value_of<'a>(
 }
 
 /// Adds what operands give, of which numbers take these words in order, to an empty vector that has room for it.
+#[inline(always)]
 fn push_values(
     values: &mut Vec<Value>,
     references: &References<'_>,
@@ -60,6 +63,7 @@ fn push_values(
 
 /// Lists what a call of a method with these operands passes to it, in order: a number by its word, which is on the stack, NULL, or
 /// the address of an object. The vector has room for it, and what it held is gone. It takes no host memory.
+#[inline(always)]
 pub fn pass(
     values: &mut Vec<Value>,
     references: &References<'_>,
