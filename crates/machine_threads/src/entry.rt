@@ -106,6 +106,7 @@ pub fn begin(
 }
 
 /// Whether what an ended call takes serves for one with this code.
+#[inline(always)]
 pub fn serves(ended: &Activation, code: &Code) -> bool
     ensures { result ≡ true → HasMemoryFor code.now ended.now }
 {
@@ -118,6 +119,7 @@ pub fn serves(ended: &Activation, code: &Code) -> bool
 }
 
 /// A call before its first instruction, in the place of one that has ended. It takes no host memory.
+#[inline(always)]
 pub fn begin_again(ended: &mut Activation, code: &Code, loaded: &[Addr], next: &Entering)
     requires class { (0 < next.now.class.number) × (next.now.class.number ≤ length loaded.now) }
     requires room { HasRoomFor code.now next.now.arguments.items }
@@ -158,6 +160,16 @@ fn empty_fields(slots: &mut Vec<Option<Handle>>, count: usize)
     if count == 0 {
         return;
     }
+    fill_fields(slots, count);
+}
+
+/// The same of no slots. It stands apart, since most functions have none.
+#[inline(never)]
+fn fill_fields(slots: &mut Vec<Option<Handle>>, count: usize)
+    requires none { slots.old.items ≡ [] }
+    requires room { count ≤ vec_capacity slots.old }
+    ensures { slots.new.items ≡ replicate count None }
+{
     slots.resize(count, None).unwrap();
 }
 
@@ -171,6 +183,16 @@ fn empty_buffers(slots: &mut Vec<Buffer>, count: usize)
     if count == 0 {
         return;
     }
+    fill_buffers(slots, count);
+}
+
+/// The same of no slots. It stands apart, since most functions have none.
+#[inline(never)]
+fn fill_buffers(slots: &mut Vec<Buffer>, count: usize)
+    requires none { slots.old.items ≡ [] }
+    requires room { count ≤ vec_capacity slots.old }
+    ensures { slots.new.items ≡ replicate count Buffer.Null }
+{
     slots.resize(count, Buffer::Null).unwrap();
 }
 
