@@ -5,8 +5,7 @@ use Rattle.std.specs.Option.{option_and_then}
 use Rattle.std.proofs.lemmas.List.{length-map}
 use Rattle.std.proofs.lemmas.Option.{slice_get_within}
 use Rattle.base.specs.Bytes.{Identifier}
-use Rattle.base.specs.Element.{ElementType}
-use Rattle.class_rules.specs.Class.{Classes, class_named}
+use Rattle.class_rules.specs.Class.{class_named}
 use Rattle.class_rules.specs.Mangling.{native_class}
 use Rattle.code.specs.Call.{call_view}
 use Rattle.code.specs.Depth.{Listing}
@@ -27,20 +26,23 @@ use Rattle.machine_answers.proofs.TwoCalls.{TwoCalls}
 use Rattle.machine_answers.specs.Asked.{references_of}
 use Rattle.machine_answers.specs.Passed.{passed_in}
 use Rattle.machine_scenes.specs.Buffers.{Acquired}
+use Rattle.machine_scenes.specs.Given.{method_at, operand_of}
 use Rattle.machine_scenes.specs.HeapAgrees.{ValueAgrees, ValuesAgree}
 use Rattle.machine_scenes.specs.declared.activation.Activation.{Activation}
+use Rattle.machine_scenes.specs.declared.handle.MethodHandle.{MethodHandle}
 use Rattle.machine_scenes.specs.declared.store.Store.{Store}
 use Rattle.machine_steps.proofs.AskedCalls.{CalledAs, called, r}
 use Rattle.machine_steps.proofs.Calls.{Ready, ready}
 use Rattle.machine_steps.proofs.Fetched.{Fetched, at_call, seeing}
 use Rattle.machine_steps.specs.Executes.{IsCalling, IsExecuting}
 use Rattle.machine_steps.specs.Invoked.{AtCall}
+use Rattle.machine_steps.specs.Pushed.{IsCalled}
 use Rattle.machine_threads.specs.SlotsHold.{slots_of}
 use Rattle.machine_threads.specs.ThreadAgrees.{EnteringAgrees}
 use Rattle.machine_threads.specs.declared.thread.Entering.{Entering}
 use Rattle.semantics.specs.Activation.{class_of_function}
 use Rattle.semantics.specs.Arguments.{Actual, NumberActual, ReferenceActual, method_given, passed_value}
-use Rattle.semantics.specs.CallStep.{target_element, trap_of_call}
+use Rattle.semantics.specs.CallStep.{trap_of_call}
 use Rattle.semantics.specs.CallSight.{argument_seen}
 use Rattle.semantics.specs.Checks.{all_pass, passes}
 use Rattle.semantics.specs.Effect.{Calls, effect_of}
@@ -169,3 +171,12 @@ module _ (p : Lowered) (w : World) (store : Store) (activation : Activation) (fu
       few_given [] few = omega arith
       few_given (a ∷ []) few = omega arith
       few_given (a ∷ b ∷ args) few = omega (arith, length-map args passed_value, few)
+
+-- what is to be entered of this method, with what the call's operands give, stands for whatever method any such call of the source calls
+pub is_called : (p : Lowered) (w : World) (store : Store) (activation : Activation) (function : InMemory) (i : Instr) (f : Fetched p store activation i) → i ≡ instr.Call (call_view function) → IsSound w → (method : MethodHandle) → method_at activation.slots.fields.items (operand_of function.operands.items 1) ≡ Some method
+    → (x : Entering) → x.function ≡ method.function → x.class ≡ method.declarer → x.arguments.items ≡ passed_in (references_of store activation) (drop 2 function.operands.items) (reverse activation.stack) → IsCalled p w store activation x
+is_called p w store activation function i f is sound method found x of_function of_class of_arguments pending others k owner own shared s task rest e calling m given =
+    let it = the_method p w store activation function i f is sound pending others k owner own shared s task rest e calling in
+    let same : it.handle ≡ method = let both : Some it.handle ≡ Some method = sym it.at ∙ found in cc in
+    let class = it.is.declarer ∙ ap (λ (h : MethodHandle). Some h.declarer.number) same ∙ (λ j. Some (sym of_class j).number) in
+    method_agrees p w store activation function i f is sound pending others k owner own shared s task rest e calling x (of_function ∙ ap (λ (h : MethodHandle). h.function) (sym same)) class of_arguments m given

@@ -1,6 +1,5 @@
 -- Where a call's result is put when it is a local reference.
-use Rattle.std.proofs.Common.{◌≡◌, Bool, true, false, List, refl, ap, ◌∙◌, subst, ℕ}
-use Rattle.base.specs.Element.{JInt}
+use Rattle.std.proofs.Common.{◌≡◌, Bool, true, false, List, refl, subst, ℕ}
 use Rattle.class_rules.specs.Class.{Classes}
 use Rattle.jni.specs.JniFunction.{JniFunction, PopLocalFrame, prototype}
 use Rattle.jni.specs.Prototype.{ResultKind, NewLocal}

@@ -43,3 +43,4 @@ pub mod Threads
 pub mod Entries
 pub mod Returns
 pub mod Pushes
+pub mod ChangedCalls

@@ -1,5 +1,5 @@
 -- A thread's step is that of the source's thread.
-use Rattle.std.proofs.Common.{arith, ◌≡◌, ◌<◌, ℕ, ℤ, Bool, true, false, List, [], ◌∷◌, length, map, drop, reverse, cond, eqb, Option, Some, None, refl, sym, ap, ◌∙◌, subst}
+use Rattle.std.proofs.Common.{arith, ◌≡◌, ◌<◌, ℕ, ℤ, Bool, true, false, List, [], ◌∷◌, length, reverse, cond, eqb, Option, Some, None, refl, sym, ap, ◌∙◌, subst}
 use Rattle.std.specs.Prelude.{find}
 use Rattle.std.specs.Option.{option_map, option_map_or, option_and_then}
 use Rattle.syntax.specs.Tree.{SourceUnit}
@@ -8,10 +8,10 @@ use Rattle.class_rules.specs.Class.{Classes}
 use Rattle.heap.specs.Heap.{Block, Space, class_at}
 use Rattle.jni.specs.JniFunction.{JniFunction, CallStaticVoidMethod, CallStaticIntMethod, CallStaticObjectMethod, calls_method}
 use Rattle.semantics.specs.Method.{MethodId}
-use Rattle.semantics.specs.Object.{Object, ObjectValue, Reference}
+use Rattle.semantics.specs.Object.{Object, Reference}
 use Rattle.semantics.specs.World.{Invocation, World, loaded_objects}
 use Rattle.semantics.specs.Heap.{Heap, class_of}
-use Rattle.semantics.specs.Arguments.{Actual, method_given, passed_value}
+use Rattle.semantics.specs.Arguments.{Actual, method_given}
 use Rattle.semantics.specs.CallEffects.{CallEffect, CallResult, Enters, Halts, Leaves, Throws}
 use Rattle.semantics.specs.Return.{given_back, return_by, return_step, resumed_in, monitors_after}
 use Rattle.semantics.specs.Return as activation

@@ -16,6 +16,8 @@ use Rattle.semantics.specs.declared.event.Event.{Event}
 use Rattle.semantics.specs.declared.event.Event.TheVariants.{Quiet}
 use Rattle.machine_steps.specs.declared.advance.Advanced.{Advanced}
 use Rattle.machine_steps.specs.declared.advance.Advanced.TheVariants as advanced
+use Rattle.machine_steps.specs.declared.advance.AtOnce.{AtOnce}
+use Rattle.machine_steps.specs.declared.advance.AtOnce.TheVariants as at_once
 use Rattle.machine_threads.specs.declared.thread.Thread.{Thread}
 use Rattle.machine_threads.specs.declared.thread.PendingCall.{PendingCall}
 use Rattle.machine_scenes.specs.declared.activation.Activation.{Activation}
@@ -106,11 +108,29 @@ abbrev pub AdvancesAlways : Lowered → World → (k : ℕ) → (store after : S
 AdvancesAlways p w k store after t t' x =
     HoldsAlways p w k store t (λ others own shared s. AdvancesBy p w store after others k own shared s t' x)
 
+-- it took a step that is known not to wait, by what is seen of it, whatever thread of the source it stands for
+abbrev pub StepsFreely : Lowered → World → (k : ℕ) → (old store : Store) → Thread → Thread → Event → Type 0
+StepsFreely p w k old store t after e =
+    (others : Acquired) (own : ThreadOwners) (shared : Shared) (s : source.Thread) → Stands p w old others k own shared s t
+    → (waits w.classes k shared s ≡ false) × Advances p w old store others k own shared s after false e
+
 -- or this is why it didn't
 abbrev pub IsHinderedAlways : Lowered → World → (k : ℕ) → Store → Thread → (may_refuse : Bool) → StepFault → Type 0
 IsHinderedAlways p w k store t may_refuse fault =
     HoldsAlways p w k store t (λ others own shared s. IsHindered (left_of store.heap) (cells_made shared
     (thread_step (unit_tree p.unit) w.classes (in_use_with (beside_callers others s) s) k shared s false)) may_refuse fault)
+
+-- ---- what is done at once
+
+-- this holds of what is seen of a step that was taken
+abbrev pub IfDid : AtOnce → (Event → Type 0) → Type 0
+IfDid (at_once.Did event) Holds = Holds event
+IfDid x Holds = Unit {0}
+
+-- and this where none was taken
+abbrev pub UnlessDid : AtOnce → Type 0 → Type 0
+UnlessDid (at_once.Did event) holds = Unit {0}
+UnlessDid x holds = holds
 
 -- ---- returns
 

@@ -1,10 +1,14 @@
 -- What a call of a method leaves to be entered.
-use Rattle.std.specs.Prelude.{◌≡◌, ℕ, List, [], ◌∷◌, ◌++◌, drop, length, map, Option, Some, None}
+use Rattle.std.specs.Prelude.{◌≡◌, ℕ, List, [], ◌∷◌, ◌++◌, drop, length, map, reverse, Option, Some, None}
 use Rattle.std.specs.Global.{Vec}
+use Rattle.code.specs.declared.instr.Call.{Call}
 use Rattle.code_meaning.specs.Lowered.{Lowered}
 use Rattle.heap.specs.declared.value.Value.{Value}
+use Rattle.machine_answers.specs.Asked.{references_of}
+use Rattle.machine_answers.specs.Passed.{passed_in}
 use Rattle.machine_scenes.specs.Buffers.{Acquired}
 use Rattle.machine_scenes.specs.declared.activation.Activation.{Activation}
+use Rattle.machine_scenes.specs.declared.handle.MethodHandle.{MethodHandle}
 use Rattle.machine_scenes.specs.declared.store.Store.{Store}
 use Rattle.machine_steps.specs.Executes.{IsCalling, IsExecuting}
 use Rattle.machine_threads.specs.Entry.{Begins, IsEnteringOf}
@@ -70,3 +74,15 @@ pub record Pushes (p : Lowered) (w : World) (store : Store) (activation : Activa
   pub last : callers.items ≡ t.callers.items ++ activation ∷ []
   pub pushed : after ≡ record t { entering = Some entering; call = None; callers = callers; spare_arguments = spare }
   pub called : IsCalled p w store activation entering
+
+-- the same of this method, which gets what the operands of this call give
+pub record PushesMethod (store : Store) (activation : Activation) (call : Call) (method : MethodHandle) (t after : Thread) : Type 0 where
+  pub entering : Entering
+  pub callers : Vec Activation
+  pub spare : Vec Value
+  pub last : callers.items ≡ t.callers.items ++ activation ∷ []
+  pub pushed : after ≡ record t { entering = Some entering; call = None; callers = callers; spare_arguments = spare }
+  pub function : entering.function ≡ method.function
+  pub class : entering.class ≡ method.declarer
+  pub arguments : entering.arguments.items
+      ≡ passed_in (references_of store activation) (drop 2 call.operands.items) (reverse activation.stack)

@@ -1,6 +1,6 @@
 //! A step of a thread.
 
-ghost use Rattle.std.specs.Prelude.{◌≡◌, ℕ, ◌+◌, ◌<◌, ◌≤◌, ◌^◌, true, false, Some, None, [], ◌∷◌, ◌++◌, List, length, Ok, IfOk, IfErr, IfSome, IfNone, OnErr};
+ghost use Rattle.std.specs.Prelude.{◌≡◌, ℕ, ◌+◌, ◌<◌, ◌≤◌, ◌^◌, true, false, Some, None, [], ◌∷◌, ◌++◌, List, length, Ok, IfOk, IfErr, OnErr};
 ghost use Rattle.std.specs.Option.{option_and_then};
 ghost use Rattle.heap.specs.Heap.{IsAddress, class_at};
 ghost use Rattle.semantics.specs.Thread.{Shared, Thread as SourceThread};
@@ -9,7 +9,7 @@ ghost use Rattle.semantics.specs.World.{World as SourceWorld};
 ghost use Rattle.semantics_safety.specs.Owners.{ThreadOwners};
 ghost use Rattle.code_meaning.specs.Lowered.{IsLowered, Lowered};
 ghost use Rattle.machine_scenes.specs.Buffers.{Acquired};
-ghost use Rattle.machine_steps.specs.Advances.{Advances, AdvancesAlways, IsHinderedAlways, LeavesMonitors, StandsReady, StandsWithin, calls_after, ending_after, ends_with, within};
+ghost use Rattle.machine_steps.specs.Advances.{Advances, AdvancesAlways, IfDid, IsHinderedAlways, LeavesMonitors, StandsReady, StandsWithin, UnlessDid, calls_after, ending_after, ends_with, within};
 ghost use Rattle.machine_threads.specs.Callers.{owner_at};
 ghost use Rattle.machine_steps.specs.Moved.{IsSilent};
 ghost use Rattle.machine_steps.specs.Resumed.{HasCalled, Resumes};
@@ -21,6 +21,7 @@ use crate::enter::enter;
 use crate::execute::{Executed, ReturnValue, execute, run_plain, test_null};
 use crate::fault::StepFault;
 use crate::invoke::call_at_once;
+use crate::monitor::is_of_methods;
 use crate::push::push;
 use crate::receive::receive;
 use code::code::Code;
@@ -43,6 +44,19 @@ pub enum Advanced {
     Did(Event),
     /// The allocation of its call was refused.
     Refused,
+}
+
+/// What was done at once.
+#[derive(Clone, Copy)]
+pub enum AtOnce {
+    /// A step, of which this is seen.
+    Did(Event),
+    /// Nothing: the instruction calls a method.
+    Calls,
+    /// Nothing: it returns.
+    Returns,
+    /// Nothing: it is an instruction of another kind.
+    Other,
 }
 
 /// Takes one step of a thread, which has this number, has not ended and doesn't wait for a monitor.
@@ -118,8 +132,8 @@ pub fn owner_at(thread: u8, below: usize) -> u16
 
 /// Takes one step of a call in progress, whose function has this code, in the thread of this number, if its next instruction works on the
 /// stack and the number slots alone, or reads beside them whether a variable is NULL, or an element of a buffer, or calls a function of
-/// the JNI whose answer is seen at once. What the call copies has this owner. It answers what is seen of it. None leaves all as it was,
-/// and says nothing of the step. Only a monitor that is entered takes host memory.
+/// the JNI whose answer is seen at once. What the call copies has this owner. Else all is as it was,
+/// and nothing is said of the step but whether its instruction calls a method or returns. Only a monitor that is entered takes host memory.
 #[inline(always)]
 pub fn advance_at_once(
     program: &Program<'_>,
@@ -130,19 +144,19 @@ pub fn advance_at_once(
     activation: &mut Activation,
     number: u8,
     owner: u16,
-) -> Option<Event>
+) -> AtOnce
     requires few { store.old.births + 2 < 2 ^ 32 }
     requires stands { (others : Acquired) × (own : ThreadOwners) × (shared : Shared) × (s : SourceThread) × (t : Thread)
         × StandsWithin program.now world.now store.old others number own shared s t code.now activation.old pending.old owner }
-    ensures advances { IfSome result (λ event. (others : Acquired) (own : ThreadOwners) (shared : Shared) (s : SourceThread) (t : Thread)
+    ensures advances { IfDid result (λ event. (others : Acquired) (own : ThreadOwners) (shared : Shared) (s : SourceThread) (t : Thread)
         → StandsWithin program.now world.now store.old others number own shared s t code.now activation.old pending.old owner
         → (waits world.now.classes number shared s ≡ false)
         × Advances program.now world.now store.old store.new others number own shared s
         (within activation.new pending.new t) false event) }
-    ensures silent { IfSome result IsSilent }
-    ensures store { IfNone result (store.new ≡ store.old) }
-    ensures pending { IfNone result (pending.new ≡ pending.old) }
-    ensures activation { IfNone result (activation.new ≡ activation.old) }
+    ensures silent { IfDid result IsSilent }
+    ensures store { UnlessDid result (store.new ≡ store.old) }
+    ensures pending { UnlessDid result (pending.new ≡ pending.old) }
+    ensures activation { UnlessDid result (activation.new ≡ activation.old) }
     ensures function { activation.new.function ≡ activation.old.function }
 {
     // The proof reads off this call that no object has as many elements as a `jint` can say.
@@ -151,33 +165,38 @@ pub fn advance_at_once(
     match instr {
         Instr::TestNull { variable, equal } => {
             test_null(store, activation, *variable, *equal);
-            Some(Event::Quiet)
+            AtOnce::Did(Event::Quiet)
         }
-        Instr::LoadBuffer { slot, line } => Some(load_element(store, activation, *slot, *line)),
+        Instr::LoadBuffer { slot, line } => {
+            AtOnce::Did(load_element(store, activation, *slot, *line))
+        }
         Instr::Call(boxed) => {
             let call = boxed.call();
-            if call_at_once(
+            if is_of_methods(call.function) {
+                AtOnce::Calls
+            } else if call_at_once(
                 program, world, store, pending, activation, call, number, owner,
             ) {
-                Some(Event::Quiet)
+                AtOnce::Did(Event::Quiet)
             } else {
-                None
+                AtOnce::Other
             }
         }
-        Instr::StoreNull(_)
-        | Instr::StoreBuffer { .. }
-        | Instr::PutJint
-        | Instr::Return
-        | Instr::ReturnJint
-        | Instr::ReturnReference(_) => None,
-        _ => Some(run_plain(instr, activation)),
+        Instr::Return | Instr::ReturnJint | Instr::ReturnReference(_) => AtOnce::Returns,
+        Instr::StoreNull(_) | Instr::StoreBuffer { .. } | Instr::PutJint => AtOnce::Other,
+        _ => AtOnce::Did(run_plain(instr, activation)),
     }
 }
 
 /// Goes on with the last caller of a thread, where the call that it made gives this. The call that has ended is kept, for its memory. It
 /// takes no host memory.
-#[inline(never)]
-fn resume(program: &Program<'_>, store: &mut Store, thread: &mut Thread, value: ReturnValue)
+#[inline(always)]
+pub(crate) fn resume(
+    program: &Program<'_>,
+    store: &mut Store,
+    thread: &mut Thread,
+    value: ReturnValue,
+)
     requires lowered { IsLowered program.now }
     requires some { 0 < length thread.old.callers.items }
     requires called { (below : List Activation) (caller : Activation)

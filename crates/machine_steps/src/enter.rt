@@ -36,14 +36,30 @@ pub(crate) fn enter(
     ensures ending { OnOk result (thread.new.ending ≡ thread.old.ending) }
     ensures err { OnErr result (thread.new ≡ thread.old) }
 {
+    if enter_again(program, loaded, thread) {
+        Ok(())
+    } else {
+        enter_anew(program, loaded, thread)
+    }
+}
+
+/// The same in memory of the host.
+fn enter_anew(program: &Program<'_>, loaded: &[Addr], thread: &mut Thread) -> Result<(), AllocError>
+    requires some { thread.old.entering ≡ None → 0 < length thread.old.calls.items }
+    requires given { (next : PendingCall) (rest : List PendingCall) → thread.old.calls.items ≡ next ∷ rest
+        → IsTrue (list_all (is_argument (length loaded.now)) (map object_value_view next.arguments.items)) }
+    requires ready { (rest : List PendingCall) (entering : Entering)
+        → IsNext loaded.now thread.old.entering thread.old.calls.items rest entering → IsReady program.now (length loaded.now) entering }
+    ensures calls { OnOk result (Enters program.now loaded.now thread.old thread.new) }
+    ensures entering { OnOk result (thread.new.entering ≡ None) }
+    ensures callers { OnOk result (thread.new.callers ≡ thread.old.callers) }
+    ensures pending { OnOk result (thread.new.pending ≡ thread.old.pending) }
+    ensures ending { OnOk result (thread.new.ending ≡ thread.old.ending) }
+    ensures err { OnErr result (thread.new ≡ thread.old) }
+{
     let alloc = *thread.calls.allocator();
     match &thread.entering {
         Some(entering) => {
-            if begin_in_spare(program, loaded, &mut thread.spare, entering) {
-                keep_arguments(&mut thread.entering, &mut thread.spare_arguments);
-                mem::swap(&mut thread.call, &mut thread.spare);
-                return Ok(());
-            }
             let activation = begin_call(alloc, program, loaded, entering)?;
             keep_arguments(&mut thread.entering, &mut thread.spare_arguments);
             thread.call = Some(activation);
@@ -60,7 +76,33 @@ pub(crate) fn enter(
     }
 }
 
+/// The entry into the call that the last caller has made, where there is one, and a call has ended whose memory serves; and whether it was
+/// made. It takes no host memory.
+#[inline(always)]
+pub(crate) fn enter_again(program: &Program<'_>, loaded: &[Addr], thread: &mut Thread) -> bool
+    requires { (entering : Entering) → thread.old.entering ≡ Some entering → IsReady program.now (length loaded.now) entering }
+    ensures calls { result ≡ true → Enters program.now loaded.now thread.old thread.new }
+    ensures entering { result ≡ true → thread.new.entering ≡ None }
+    ensures callers { thread.new.callers ≡ thread.old.callers }
+    ensures pending { thread.new.pending ≡ thread.old.pending }
+    ensures ending { thread.new.ending ≡ thread.old.ending }
+    ensures kept { result ≡ false → thread.new ≡ thread.old }
+{
+    match &thread.entering {
+        Some(entering) => {
+            if !begin_in_spare(program, loaded, &mut thread.spare, entering) {
+                return false;
+            }
+            keep_arguments(&mut thread.entering, &mut thread.spare_arguments);
+            mem::swap(&mut thread.call, &mut thread.spare);
+            true
+        }
+        None => false,
+    }
+}
+
 /// No call is to be entered any more. What it was given is kept, for its memory.
+#[inline(always)]
 fn keep_arguments(entering: &mut Option<Entering>, spare: &mut Vec<Value>)
     ensures { entering.new ≡ None }
 {
@@ -77,6 +119,7 @@ fn keep_arguments(entering: &mut Option<Entering>, spare: &mut Vec<Value>)
 }
 
 /// Makes the call that has ended one before its first instruction, if there is one whose memory serves.
+#[inline(always)]
 fn begin_in_spare(
     program: &Program<'_>,
     loaded: &[Addr],

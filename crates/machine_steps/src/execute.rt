@@ -121,7 +121,7 @@ pub fn execute(
 
 /// What an instruction gives that leaves a function (6.8.6.4): the topmost word, a reference, or nothing.
 #[inline(always)]
-fn given_by(instr: &Instr, activation: &Activation) -> ReturnValue
+pub(crate) fn given_by(instr: &Instr, activation: &Activation) -> ReturnValue
     requires room { IsSome (depth_after instr.now (length activation.now.stack)) }
     ensures { result ≡ given_by instr.now activation.now }
 {

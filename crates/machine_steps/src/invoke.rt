@@ -7,6 +7,7 @@ ghost use Rattle.heap.specs.Heap.{left_of};
 ghost use Rattle.machine_calls.specs.Barrier.{IsNoted, written_by};
 ghost use Rattle.machine_calls.specs.CarriedOut.{takes_memory};
 ghost use Rattle.machine_calls.specs.Made.{cells_of};
+ghost use Rattle.machine_scenes.specs.Given.{method_at, operand_of};
 ghost use Rattle.machine_scenes.specs.NewObjects.{texts_in};
 ghost use Rattle.machine_answers.specs.Answers.{is_carried};
 ghost use Rattle.semantics.specs.World.{World as SourceWorld};
@@ -17,7 +18,7 @@ ghost use Rattle.machine_threads.specs.Callers.{owner_at};
 ghost use Rattle.machine_steps.specs.Invoked.{called_from, is_halt, DoesCall, IsAnswered, IsHinderedAtCall, IsStopped, StandsAtCall, done_or_refused};
 
 use crate::fault::StepFault;
-use crate::monitor::{answer_at_once, change_monitor, could_wait, is_of_methods, is_of_monitors};
+use crate::monitor::{answer_at_once, change_monitor, could_wait, is_of_monitors};
 use crate::receive::{receive, receive_number};
 use crate::scene::scene_of;
 use base::limits::MOST_ACTIVATIONS;
@@ -28,11 +29,12 @@ use heap::{Addr, Heap};
 use jni::JniFunction;
 use machine_answers::answer::{Answer, Given, work_out};
 use machine_answers::at_once::{
-    Write, deleted_at_once, number_at_once, reference_at_once, write_at_once,
+    Write, deleted_at_once, method_at_once, number_at_once, reference_at_once, write_at_once,
 };
 use machine_answers::check::check;
 use machine_calls::carry_out::{carry_out, has_room};
 use machine_scenes::activation::Activation;
+use machine_scenes::handle::MethodHandle;
 use machine_scenes::store::Store;
 use semantics::Trap;
 use std::alloc::AllocError;
@@ -219,9 +221,6 @@ pub(crate) fn call_at_once(
     ensures activation { result ≡ false → activation.new ≡ activation.old }
     ensures function { activation.new.function ≡ activation.old.function }
 {
-    if is_of_methods(call.function) {
-        return false;
-    }
     if could_wait(&store.monitors, call.function) {
         return false;
     }
@@ -390,6 +389,25 @@ fn deleted_seen(
 {
     let scene = scene_of(program, world, store, pending, activation, thread);
     deleted_at_once(&scene, call)
+}
+
+/// The method that a call calls, where it is seen at once that no check but that of how deep calls are stops it.
+#[inline(always)]
+pub(crate) fn method_seen(
+    program: &Program<'_>,
+    world: &World,
+    store: &Store,
+    pending: Option<Addr>,
+    activation: &Activation,
+    call: &Call,
+    thread: u8,
+) -> Option<MethodHandle>
+    requires at_call { (owner : ℕ) × StandsAtCall program.now world.now store.now pending activation.now call.now thread owner }
+    ensures answered { IfSome result (λ method. IsAnswered program.now world.now store.now pending activation.now thread call.now Answer.Calls) }
+    ensures method { IfSome result (λ method. method_at activation.now.slots.fields.items (operand_of call.now.operands.items 1) ≡ Some method) }
+{
+    let scene = scene_of(program, world, store, pending, activation, thread);
+    method_at_once(&scene, &activation.locals, call)
 }
 
 /// Enters or leaves a monitor, as a call of the thread of this number asks, and answers whether it did so: where it is seen at

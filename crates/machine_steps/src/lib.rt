@@ -4,6 +4,7 @@
 
 pub mod advance;
 mod buffer_elements;
+pub mod change;
 mod enter;
 pub mod execute;
 pub mod fault;
