@@ -6,6 +6,7 @@ use Rattle.semantics.specs.declared.event.Ending.TheVariants.{Unfinished}
 use Rattle.semantics.specs.declared.event.Event.{Event}
 use Rattle.semantics.specs.Journal.{Entry, Step, steps_in}
 use Rattle.semantics.specs.declared.printed.Printed.{Printed}
+use Rattle.semantics.specs.declared.event.Stop.{Stop}
 use Rattle.semantics.specs.declared.schedule.ScheduleWord.TheVariants.{Turn}
 use Rattle.semantics.specs.EventViews.{stop_after}
 use Rattle.semantics.specs.Schedule.{Schedule}
@@ -24,13 +25,13 @@ use Rattle.machine_scenes.specs.Buffers.{Acquired}
 use Rattle.machine_scenes.specs.declared.activation.Activation.{Activation}
 use Rattle.machine_scenes.specs.declared.store.Store.{Store}
 use Rattle.machine_threads.specs.declared.thread.Thread.{Thread}
-use Rattle.machine_steps.specs.Advances.{Stands, within}
+use Rattle.machine_steps.specs.Advances.{Stands, StepsFreely, within}
 use Rattle.machine_steps.specs.Moved.{IsSilent}
 use Rattle.machine.specs.declared.turn.Turn.TheVariants as turn
-use Rattle.machine.specs.Run.{Run, CanGoOn, Corresponds, RunsAlong, WentOn, seen, stepped, slices_of}
+use Rattle.machine.specs.Run.{Run, CanGoOn, Corresponds, RunsAlong, WentOn, seen, stepped}
 use Rattle.machine.proofs.Moved.{left_seen}
-use Rattle.machine.proofs.Runs.{along_both, none_yet, replicate_more, turned}
-use Rattle.machine.proofs.Steps.{StepsFreely, can_turn_here, is_free, make_freely, none_printed, owners, rest, stands, steps_freely, the_thread}
+use Rattle.machine.proofs.Runs.{along_both, none_yet, replicate_more, taken_more, turned}
+use Rattle.machine.proofs.Steps.{can_turn_here, is_free, make_freely, none_printed, owners, rest, stands, steps_freely, the_thread}
 
 -- an element that is written twice
 set_twice : {A : Type 0} (xs : List A) (i : ℕ) (a b : A) → slice_set (slice_set xs i a) i b ≡ slice_set xs i b
@@ -86,3 +87,15 @@ module _ (p : Lowered) (w : World) (store : Store) (ts : List Thread) (index : �
               (along_both (seen p w store before) (seen p w mid journal) now (replicate n (Turn k)) (Turn k ∷ []) so_far.along
               (turned (seen p w mid journal) now k turn.Stepped ((few, (c.state, c.replays, can)), (seen p w mid journal, inl (refl, (c.state, c.replays, omega (arith, room, left))), (c.state, c.replays, is))) (rw next.replays refl) (λ full. absurd (cc))));
         }
+
+    -- it can go on, where no trap stopped it
+    pub goes_on_now : t.ending ≡ Unfinished → CanGoOn p w mid (slice_set ts index t) index printed journal k t
+    goes_on_now lives = record { stands = so_far.stands; number = h.number; at = thread_at; lives = lives }
+
+    -- further steps
+    pub both_went : (later : Store) (m : ℕ) (after : Thread) (stop : Option Stop) (more : List Entry) → WentOn p w mid later (slice_set ts index t) index printed journal k m after stop more → WentOn p w store later ts index printed before k (n + m) after stop more
+    both_went later m after stop more next = record {
+      stands = subst (λ (l : List Thread). Corresponds p w later l printed stop more) (set_twice ts index t after) next.stands;
+      along =
+          taken_more (seen p w store before) (seen p w mid journal) (seen p w later more) (Turn k) n m so_far.along next.along;
+    }

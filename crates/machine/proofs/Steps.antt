@@ -46,7 +46,7 @@ use Rattle.machine_scenes.specs.Buffers.{Acquired, SameAcquired, acquired_by, be
 use Rattle.machine_scenes.specs.StoreAgrees.{StoreAgrees}
 use Rattle.machine_threads.specs.Callers.{beside_callers}
 use Rattle.machine_threads.specs.ThreadAgrees.{ThreadAgrees, ThreadsAgree}
-use Rattle.machine_steps.specs.Advances.{Advances, AdvancesAlways, HoldsAlways, Stands}
+use Rattle.machine_steps.specs.Advances.{Advances, AdvancesAlways, HoldsAlways, Stands, StepsFreely}
 use Rattle.machine_steps.specs.Moved.{IsSilent}
 use Rattle.machine_steps.specs.declared.advance.Advanced.{Advanced}
 use Rattle.machine_steps.specs.declared.advance.Advanced.TheVariants as advanced
@@ -90,11 +90,6 @@ threads_next s k shared t (event.Trapped trap line) = refl
 -- thread k took this step, whatever state it stands for
 abbrev pub StepsAlways : Lowered → World → (k : ℕ) → (store store' : Store) → Thread → Thread → (refused : Bool) → Event → Type 0
 StepsAlways p w k store store' t after refused e = HoldsAlways p w k store t (λ others own shared s. Advances p w store store' others k own shared s after refused e)
-
--- the same of a step without a refusal that is known not to wait
-abbrev pub StepsFreely : Lowered → World → (k : ℕ) → (store later : Store) → Thread → Thread → Event → Type 0
-StepsFreely p w k store later t after e =
-    (others : Acquired) (own : ThreadOwners) (shared : Shared) (s : source.Thread) → Stands p w store others k own shared s t → (waits w.classes k shared s ≡ false) × Advances p w store later others k own shared s after false e
 
 -- what prints nothing
 pub none_printed : (printed : List Printed) (k : ℕ) (e : Event) → IsSilent e → printed_after printed k e ≡ printed

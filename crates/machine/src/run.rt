@@ -57,7 +57,7 @@ impl Machine<'_> {
         }
         let mut left = self.left_at_once(k, times);
         while left > 0 {
-            let ran = self.run_plainly(k, left);
+            let ran = self.run_plainly(k, left, false);
             left -= ran.taken;
             if ran.ready {
                 self.take_ready(k)?;
@@ -86,7 +86,7 @@ impl Machine<'_> {
         // Here the proof takes up the machine's invariant.
         let _ = &self.world;
         if times == 1 {
-            let ran = self.run_plainly(k, 1);
+            let ran = self.run_plainly(k, 1, true);
             return 1 - ran.taken;
         }
         times
@@ -95,10 +95,10 @@ impl Machine<'_> {
     /// Lets thread `k` take steps one after another, no more than this many, and answers how many it took, and whether it goes on
     /// with an instruction of another kind.
     /// They go on as long as its next instruction works on the stack and the number slots alone, or reads beside them whether
-    /// a variable is NULL or an element of a buffer, or calls a function of the JNI whose answer is seen at once, and the journal
-    /// has memory for its entry.
+    /// a variable is NULL or an element of a buffer, or calls a function of the JNI whose answer is seen at once, or, unless it is to stay
+    /// within the call in progress, enters, calls or leaves a method likewise, and the journal has memory for its entry.
     #[inline(always)]
-    fn run_plainly(&mut self, k: u8, most: u32) -> Ran
+    fn run_plainly(&mut self, k: u8, most: u32, stays: bool) -> Ran
         requires counted { 0 < k }
         requires is_thread { k ≤ length self.old.world.threads }
         ensures most { result.taken ≤ most }
@@ -124,6 +124,7 @@ impl Machine<'_> {
             &mut self.journal,
             k,
             most,
+            stays,
         )
     }
 

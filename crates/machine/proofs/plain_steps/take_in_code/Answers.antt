@@ -1,8 +1,7 @@
-use Rattle.std.proofs.Common.{◌≡◌, ℕ, true, false, ◌+◌, ◌<◌, List, Option, Some, None, refl, sym, ap, ◌∙◌, subst, arith}
+use Rattle.std.proofs.Common.{◌≡◌, ℕ, false, ◌+◌, ◌<◌, List, Option, Some, None, refl, sym, ap, ◌∙◌, subst, arith}
 use Rattle.std.specs.Prelude.{slice_get}
 use Rattle.code_meaning.specs.Lowered.{Lowered}
 use Rattle.code.specs.Depth.{Listing}
-use Rattle.semantics.specs.declared.event.Event.{Event}
 use Rattle.semantics.specs.declared.event.Event.TheVariants as event
 use Rattle.semantics.specs.Journal.{Entry, steps_in}
 use Rattle.semantics.specs.declared.printed.Printed.{Printed}
@@ -13,12 +12,11 @@ use Rattle.semantics_safety.specs.Owners.{ThreadOwners}
 use Rattle.machine_scenes.specs.Buffers.{Acquired}
 use Rattle.machine_scenes.specs.declared.activation.Activation.{Activation}
 use Rattle.machine_scenes.specs.declared.store.Store.{Store}
-use Rattle.machine_steps.specs.Advances.{Stands, StandsWithin, within}
+use Rattle.machine_steps.specs.Advances.{Stands, StandsWithin, StepsFreely, within}
 use Rattle.machine_threads.specs.declared.thread.Thread.{Thread}
 use Rattle.machine.proofs.Notes.{steps_more}
 use Rattle.machine.specs.Run.{CanGoOnIn, WentOn}
 use Rattle.machine.proofs.FreeSteps.{none_taken, one_more, same_call, stands_now}
-use Rattle.machine.proofs.Steps.{StepsFreely}
 use Rattle.machine.proofs.plain_steps.take_in_code.Goals as goal
 
 -- it is still in this code
@@ -84,8 +82,8 @@ loop-taken-preserved c =
           subst (WentOn p w c.args.store.now later threads index printed c.args.journal.now.entries c.args.k (l.taken + 1) after None) (sym c.push_step.ensures.entries)
           (one_more p w c.args.store.now threads index printed c.args.journal.now.entries c.args.k thread h.goes_on l.taken l.store (within l.activation l.pending thread) l.journal.entries (l.invariant.went threads index printed thread h)
           later after event.Quiet h.goes_on.lives few
-          (subst (StepsFreely p w c.args.k l.store later (within l.activation l.pending thread) after) c.in-Some-Quiet.field-0-is
-          (λ others own shared s stands. c.in-Some-Quiet.ensures.advances others own shared s (within l.activation l.pending thread) (still_within p w c.args.store.now l.store threads index printed c.args.journal.now.entries c.args.k thread c.args.code.now c.args.activation.now l.activation c.args.pending.now l.pending c.args.owner h l.invariant.function others own shared s stands))) tt);
+          (subst (StepsFreely p w c.args.k l.store later (within l.activation l.pending thread) after) c.in-Did-Quiet.field-0-is
+          (λ others own shared s stands. c.in-Did-Quiet.ensures.advances others own shared s (within l.activation l.pending thread) (still_within p w c.args.store.now l.store threads index printed c.args.journal.now.entries c.args.k thread c.args.code.now c.args.activation.now l.activation c.args.pending.now l.pending c.args.owner h l.invariant.function others own shared s stands))) tt);
       within = omega (arith, c.loop-taken-test.true);
       goes = l.invariant.goes;
       function = c.advance_at_once.ensures.function ∙ l.invariant.function;
@@ -93,8 +91,8 @@ loop-taken-preserved c =
       room = omega (arith, l.invariant.room, c.push_step.ensures.room);
     }
 
-pub returns-in-Some-Trapped : goal.returns-in-Some-Trapped
-returns-in-Some-Trapped c =
+pub returns-in-Did-Trapped : goal.returns-in-Did-Trapped
+returns-in-Did-Trapped c =
     let p = c.args.program.now in
     let w = c.args.world.now in
     let l = c.loop-taken in
@@ -104,16 +102,20 @@ returns-in-Some-Trapped c =
       most = omega (arith, c.loop-taken-test.true);
       went = λ threads index printed thread h.
           let after = within c.advance_at_once.new.activation c.advance_at_once.new.pending thread in
-          subst (WentOn p w c.args.store.now later threads index printed c.args.journal.now.entries c.args.k (l.taken + 1) after (Some (record { thread = c.args.k; trap = c.in-Some-Trapped.trap; line = c.in-Some-Trapped.line }))) (sym c.push_step-in-Some-Trapped.ensures.entries)
+          subst (WentOn p w c.args.store.now later threads index printed c.args.journal.now.entries c.args.k (l.taken + 1) after (Some (record { thread = c.args.k; trap = c.in-Did-Trapped.trap; line = c.in-Did-Trapped.line }))) (sym c.push_step-in-Did-Trapped.ensures.entries)
           (one_more p w c.args.store.now threads index printed c.args.journal.now.entries c.args.k thread h.goes_on l.taken l.store (within l.activation l.pending thread) l.journal.entries (l.invariant.went threads index printed thread h)
-          later after (event.Trapped c.in-Some-Trapped.trap c.in-Some-Trapped.line) h.goes_on.lives few
-          (subst (StepsFreely p w c.args.k l.store later (within l.activation l.pending thread) after) c.in-Some-Trapped.field-0-is
-          (λ others own shared s stands. c.in-Some-Trapped.ensures.advances others own shared s (within l.activation l.pending thread) (still_within p w c.args.store.now l.store threads index printed c.args.journal.now.entries c.args.k thread c.args.code.now c.args.activation.now l.activation c.args.pending.now l.pending c.args.owner h l.invariant.function others own shared s stands))) tt);
-      ready = λ is. absurd (let clash : false ≡ true = is in cc);
+          later after (event.Trapped c.in-Did-Trapped.trap c.in-Did-Trapped.line) h.goes_on.lives few
+          (subst (StepsFreely p w c.args.k l.store later (within l.activation l.pending thread) after) c.in-Did-Trapped.field-0-is
+          (λ others own shared s stands. c.in-Did-Trapped.ensures.advances others own shared s (within l.activation l.pending thread) (still_within p w c.args.store.now l.store threads index printed c.args.journal.now.entries c.args.k thread c.args.code.now c.args.activation.now l.activation c.args.pending.now l.pending c.args.owner h l.invariant.function others own shared s stands))) tt);
+      next = λ other. absurd (other refl);
+      noted = (
+        (let longer : steps_in c.push_step-in-Did-Trapped.new.self.entries ≡ steps_in l.journal.entries + 1 = ap steps_in c.push_step-in-Did-Trapped.ensures.entries ∙ steps_more l.journal.entries c.args.k false in omega (arith, l.invariant.many, longer)),
+        omega (arith, l.invariant.room, c.push_step-in-Did-Trapped.ensures.room),
+      );
     }
 
-pub returns-in-None : goal.returns-in-None
-returns-in-None c =
+pub returns-in-Other : goal.returns-in-Other
+returns-in-Other c =
     let p = c.args.program.now in
     let w = c.args.world.now in
     let l = c.loop-taken in
@@ -121,11 +123,46 @@ returns-in-None c =
       most = omega (arith, c.loop-taken-test.true);
       went = λ threads index printed thread h.
           rw l.invariant.goes
-          (subst (λ (x : Store). WentOn p w c.args.store.now x threads index printed c.args.journal.now.entries c.args.k l.taken (within c.advance_at_once.new.activation c.advance_at_once.new.pending thread) None l.journal.entries) (sym c.in-None.ensures.store)
+          (subst (λ (x : Store). WentOn p w c.args.store.now x threads index printed c.args.journal.now.entries c.args.k l.taken (within c.advance_at_once.new.activation c.advance_at_once.new.pending thread) None l.journal.entries) (sym c.in-Other.ensures.store)
           (subst (λ (t : Thread). WentOn p w c.args.store.now l.store threads index printed c.args.journal.now.entries c.args.k l.taken t None l.journal.entries)
-          (λ i. let t : Thread = within (sym c.in-None.ensures.activation i) (sym c.in-None.ensures.pending i) thread in t)
+          (λ i. let t : Thread = within (sym c.in-Other.ensures.activation i) (sym c.in-Other.ensures.pending i) thread in t)
           (l.invariant.went threads index printed thread h)));
-      ready = λ is. (omega (arith, c.loop-taken-test.true), l.invariant.goes, omega (arith, l.invariant.many, c.requires.room, c.loop-taken-test.true));
+      next = λ other. (omega (arith, c.loop-taken-test.true), l.invariant.goes);
+      noted = (l.invariant.many, l.invariant.room);
+    }
+
+pub returns-in-Calls : goal.returns-in-Calls
+returns-in-Calls c =
+    let p = c.args.program.now in
+    let w = c.args.world.now in
+    let l = c.loop-taken in
+    record {
+      most = omega (arith, c.loop-taken-test.true);
+      went = λ threads index printed thread h.
+          rw l.invariant.goes
+          (subst (λ (x : Store). WentOn p w c.args.store.now x threads index printed c.args.journal.now.entries c.args.k l.taken (within c.advance_at_once.new.activation c.advance_at_once.new.pending thread) None l.journal.entries) (sym c.in-Calls.ensures.store)
+          (subst (λ (t : Thread). WentOn p w c.args.store.now l.store threads index printed c.args.journal.now.entries c.args.k l.taken t None l.journal.entries)
+          (λ i. let t : Thread = within (sym c.in-Calls.ensures.activation i) (sym c.in-Calls.ensures.pending i) thread in t)
+          (l.invariant.went threads index printed thread h)));
+      next = λ other. (omega (arith, c.loop-taken-test.true), l.invariant.goes);
+      noted = (l.invariant.many, l.invariant.room);
+    }
+
+pub returns-in-Returns : goal.returns-in-Returns
+returns-in-Returns c =
+    let p = c.args.program.now in
+    let w = c.args.world.now in
+    let l = c.loop-taken in
+    record {
+      most = omega (arith, c.loop-taken-test.true);
+      went = λ threads index printed thread h.
+          rw l.invariant.goes
+          (subst (λ (x : Store). WentOn p w c.args.store.now x threads index printed c.args.journal.now.entries c.args.k l.taken (within c.advance_at_once.new.activation c.advance_at_once.new.pending thread) None l.journal.entries) (sym c.in-Returns.ensures.store)
+          (subst (λ (t : Thread). WentOn p w c.args.store.now l.store threads index printed c.args.journal.now.entries c.args.k l.taken t None l.journal.entries)
+          (λ i. let t : Thread = within (sym c.in-Returns.ensures.activation i) (sym c.in-Returns.ensures.pending i) thread in t)
+          (l.invariant.went threads index printed thread h)));
+      next = λ other. (omega (arith, c.loop-taken-test.true), l.invariant.goes);
+      noted = (l.invariant.many, l.invariant.room);
     }
 
 pub returns : goal.returns
@@ -139,5 +176,6 @@ returns c =
       went = λ threads index printed thread h.
           rw l.invariant.goes
           (subst (λ (n : ℕ). WentOn p w c.args.store.now l.store threads index printed c.args.journal.now.entries c.args.k n (within l.activation l.pending thread) None l.journal.entries) all (l.invariant.went threads index printed thread h));
-      ready = λ is. absurd (let clash : false ≡ true = is in cc);
+      next = λ other. absurd (other refl);
+      noted = (l.invariant.many ∙ ap (λ (n : ℕ). steps_in c.args.journal.now.entries + n) all, omega (arith, l.invariant.room, all));
     }

@@ -1,6 +1,6 @@
 use Rattle.std.proofs.lemmas.List.{with_items_is, places}
 use Rattle.std.proofs.Common.{rules, ◌≡◌, ℕ, suc, ◌-◌, ◌<◌, false, [], ◌∷◌, ◌++◌, List, refl, sym, ap, ◌∙◌, subst, arith}
-use Rattle.std.specs.Prelude.{Result, Ok, Err, OnErr, IsSome}
+use Rattle.std.specs.Prelude.{Result, Ok, Err, OnErr}
 use Rattle.syntax.specs.declared.unit.Item.{Item}
 use Rattle.semantics.specs.Journal.{Entry, Step, steps_in}
 use Rattle.machine_collections.specs.Clearing.{clearing_of}
@@ -9,7 +9,7 @@ use Rattle.semantics.specs.World.{World}
 use Rattle.heap.specs.Layout.{layout_of}
 use Rattle.semantics.specs.EventViews.{printed_after}
 use Rattle.machine_threads.specs.declared.thread.Thread.{Thread}
-use Rattle.machine.specs.Run.{AdvancesAndNotes, CanAdvance, Corresponds, Run, CouldStep, replay_of, event_of, is_refused, slices_of}
+use Rattle.machine.specs.Run.{AdvancesAndNotes, CanAdvance, Corresponds, Run, CouldStep, event_of, is_refused, slices_of}
 use Rattle.machine_scenes.specs.declared.store.Store.{Store}
 use Rattle.machine.proofs.Steps.{counted_from}
 use Rattle.machine.proofs.Turns.{Ready, next, ready, turn_here}

@@ -1,4 +1,4 @@
-use Rattle.std.proofs.Common.{◌≡◌, ℕ, Some, true, false, refl, sym, ◌∙◌, subst}
+use Rattle.std.proofs.Common.{◌≡◌, Some, true, false, refl, sym, ◌∙◌, subst}
 use Rattle.semantics.specs.State.{State}
 use Rattle.semantics.specs.Step.{is_blocked}
 use Rattle.machine.specs.Run.{Run, is_finished, replay_of}

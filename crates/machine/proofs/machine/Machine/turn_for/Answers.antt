@@ -4,7 +4,7 @@ use Rattle.semantics.specs.Schedule.{Schedule}
 use Rattle.semantics.specs.World.{World}
 use Rattle.semantics.specs.declared.schedule.ScheduleWord.TheVariants.{Turn}
 use Rattle.machine.specs.Run.{Run, RunsAlong, RunsInto, EndsAt, replay_of}
-use Rattle.machine.proofs.Runs.{begun, none_yet, replicate_rest, taken_more, turns_without_step}
+use Rattle.machine.proofs.Runs.{begun, replicate_rest, taken_more, turns_without_step}
 use Rattle.machine.specs.declared.fault.RunFault.{RunFault}
 use Rattle.machine.proofs.machine.Machine.turn_for.Goals as goal
 use Rattle.machine.proofs.machine.Machine.turn_for.Goals.{After-run_plainly-ran}
