@@ -163,7 +163,7 @@ fn empty_fields(slots: &mut Vec<Option<Handle>>, count: usize)
     fill_fields(slots, count);
 }
 
-/// The same of no slots. It stands apart, since most functions have none.
+/// Fills the slots of a function that has some. It stands apart from the entry of all others.
 #[inline(never)]
 fn fill_fields(slots: &mut Vec<Option<Handle>>, count: usize)
     requires none { slots.old.items ≡ [] }
@@ -186,7 +186,7 @@ fn empty_buffers(slots: &mut Vec<Buffer>, count: usize)
     fill_buffers(slots, count);
 }
 
-/// The same of no slots. It stands apart, since most functions have none.
+/// Fills the slots of a function that has some, apart likewise.
 #[inline(never)]
 fn fill_buffers(slots: &mut Vec<Buffer>, count: usize)
     requires none { slots.old.items ≡ [] }
