@@ -49,12 +49,12 @@ first_given sight (operands.Number (term.Done v)) rest given = refl
 first_given sight (operands.Number (term.Number n unsigned)) rest given = absurd (cc)
 first_given sight (operands.Number (term.Named c)) rest given = absurd (cc)
 first_given sight (operands.Number (term.Read x)) rest given = absurd (cc)
-first_given sight (operands.Number (term.Element' x p i)) rest given = absurd (cc)
+first_given sight (operands.Number (term.Element x i)) rest given = absurd (cc)
 first_given sight (operands.Number (term.IsNull wanted x)) rest given = absurd (cc)
-first_given sight (operands.Number (term.Prefix' op p t)) rest given = absurd (cc)
+first_given sight (operands.Number (term.Prefix op t)) rest given = absurd (cc)
 first_given sight (operands.Number (term.And' p s q t)) rest given = absurd (cc)
 first_given sight (operands.Number (term.Or' p s q t)) rest given = absurd (cc)
-first_given sight (operands.Number (term.Binary' op p s q t)) rest given = absurd (cc)
+first_given sight (operands.Number (term.Binary op s t)) rest given = absurd (cc)
 
 -- a number that has no value yet
 pub record IsOpen (u : terms.Term) : Type 0 where
@@ -66,12 +66,12 @@ is_open (term.Done v) none = absurd (none v refl)
 is_open (term.Number n unsigned) none = record { unready = λ number. refl; reduces = λ rest step further. refl }
 is_open (term.Named c) none = record { unready = λ number. refl; reduces = λ rest step further. refl }
 is_open (term.Read x) none = record { unready = λ number. refl; reduces = λ rest step further. refl }
-is_open (term.Element' x p i) none = record { unready = λ number. refl; reduces = λ rest step further. refl }
+is_open (term.Element x i) none = record { unready = λ number. refl; reduces = λ rest step further. refl }
 is_open (term.IsNull wanted x) none = record { unready = λ number. refl; reduces = λ rest step further. refl }
-is_open (term.Prefix' op p t) none = record { unready = λ number. refl; reduces = λ rest step further. refl }
+is_open (term.Prefix op t) none = record { unready = λ number. refl; reduces = λ rest step further. refl }
 is_open (term.And' p s q t) none = record { unready = λ number. refl; reduces = λ rest step further. refl }
 is_open (term.Or' p s q t) none = record { unready = λ number. refl; reduces = λ rest step further. refl }
-is_open (term.Binary' op p s q t) none = record { unready = λ number. refl; reduces = λ rest step further. refl }
+is_open (term.Binary op s t) none = record { unready = λ number. refl; reduces = λ rest step further. refl }
 
 -- an element in its own place
 set_same : {A : Type 0} (xs : List A) (n : ℕ) (x : A) → slice_get xs n ≡ Some x → slice_set xs n x ≡ xs

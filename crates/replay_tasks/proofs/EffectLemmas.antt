@@ -39,12 +39,12 @@ no_value (term.Done v) none sight line use_value whole = absurd (none v refl)
 no_value (term.Number n unsigned) none sight line use_value whole = refl
 no_value (term.Named c) none sight line use_value whole = refl
 no_value (term.Read x) none sight line use_value whole = refl
-no_value (term.Element' x p i) none sight line use_value whole = refl
+no_value (term.Element x i) none sight line use_value whole = refl
 no_value (term.IsNull wanted x) none sight line use_value whole = refl
-no_value (term.Prefix' op p t) none sight line use_value whole = refl
+no_value (term.Prefix op t) none sight line use_value whole = refl
 no_value (term.And' p s q t) none sight line use_value whole = refl
 no_value (term.Or' p s q t) none sight line use_value whole = refl
-no_value (term.Binary' op p s q t) none sight line use_value whole = refl
+no_value (term.Binary op s t) none sight line use_value whole = refl
 
 -- the task at a term is reduced as the term is
 pub reduces : (sight : Sight) (line : ℕ) (at : Term → TaskInMemory) (whole : tree.Term → Task) → ((t : Term) → task_view (at t) ≡ whole (term_view t))
@@ -108,12 +108,12 @@ no_name_returned sight line (term.Done v) none no_constant no_name = absurd (non
 no_name_returned sight line (term.Number n unsigned) none no_constant no_name = refl
 no_name_returned sight line (term.Named c) none no_constant no_name = absurd (no_constant c refl)
 no_name_returned sight line (term.Read x) none no_constant no_name = absurd (no_name x refl)
-no_name_returned sight line (term.Element' x p i) none no_constant no_name = refl
+no_name_returned sight line (term.Element x i) none no_constant no_name = refl
 no_name_returned sight line (term.IsNull wanted x) none no_constant no_name = refl
-no_name_returned sight line (term.Prefix' op p t) none no_constant no_name = refl
+no_name_returned sight line (term.Prefix op t) none no_constant no_name = refl
 no_name_returned sight line (term.And' p s q t) none no_constant no_name = refl
 no_name_returned sight line (term.Or' p s q t) none no_constant no_name = refl
-no_name_returned sight line (term.Binary' op p s q t) none no_constant no_name = refl
+no_name_returned sight line (term.Binary op s t) none no_constant no_name = refl
 
 -- ---- tasks at terms, where this can be seen
 

@@ -1,11 +1,10 @@
 -- Values, terms and variables that lie in memory, as those of the language.
-use Rattle.std.specs.Prelude.{◌≡◌, ◌<◌, ◌≤◌, ◌+◌, ℕ, ℤ, Bool, not, length, List, [], ◌∷◌, map, slice_get, slice_set, Option, Some, None}
+use Rattle.std.specs.Prelude.{◌≡◌, ◌<◌, ◌≤◌, ◌+◌, ℕ, ℤ, not, length, List, [], ◌∷◌, map, slice_get, slice_set, Option, Some, None}
 use Rattle.std.specs.Option.{option_map}
 use Rattle.std.specs.Borrow.{Bor}
 use Rattle.base.specs.Limits.{most_copied, most_views}
 use Rattle.base.specs.Bytes.{Identifier, ByName, lookup}
 use Rattle.base.specs.Element.{ElementType, element_value}
-use Rattle.syntax.specs.Tree.{BinaryOp}
 use Rattle.syntax.specs.Views.{argument_tree, constant_tree, function_tree, prefix_tree, binary_tree}
 use Rattle.syntax.specs.Limits.{number_limit}
 use Rattle.classes.specs.FieldViews.{field_id_view}
@@ -16,7 +15,7 @@ use Rattle.semantics.specs.Method.{MethodId}
 use Rattle.semantics.specs.Sight.{Sight, in_range}
 use Rattle.semantics.specs.Task.{Operand, NumberOperand, PassedName}
 use Rattle.semantics.specs.Task as task
-use Rattle.semantics.specs.Term.{Term, Done, Number, Named, Read, Element, IsNull, Prefix, And, Or, Binary, Reduction, binary_term, done, reduce}
+use Rattle.semantics.specs.Term.{Term, Done, Number, Named, Read, Element, IsNull, Prefix, And, Or, Binary, Reduction, done, reduce}
 use Rattle.semantics.specs.Value.{Value, Word, Int, Flag, Truth, Outcome, Gives, Traps, Stuck, outcome_then, outcome_map, convert}
 use Rattle.semantics.specs.Variable.{Variable, Scalar, LocalRef, FieldHandle, MethodHandle, Elements, LocalArray, Buffer, NoBuffer, Copy, View, StaticReference, Empty, Live, Weakly, Cleared, Deleted, Variables, Statics, assign, copied_length, viewed}
 use Rattle.semantics.specs.Thread.{BuffersInUse}
@@ -41,6 +40,8 @@ use Rattle.replay_terms.specs.declared.value.Evaluated.{Evaluated}
 use Rattle.replay_terms.specs.declared.value.Evaluated.TheVariants as evaluated
 use Rattle.replay_terms.specs.declared.value.Value.{Value as ValueInMemory}
 use Rattle.replay_terms.specs.declared.value.Value.TheVariants as value
+use Rattle.replay_terms.specs.declared.term.Part.{Part}
+use Rattle.replay_terms.specs.declared.term.Part.TheVariants as part
 use Rattle.replay_terms.specs.declared.term.Term.{Term as TermInMemory}
 use Rattle.replay_terms.specs.declared.term.Term.TheVariants as term
 use Rattle.replay_terms.specs.declared.variable.Content.{Content}
@@ -214,30 +215,44 @@ pub record Takes (vs : Contents) (u : InUseInMemory) : Type 0 where
 
 -- ---- terms
 
-abbrev pub term_view : TermInMemory → Term
-term_view (term.Done v) = Done (value_view v)
-term_view (term.Number n unsigned) = Number n unsigned
-term_view (term.Named c) = Named (constant_tree c)
-term_view (term.Read x) = Read x.now
-term_view (term.Element' x p i) = Element x.now (term_view i)
-term_view (term.IsNull wanted x) = IsNull wanted x.now
-term_view (term.Prefix' op p t) = Prefix (prefix_tree op) (term_view t)
-term_view (term.And' p s q t) = And (term_view s) (term_view t)
-term_view (term.Or' p s q t) = Or (term_view s) (term_view t)
-term_view (term.Binary' op p s q t) = Binary (binary_tree op) (term_view s) (term_view t)
+abbrev mutual
+  pub term_view : TermInMemory → Term
+  term_view (term.Done v) = Done (value_view v)
+  term_view (term.Number n unsigned) = Number n unsigned
+  term_view (term.Named c) = Named (constant_tree c)
+  term_view (term.Read x) = Read x.now
+  term_view (term.Element x i) = Element x.now (part_view i)
+  term_view (term.IsNull wanted x) = IsNull wanted x.now
+  term_view (term.Prefix op t) = Prefix (prefix_tree op) (part_view t)
+  term_view (term.And' p s q t) = And (term_view s) (term_view t)
+  term_view (term.Or' p s q t) = Or (term_view s) (term_view t)
+  term_view (term.Binary op s t) = Binary (binary_tree op) (part_view s) (part_view t)
+
+  pub part_view : Part → Term
+  part_view (part.Done v) = Done (value_view v)
+  part_view (part.Number n unsigned) = Number n unsigned
+  part_view (part.Read x) = Read x.now
+  part_view (part.Whole' p t) = term_view t
 
 -- each number that has no value yet is in the range of its type
-abbrev pub NumbersInRange : TermInMemory → Type 0
-NumbersInRange (term.Done v) = Unit {0}
-NumbersInRange (term.Number n unsigned) = n < number_limit unsigned
-NumbersInRange (term.Named c) = Unit {0}
-NumbersInRange (term.Read x) = Unit {0}
-NumbersInRange (term.Element' x p i) = NumbersInRange i
-NumbersInRange (term.IsNull wanted x) = Unit {0}
-NumbersInRange (term.Prefix' op p t) = NumbersInRange t
-NumbersInRange (term.And' p s q t) = NumbersInRange s × NumbersInRange t
-NumbersInRange (term.Or' p s q t) = NumbersInRange s × NumbersInRange t
-NumbersInRange (term.Binary' op p s q t) = NumbersInRange s × NumbersInRange t
+abbrev mutual
+  pub NumbersInRange : TermInMemory → Type 0
+  NumbersInRange (term.Done v) = Unit {0}
+  NumbersInRange (term.Number n unsigned) = n < number_limit unsigned
+  NumbersInRange (term.Named c) = Unit {0}
+  NumbersInRange (term.Read x) = Unit {0}
+  NumbersInRange (term.Element x i) = PartInRange i
+  NumbersInRange (term.IsNull wanted x) = Unit {0}
+  NumbersInRange (term.Prefix op t) = PartInRange t
+  NumbersInRange (term.And' p s q t) = NumbersInRange s × NumbersInRange t
+  NumbersInRange (term.Or' p s q t) = NumbersInRange s × NumbersInRange t
+  NumbersInRange (term.Binary op s t) = PartInRange s × PartInRange t
+
+  pub PartInRange : Part → Type 0
+  PartInRange (part.Done v) = Unit {0}
+  PartInRange (part.Number n unsigned) = n < number_limit unsigned
+  PartInRange (part.Read x) = Unit {0}
+  PartInRange (part.Whole' p t) = NumbersInRange t
 
 -- ---- the step of a term
 
@@ -260,18 +275,29 @@ IsLeaf (term.IsNull wanted x) = Unit {0}
 IsLeaf (term.Done v) = Unit {0}
 IsLeaf t = ⊥
 
--- its parts that take steps have their values
-abbrev pub IsValue : TermInMemory → Type 0
-IsValue (term.Done v) = Unit {0}
-IsValue t = ⊥
+-- a part without parts
+abbrev pub IsSmall : Part → Type 0
+IsSmall (part.Whole' p t) = ⊥
+IsSmall p = Unit {0}
 
+-- it has its value
+abbrev pub HasValue : Term → Type 0
+HasValue (Done v) = Unit {0}
+HasValue t = ⊥
+
+-- its parts that take steps have their values
 abbrev pub HasValues : TermInMemory → Type 0
-HasValues (term.Element' x p i) = IsValue i
-HasValues (term.Prefix' op p t) = IsValue t
-HasValues (term.And' p s q t) = IsValue s
-HasValues (term.Or' p s q t) = IsValue s
-HasValues (term.Binary' op p s q t) = IsValue s × IsValue t
+HasValues (term.Element x i) = HasValue (part_view i)
+HasValues (term.Prefix op t) = HasValue (part_view t)
+HasValues (term.And' p s q t) = HasValue (term_view s)
+HasValues (term.Or' p s q t) = HasValue (term_view s)
+HasValues (term.Binary op s t) = HasValue (part_view s) × HasValue (part_view t)
 HasValues t = Unit {0}
+
+-- it has no value yet
+abbrev pub IsUnfinished : Term → Type 0
+IsUnfinished (Done v) = ⊥
+IsUnfinished t = Unit {0}
 
 -- the right side of `&&` or `||`
 abbrev pub right_side : Term → Term
@@ -279,17 +305,31 @@ right_side (And s t) = t
 right_side (Or s t) = t
 right_side t = t
 
--- the value takes the place of a term, if there is one
+-- the value, if there is one, takes the place of what is made of a value so
+abbrev pub IsReplacedBy : {T : Type 0} → (ValueInMemory → T) → T → Evaluated → ReductionInMemory → T → Type 0
+IsReplacedBy held old (evaluated.Gives v) took new = (took ≡ reduction.Reduced) × (new ≡ held v)
+IsReplacedBy held old (evaluated.Traps trap) took new = (took ≡ reduction.Trapped trap) × (new ≡ old)
+IsReplacedBy held old evaluated.Stuck took new = (took ≡ reduction.Stuck) × (new ≡ old)
+
+-- that of a term, and that of a part of one
 abbrev pub IsReplaced : TermInMemory → Evaluated → ReductionInMemory → TermInMemory → Type 0
-IsReplaced old (evaluated.Gives v) took new = (took ≡ reduction.Reduced) × (new ≡ term.Done v)
-IsReplaced old (evaluated.Traps trap) took new = (took ≡ reduction.Trapped trap) × (new ≡ old)
-IsReplaced old evaluated.Stuck took new = (took ≡ reduction.Stuck) × (new ≡ old)
+IsReplaced old value took new = IsReplacedBy term.Done old value took new
+
+abbrev pub IsPartReplaced : Part → Evaluated → ReductionInMemory → Part → Type 0
+IsPartReplaced old value took new = IsReplacedBy part.Done old value took new
 
 -- where this can be seen, what a step in memory did is what a step of the language does
+abbrev pub ReducesBy : {T : Type 0} → (T → Term) → Sight → T → ReductionInMemory → T → Type 0
+ReducesBy view sight old reduction.Reduced new = reduce sight (view old) ≡ Gives (view new)
+ReducesBy view sight old (reduction.Trapped trap) new = (reduce sight (view old) ≡ Traps (trap_view trap)) × (new ≡ old)
+ReducesBy view sight old reduction.Stuck new = reduce sight (view old) ≡ Stuck
+
+-- that of a term, and that of a part of one
 abbrev pub Reduces : Sight → TermInMemory → ReductionInMemory → TermInMemory → Type 0
-Reduces sight old reduction.Reduced new = reduce sight (term_view old) ≡ Gives (term_view new)
-Reduces sight old (reduction.Trapped trap) new = (reduce sight (term_view old) ≡ Traps (trap_view trap)) × (new ≡ old)
-Reduces sight old reduction.Stuck new = reduce sight (term_view old) ≡ Stuck
+Reduces sight old took new = ReducesBy term_view sight old took new
+
+abbrev pub ReducesPart : Sight → Part → ReductionInMemory → Part → Type 0
+ReducesPart sight old took new = ReducesBy part_view sight old took new
 
 -- ---- calls
 

@@ -20,6 +20,6 @@ pub use operand::Operand;
 pub use reduction::{Reduction, reduce};
 pub use sight::{Indexed, held_reference, number_in, place_in};
 pub use statics::{StaticReference, Statics, as_reference, is_among, null_statics};
-pub use term::{Term, put_term, term_of};
+pub use term::{Part, Term, put_term, term_of};
 pub use value::{Evaluated, Value, constant, convert};
 pub use variable::{Content, Variables, Written, held_number, zeros};

@@ -1,15 +1,16 @@
 //! Steps of terms.
 
-ghost use Rattle.std.specs.Prelude.{◌≡◌, ◌↔◌, IsTrue};
+ghost use Rattle.std.specs.Prelude.{◌≡◌, ◌↔◌, IfNone, IfSome, IsTrue};
 ghost use Rattle.syntax.specs.Views.{binary_tree};
 ghost use Rattle.semantics.specs.Heap.{Heap};
 ghost use Rattle.semantics.specs.Sight.{Sight, seen};
-ghost use Rattle.semantics.specs.Term.{Term as TermOfTree, Binary, and_then, or_else, done, reduce};
-ghost use Rattle.replay_terms.specs.Views.{value_view, evaluated_view, term_view, variables_view, NumbersInRange, decided, right_side, IsLeaf, IsValue, HasValues, IsReplaced, Reduces};
+ghost use Rattle.semantics.specs.Variable.{Statics as StaticsOfUnit};
+ghost use Rattle.semantics.specs.Term.{Term as TermOfTree, Binary, Done, and_then, or_else, done, reduce};
+ghost use Rattle.replay_terms.specs.Views.{value_view, evaluated_view, term_view, part_view, variables_view, NumbersInRange, PartInRange, decided, right_side, IsLeaf, HasValue, HasValues, IsSmall, IsUnfinished, IsReplaced, IsPartReplaced, Reduces, ReducesPart};
 
 use crate::sight::{element_in, null_value, number_in};
 use crate::statics::Statics;
-use crate::term::{Term, put_term, put_value};
+use crate::term::{Part, Term, put_part_value, put_term, put_value};
 use crate::value::{Evaluated, Value, binary_value, constant, literal, prefix_value};
 use crate::variable::Variables;
 use semantics::{Objects, Trap};
@@ -57,6 +58,7 @@ fn or_else(left: Value) -> Option<Evaluated>
 }
 
 /// Puts a value in the place of a term.
+#[inline]
 fn replace(term: &mut Term<'_>, value: Evaluated) -> Reduction
     ensures { IsReplaced term.old value result term.new }
 {
@@ -86,52 +88,46 @@ fn leaf_value(statics: &Statics<'_>, variables: &Variables<'_>, term: &Term<'_>)
     }
 }
 
-/// The value of an operator between two terms that have theirs; none where one has none.
-fn operator_value(op: BinaryOp, left: &Term<'_>, right: &Term<'_>) -> Option<Evaluated>
-    ensures { IsValue left.now → IsValue right.now → (sight : Sight)
-        → reduce sight (Binary (binary_tree op) (term_view left.now) (term_view right.now))
-        ≡ decided result (Binary (binary_tree op) (term_view left.now) (term_view right.now)) }
-{
-    let Term::Done(v) = *left else {
-        return None;
-    };
-    let Term::Done(w) = *right else {
-        return None;
-    };
-    Some(binary_value(op, v, w))
-}
-
-/// The value of a term whose parts have theirs; none where its right side decides.
-fn value_of<O: Objects>(
-    objects: &O,
-    statics: &Statics<'_>,
-    variables: &Variables<'_>,
-    term: &Term<'_>,
-) -> Option<Evaluated>
-    requires { NumbersInRange term.now }
-    ensures { HasValues term.now → reduce (seen (variables_view variables.now) (statics.now) (O.heap objects.now))
-        (term_view term.now) ≡ decided result (right_side (term_view term.now)) }
+/// The value of a term that has it.
+#[inline]
+fn value_in_term(term: &Term<'_>) -> Option<Value>
+    ensures some { IfSome result (λ v. term_view term.now ≡ Done (value_view v)) }
+    ensures none { IfNone result (IsUnfinished (term_view term.now)) }
 {
     match term {
-        Term::Element(name, i) => match **i {
-            Term::Done(i) => Some(element_in(objects, variables, name, i)),
-            _ => None,
-        },
-        Term::Prefix(op, a) => match **a {
-            Term::Done(v) => Some(prefix_value(*op, v)),
-            _ => None,
-        },
-        Term::And(a, _) => match **a {
-            Term::Done(v) => and_then(v),
-            _ => None,
-        },
-        Term::Or(a, _) => match **a {
-            Term::Done(v) => or_else(v),
-            _ => None,
-        },
-        Term::Binary(op, a, b) => operator_value(*op, a, b),
-        Term::Done(_) | Term::Number { .. } | Term::Named(_) | Term::Read(_) | Term::IsNull(_, _) =>
-            Some(leaf_value(statics, variables, term)),
+        Term::Done(v) => Some(*v),
+        Term::Number { .. } | Term::Named(_) | Term::Read(_) => None,
+        Term::Element(_, _) | Term::IsNull(_, _) | Term::Prefix(_, _) => None,
+        Term::And(_, _) | Term::Or(_, _) | Term::Binary(_, _, _) => None,
+    }
+}
+
+/// The value of a part that has it.
+#[inline]
+fn value_in(part: &Part<'_>) -> Option<Value>
+    ensures some { IfSome result (λ v. part_view part.now ≡ Done (value_view v)) }
+    ensures none { IfNone result (IsUnfinished (part_view part.now)) }
+{
+    match part {
+        Part::Done(v) => Some(*v),
+        Part::Number { .. } => None,
+        Part::Read(_) => None,
+        Part::Whole(t) => value_in_term(t),
+    }
+}
+
+/// Puts the value of a part without parts in its place.
+#[inline]
+fn replace_part(part: &mut Part<'_>, value: Evaluated) -> Reduction
+    ensures { IsPartReplaced part.old value result part.new }
+{
+    match value {
+        Evaluated::Gives(value) => {
+            put_part_value(part, value);
+            Reduction::Reduced
+        }
+        Evaluated::Traps(trap) => Reduction::Trapped(trap),
+        Evaluated::Stuck => Reduction::Stuck,
     }
 }
 
@@ -153,7 +149,57 @@ fn replace_by_right(term: &mut Term<'_>)
     }
 }
 
+/// The value of an operator between two parts that have theirs; none where one has none.
+fn operator_value(op: BinaryOp, left: &Part<'_>, right: &Part<'_>) -> Option<Evaluated>
+    ensures { HasValue (part_view left.now) → HasValue (part_view right.now) → (sight : Sight)
+        → reduce sight (Binary (binary_tree op) (part_view left.now) (part_view right.now))
+        ≡ decided result (Binary (binary_tree op) (part_view left.now) (part_view right.now)) }
+{
+    match value_in(left) {
+        Some(v) => match value_in(right) {
+            Some(w) => Some(binary_value(op, v, w)),
+            None => None,
+        },
+        None => None,
+    }
+}
+
+/// The value of a term whose parts have theirs; none where its right side decides.
+fn value_of<O: Objects>(
+    objects: &O,
+    statics: &Statics<'_>,
+    variables: &Variables<'_>,
+    term: &Term<'_>,
+) -> Option<Evaluated>
+    requires { NumbersInRange term.now }
+    ensures { HasValues term.now → reduce (seen (variables_view variables.now) (statics.now) (O.heap objects.now))
+        (term_view term.now) ≡ decided result (right_side (term_view term.now)) }
+{
+    match term {
+        Term::Element(name, i) => match value_in(i) {
+            Some(v) => Some(element_in(objects, variables, name, v)),
+            None => None,
+        },
+        Term::Prefix(op, a) => match value_in(a) {
+            Some(v) => Some(prefix_value(*op, v)),
+            None => None,
+        },
+        Term::And(a, _) => match value_in_term(a) {
+            Some(v) => and_then(v),
+            None => None,
+        },
+        Term::Or(a, _) => match value_in_term(a) {
+            Some(v) => or_else(v),
+            None => None,
+        },
+        Term::Binary(op, a, b) => operator_value(*op, a, b),
+        Term::Done(_) | Term::Number { .. } | Term::Named(_) | Term::Read(_) | Term::IsNull(_, _) =>
+            Some(leaf_value(statics, variables, term)),
+    }
+}
+
 /// Replaces a term whose parts have their values.
+#[inline(never)]
 fn settle<O: Objects>(
     objects: &O,
     statics: &Statics<'_>,
@@ -174,12 +220,12 @@ fn settle<O: Objects>(
     }
 }
 
-/// Whether a term has its value.
+/// Whether a part has its value.
 #[inline]
-fn is_value(term: &Term<'_>) -> bool
-    ensures { IsTrue result ↔ IsValue term.now }
+fn is_value(part: &Part<'_>) -> bool
+    ensures { IsTrue result ↔ HasValue (part_view part.now) }
 {
-    matches!(term, Term::Done(_))
+    value_in(part).is_some()
 }
 
 /// Whether the parts that take steps have their values.
@@ -189,9 +235,56 @@ fn has_values(term: &Term<'_>) -> bool
 {
     match term {
         Term::Element(_, a) | Term::Prefix(_, a) => is_value(a),
-        Term::And(a, _) | Term::Or(a, _) => is_value(a),
+        Term::And(a, _) | Term::Or(a, _) => value_in_term(a).is_some(),
         Term::Binary(_, a, b) => is_value(a) && is_value(b),
         _ => true,
+    }
+}
+
+/// The value of a part without parts.
+#[inline]
+fn part_value(variables: &Variables<'_>, part: &Part<'_>) -> Evaluated
+    requires { PartInRange part.now }
+    ensures { IsSmall part.now → (statics : StaticsOfUnit) (heap : Heap)
+        → reduce (seen (variables_view variables.now) statics heap) (part_view part.now) ≡ done (evaluated_view result) }
+{
+    match part {
+        Part::Number { value, unsigned } => Evaluated::Gives(literal(*value, *unsigned)),
+        Part::Read(name) => number_in(variables, name),
+        Part::Done(_) | Part::Whole(_) => Evaluated::Stuck,
+    }
+}
+
+/// Replaces a part without parts by its value.
+#[inline]
+fn replace_small(variables: &Variables<'_>, part: &mut Part<'_>) -> Reduction
+    requires range { PartInRange part.old }
+    requires small { IsSmall part.old }
+    ensures step { (statics : StaticsOfUnit) (heap : Heap) → ReducesPart (seen (variables_view variables.now) statics heap) part.old result part.new }
+    ensures numbers { PartInRange part.new }
+{
+    let value = part_value(variables, part);
+    replace_part(part, value)
+}
+
+/// Reduces a part of a term.
+#[inline]
+#[cycle(reduce)]
+fn reduce_in<O: Objects>(
+    objects: &O,
+    statics: &Statics<'_>,
+    variables: &Variables<'_>,
+    part: &mut Part<'_>,
+) -> Reduction
+    requires { PartInRange part.old }
+    ensures step { ReducesPart (seen (variables_view variables.now) (statics.now) (O.heap objects.now)) part.old result part.new }
+    ensures numbers { PartInRange part.new }
+{
+    match part {
+        Part::Whole(t) => reduce(objects, statics, variables, t),
+        Part::Number { .. } => replace_small(variables, part),
+        Part::Read(_) => replace_small(variables, part),
+        Part::Done(_) => Reduction::Stuck,
     }
 }
 
@@ -210,12 +303,12 @@ fn reduce_part<O: Objects>(
     ensures numbers { NumbersInRange term.new }
 {
     match term {
-        Term::Element(_, i) => reduce(objects, statics, variables, i),
-        Term::Prefix(_, a) => reduce(objects, statics, variables, a),
+        Term::Element(_, i) => reduce_in(objects, statics, variables, i),
+        Term::Prefix(_, a) => reduce_in(objects, statics, variables, a),
         Term::And(a, _) => reduce(objects, statics, variables, a),
         Term::Or(a, _) => reduce(objects, statics, variables, a),
-        Term::Binary(_, a, _) if !is_value(a) => reduce(objects, statics, variables, a),
-        Term::Binary(_, _, b) => reduce(objects, statics, variables, b),
+        Term::Binary(_, a, _) if !is_value(a) => reduce_in(objects, statics, variables, a),
+        Term::Binary(_, _, b) => reduce_in(objects, statics, variables, b),
         _ => unreachable!(),
     }
 }

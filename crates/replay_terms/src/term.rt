@@ -1,13 +1,14 @@
 //! Terms: expressions on the way to their values.
 
-ghost use Rattle.std.specs.Prelude.{◌≡◌, IfOk, IsTrue, None};
+ghost use Rattle.std.specs.Prelude.{◌≡◌, IfOk, IfSome, IsTrue, None};
 ghost use Rattle.syntax.specs.Limits.{numbers_in_range};
 ghost use Rattle.syntax.specs.Parts.{null_tested};
 ghost use Rattle.syntax.specs.Tree.{Binary};
 ghost use Rattle.syntax.specs.Views.{expr_tree, binary_tree};
 ghost use Rattle.semantics.specs.Term.{term_of, binary_term};
 ghost use Rattle.replay_terms.specs.declared.term.Term.TheVariants as term;
-ghost use Rattle.replay_terms.specs.Views.{term_view, NumbersInRange};
+ghost use Rattle.replay_terms.specs.declared.term.Part.TheVariants as part;
+ghost use Rattle.replay_terms.specs.Views.{term_view, part_view, NumbersInRange, PartInRange};
 
 use crate::value::Value;
 use std::alloc::{AllocError, Global};
@@ -15,6 +16,7 @@ use std::mem;
 use syntax::{BinaryOp, Constant, Expr, Name, PrefixOp};
 
 /// An expression of which some parts have their values; parentheses are dropped.
+#[cycle(term)]
 #[derive(Drop)]
 pub enum Term<'a> {
     Done(Value),
@@ -23,13 +25,24 @@ pub enum Term<'a> {
     /// A number variable.
     Read(&'a Name),
     /// An element of an array.
-    Element(&'a Name, Box<Term<'a>>),
+    Element(&'a Name, Part<'a>),
     /// `x == NULL`, or `x != NULL` where it is false.
     IsNull(bool, &'a Name),
-    Prefix(PrefixOp, Box<Term<'a>>),
+    Prefix(PrefixOp, Part<'a>),
     And(Box<Term<'a>>, Box<Term<'a>>),
     Or(Box<Term<'a>>, Box<Term<'a>>),
-    Binary(BinaryOp, Box<Term<'a>>, Box<Term<'a>>),
+    Binary(BinaryOp, Part<'a>, Part<'a>),
+}
+
+/// A part of a term: the smallest lie in the term, and others in memory of their own.
+#[cycle(term)]
+#[derive(Drop)]
+pub enum Part<'a> {
+    Done(Value),
+    Number { value: u32, unsigned: bool },
+    /// A number variable.
+    Read(&'a Name),
+    Whole(Box<Term<'a>>),
 }
 
 /// Puts a term in the place of another.
@@ -44,8 +57,12 @@ pub(crate) fn put_value(place: &mut Term<'_>, value: Value)
     ensures { place.new ≡ term.Done value }
 {
     match mem::replace(place, Term::Done(value)) {
-        Term::Element(_, part) | Term::Prefix(_, part) => drop(part),
-        Term::And(left, right) | Term::Or(left, right) | Term::Binary(_, left, right) => {
+        Term::Element(_, part) | Term::Prefix(_, part) => drop_part(part),
+        Term::Binary(_, left, right) => {
+            drop_part(left);
+            drop_part(right);
+        }
+        Term::And(left, right) | Term::Or(left, right) => {
             drop(left);
             drop(right);
         }
@@ -54,19 +71,19 @@ pub(crate) fn put_value(place: &mut Term<'_>, value: Value)
     }
 }
 
-/// The term of an operator between two terms.
-#[tactic(auto, using(crate::proofs::TermLemmas::operator_rules))]
-fn operator_term<'a>(op: BinaryOp, left: Box<Term<'a>>, right: Box<Term<'a>>) -> Term<'a>
-    requires left { NumbersInRange left.value }
-    requires right { NumbersInRange right.value }
-    ensures view { term_view result ≡ binary_term (binary_tree op) None (term_view left.entry.value) (term_view right.entry.value) }
-    ensures numbers { NumbersInRange result }
-{
-    match op {
-        BinaryOp::LogicalAnd => Term::And(left, right),
-        BinaryOp::LogicalOr => Term::Or(left, right),
-        op => Term::Binary(op, left, right),
+/// Drops a part of a term. Most have none of their own.
+fn drop_part(part: Part<'_>) {
+    match part {
+        Part::Whole(term) => drop(term),
+        Part::Done(_) | Part::Number { .. } | Part::Read(_) => {}
     }
+}
+
+/// Puts a value in the place of a part of a term, which has none of its own.
+pub(crate) fn put_part_value(place: &mut Part<'_>, value: Value)
+    ensures { place.new ≡ part.Done value }
+{
+    drop_part(mem::replace(place, Part::Done(value)));
 }
 
 /// The term that an expression begins as, on the heap.
@@ -76,20 +93,51 @@ fn boxed_term_of(alloc: Global, e: &Expr) -> Result<Box<Term<'_>>, AllocError>
     ensures view { IfOk result (λ t. term_view t.value ≡ term_of (expr_tree e.now)) }
     ensures numbers { IfOk result (λ t. NumbersInRange t.value) }
 {
-    // Most parts are a name or a number: these go straight to their place.
+    let term = term_of(alloc, e)?;
+    Ok(Box::new(alloc, term)?)
+}
+
+/// The part that a name or a number begins as, which has no parts; none for another expression.
+#[inline(always)]
+fn small_part_of(e: &Expr) -> Option<Part<'_>>
+    requires { IsTrue (numbers_in_range (expr_tree e.now)) }
+    ensures view { IfSome result (λ t. part_view t ≡ term_of (expr_tree e.now)) }
+    ensures numbers { IfSome result PartInRange }
+{
     match e {
-        Expr::Variable(name) => Ok(Box::new(alloc, Term::Read(name))?),
-        Expr::Number { value, unsigned } => {
-            let number = Term::Number {
-                value: *value,
-                unsigned: *unsigned,
-            };
-            Ok(Box::new(alloc, number)?)
-        }
-        e => {
-            let term = term_of(alloc, e)?;
-            Ok(Box::new(alloc, term)?)
-        }
+        Expr::Variable(name) => Some(Part::Read(name)),
+        Expr::Number { value, unsigned } => Some(Part::Number {
+            value: *value,
+            unsigned: *unsigned,
+        }),
+        _ => None,
+    }
+}
+
+/// The part that an expression begins as. Most are a name or a number, and lie in their term.
+#[inline(always)]
+#[cycle(term_of)]
+fn part_of(alloc: Global, e: &Expr) -> Result<Part<'_>, AllocError>
+    requires { IsTrue (numbers_in_range (expr_tree e.now)) }
+    ensures view { IfOk result (λ t. part_view t ≡ term_of (expr_tree e.now)) }
+    ensures numbers { IfOk result PartInRange }
+{
+    match small_part_of(e) {
+        Some(part) => Ok(part),
+        None => whole_part_of(alloc, e),
+    }
+}
+
+/// The same of another expression.
+#[cycle(term_of)]
+fn whole_part_of(alloc: Global, e: &Expr) -> Result<Part<'_>, AllocError>
+    requires { IsTrue (numbers_in_range (expr_tree e.now)) }
+    ensures view { IfOk result (λ t. part_view t ≡ term_of (expr_tree e.now)) }
+    ensures numbers { IfOk result PartInRange }
+{
+    match e {
+        Expr::Paren(a) => part_of(alloc, a),
+        e => Ok(Part::Whole(boxed_term_of(alloc, e)?)),
     }
 }
 
@@ -106,9 +154,24 @@ fn operation_of<'a>(
     ensures view { IfOk result (λ t. term_view t ≡ term_of (Binary (binary_tree op) (expr_tree operands.entry.now.0) (expr_tree operands.entry.now.1))) }
     ensures numbers { IfOk result NumbersInRange }
 {
-    let left = boxed_term_of(alloc, &operands.0)?;
-    let right = boxed_term_of(alloc, &operands.1)?;
-    Ok(operator_term(op, left, right))
+    let (left, right) = (&operands.0, &operands.1);
+    match op {
+        BinaryOp::LogicalAnd => {
+            let left = boxed_term_of(alloc, left)?;
+            let right = boxed_term_of(alloc, right)?;
+            Ok(Term::And(left, right))
+        }
+        BinaryOp::LogicalOr => {
+            let left = boxed_term_of(alloc, left)?;
+            let right = boxed_term_of(alloc, right)?;
+            Ok(Term::Or(left, right))
+        }
+        op => {
+            let left = part_of(alloc, left)?;
+            let right = part_of(alloc, right)?;
+            Ok(Term::Binary(op, left, right))
+        }
+    }
 }
 
 /// The term that an expression begins as. Its names are those of the tree.
@@ -126,11 +189,11 @@ pub fn term_of(alloc: Global, e: &Expr) -> Result<Term<'_>, AllocError>
         Expr::Named(c) => Ok(Term::Named(*c)),
         Expr::Variable(name) => Ok(Term::Read(name)),
         Expr::Element(name, i) => {
-            let index = boxed_term_of(alloc, i)?;
+            let index = part_of(alloc, i)?;
             Ok(Term::Element(name, index))
         }
         Expr::Prefix(op, a) => {
-            let operand = boxed_term_of(alloc, a)?;
+            let operand = part_of(alloc, a)?;
             Ok(Term::Prefix(*op, operand))
         }
         Expr::Binary(op, operands) => match e.null_test() {

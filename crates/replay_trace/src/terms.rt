@@ -2,7 +2,7 @@
 
 use crate::held::put_value;
 use crate::line::Line;
-use replay_terms::{Term, Value};
+use replay_terms::{Part, Term, Value};
 use std::alloc::AllocError;
 use syntax::{BinaryOp, Constant, Name, PrefixOp};
 
@@ -59,17 +59,37 @@ pub(crate) fn value_of(term: &Term<'_>) -> Option<Value> {
     }
 }
 
+/// The value of a part that has one.
+fn value_in(part: &Part<'_>) -> Option<Value> {
+    match part {
+        Part::Done(value) => Some(*value),
+        Part::Number { .. } | Part::Read(_) => None,
+        Part::Whole(term) => value_of(term),
+    }
+}
+
 /// The value of the part of a term that was worked out last: parts are, from left to right.
+#[cycle(latest)]
 pub(crate) fn latest_value(term: &Term<'_>) -> Option<Value> {
     match term {
         Term::Done(value) => Some(*value),
         Term::Number { .. } | Term::Named(_) | Term::Read(_) | Term::IsNull(_, _) => None,
-        Term::Element(_, part) | Term::Prefix(_, part) => latest_value(part),
+        Term::Element(_, part) | Term::Prefix(_, part) => latest_in(part),
         Term::And(part, _) | Term::Or(part, _) => latest_value(part),
-        Term::Binary(_, left, right) => match latest_value(right) {
+        Term::Binary(_, left, right) => match latest_in(right) {
             Some(value) => Some(value),
-            None => latest_value(left),
+            None => latest_in(left),
         },
+    }
+}
+
+/// The same of a part.
+#[cycle(latest)]
+fn latest_in(part: &Part<'_>) -> Option<Value> {
+    match part {
+        Part::Done(value) => Some(*value),
+        Part::Number { .. } | Part::Read(_) => None,
+        Part::Whole(term) => latest_value(term),
     }
 }
 
@@ -112,6 +132,7 @@ fn put_literal(line: &mut Line, value: u32, unsigned: bool) -> Result<(), AllocE
 }
 
 /// Adds the part of a term that is worked out next. Whether its value is still to be told.
+#[cycle(put_part)]
 pub(crate) fn put_part(line: &mut Line, term: &Term<'_>) -> Result<bool, AllocError> {
     match term {
         Term::Done(value) => put_value(line, *value)?,
@@ -119,16 +140,16 @@ pub(crate) fn put_part(line: &mut Line, term: &Term<'_>) -> Result<bool, AllocEr
         Term::Named(constant) => line.text(constant_of(*constant))?,
         Term::Read(name) => line.text(name.as_bytes())?,
         Term::IsNull(equal, name) => put_null_test(line, *equal, name)?,
-        Term::Element(name, part) => match value_of(part) {
+        Term::Element(name, part) => match value_in(part) {
             Some(place) => put_element(line, name, place)?,
-            None => return put_part(line, part),
+            None => return put_inner(line, part),
         },
-        Term::Prefix(op, part) => match value_of(part) {
+        Term::Prefix(op, part) => match value_in(part) {
             Some(value) => {
                 line.text(prefix_of(*op))?;
                 put_value(line, value)?;
             }
-            None => return put_part(line, part),
+            None => return put_inner(line, part),
         },
         Term::And(part, _) => match value_of(part) {
             Some(left) => {
@@ -144,17 +165,29 @@ pub(crate) fn put_part(line: &mut Line, term: &Term<'_>) -> Result<bool, AllocEr
             }
             None => return put_part(line, part),
         },
-        Term::Binary(op, left, right) => match value_of(left) {
-            Some(value) => match value_of(right) {
+        Term::Binary(op, left, right) => match value_in(left) {
+            Some(value) => match value_in(right) {
                 Some(other) => {
                     put_value(line, value)?;
                     line.text(mark_of(*op))?;
                     put_value(line, other)?;
                 }
-                None => return put_part(line, right),
+                None => return put_inner(line, right),
             },
-            None => return put_part(line, left),
+            None => return put_inner(line, left),
         },
+    }
+    Ok(true)
+}
+
+/// Adds what is worked out next of a part. Whether its value is still to be told.
+#[cycle(put_part)]
+fn put_inner(line: &mut Line, part: &Part<'_>) -> Result<bool, AllocError> {
+    match part {
+        Part::Done(value) => put_value(line, *value)?,
+        Part::Number { value, unsigned } => put_literal(line, *value, *unsigned)?,
+        Part::Read(name) => line.text(name.as_bytes())?,
+        Part::Whole(term) => return put_part(line, term),
     }
     Ok(true)
 }

@@ -1,4 +1,4 @@
-use Rattle.std.proofs.Common.{◌≡◌, ◌≤◌, length, ◌∙◌, arith}
+use Rattle.std.proofs.Common.{◌≤◌, length, ◌∙◌, arith}
 use Rattle.semantics.specs.Views.{names_of}
 use Rattle.replay_terms.proofs.WeakStatics.{seen_in, one_cleared, all_cleared, as_many, length-seen_in}
 use Rattle.replay_terms.proofs.statics.clear_held.Goals as goal

@@ -1,4 +1,4 @@
-use Rattle.std.proofs.Common.{◌≡◌, ◌++◌, ℕ, take, drop, length}
+use Rattle.std.proofs.Common.{◌≡◌, ◌++◌, take, drop, length}
 use Rattle.semantics.specs.Views.{names_of}
 use Rattle.semantics.specs.WeakReferences.{cleared_statics}
 use Rattle.replay_terms.proofs.WeakStatics.{seen_in}
