@@ -25,11 +25,11 @@ use Rattle.replay_tasks.specs.declared.task.Task.{Task as TaskInMemory}
 use Rattle.semantics.specs.Variable.{Statics}
 use Rattle.replay_terms.specs.declared.term.Term.TheVariants as term
 use Rattle.replay_terms.specs.declared.value.Value.TheVariants as value
-use Rattle.replay_steps.specs.Activations.{tasks_from, tasks_around, tasks_after, tasks_left, thread_in, advance_by, Advances, HasBegun, AreSet, BegunInRange, OuterInRange, IsInRange}
+use Rattle.replay_steps.specs.Activations.{tasks_from, tasks_around, tasks_after, tasks_left, thread_in, advance_by, Advances, HasBegun, IsBegunAs, AreSet, OuterInRange, IsInRange}
 use Rattle.replay_tasks.specs.Outcomes.{result_view, variable_step, Holds, LeavesVariables, LeavesIf}
 use Rattle.base.specs.Bytes.{Identifier}
 use Rattle.replay_steps.specs.Steps.{Scene, Sees, Does, calling_by, in_scene, left_by}
-use Rattle.replay_tasks.specs.Tasks.{branch_task, task_view, end_view, statements_in, tasks_of_statements, EndInRange, StatementsInRange, TaskInRange, OutcomeInRange}
+use Rattle.replay_tasks.specs.Tasks.{Begins, BegunInRange, branch_task, task_view, end_view, statements_in, tasks_of_statements, EndInRange, StatementsInRange, TaskInRange, OutcomeInRange}
 use Rattle.replay_tasks.proofs.EffectLemmas.{block_tasks}
 use Rattle.replay_tasks.proofs.RangeLemmas.{entered_in_range}
 use Rattle.replay_steps.proofs.TaskLemmas.{same_scene}
@@ -72,6 +72,11 @@ with_event event (thread.Advances s t other) = thread.Advances s t event
 with_event event NoAdvance = NoAdvance
 
 -- ---- the next statement is begun
+
+-- a task that is begun in its place
+pub begun_as : (t : Task) (o : Option TaskInMemory) → Begins t o → BegunInRange o → IsBegunAs t o
+begun_as t None begins range = absurd begins
+begun_as t (Some task) begins range = record { task = task; is = refl; begins = begins; range = range }
 
 -- a statement that is begun is the task that it was to begin as
 pub begun_first : (old new : Work) (first : Stmt) (after : List Stmt) → old.task ≡ None → old.rest ≡ first ∷ after → HasBegun first new.task → new.rest ≡ after → new.outer.items ≡ old.outer.items → tasks_left new ≡ tasks_left old

@@ -10,7 +10,7 @@ use Rattle.semantics.specs.Thread.{Advance, Advances as Advances', Quiet, Shared
 use Rattle.semantics.specs.Variable.{Statics, Variables}
 use Rattle.replay_arguments.specs.Shares.{sight_in}
 use Rattle.replay_steps.specs.declared.activation.Work.{Work}
-use Rattle.replay_steps.specs.Activations.{Advances, AreSet, BegunInRange, IsInRange, IsSettled, Leaves, tasks_left}
+use Rattle.replay_steps.specs.Activations.{Advances, AreSet, IsInRange, IsSettled, Leaves, tasks_left}
 use Rattle.replay_steps.specs.Steps.{Scene}
 use Rattle.replay_steps.proofs.ActivationLemmas.{advances, begun_after, range_after}
 use Rattle.replay_steps.proofs.TaskLemmas.{does}
@@ -26,7 +26,7 @@ use Rattle.replay_tasks.specs.declared.task.Task.{Task}
 use Rattle.replay_tasks.specs.declared.task.Task.TheVariants as task
 use Rattle.replay_tasks.specs.Effects.{HasEffect}
 use Rattle.replay_tasks.specs.Outcomes.{LeavesVariables, variable_step}
-use Rattle.replay_tasks.specs.Tasks.{OutcomeInRange, branch_task, loop_task, task_view, value_task}
+use Rattle.replay_tasks.specs.Tasks.{BegunInRange, OutcomeInRange, branch_task, loop_task, task_view, value_task}
 use Rattle.replay_terms.specs.declared.term.Term.{Term}
 use Rattle.replay_terms.specs.declared.term.Term.TheVariants as term
 use Rattle.replay_terms.specs.declared.value.Value.{Value}

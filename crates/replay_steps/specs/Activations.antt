@@ -24,7 +24,7 @@ use Rattle.replay_tasks.specs.declared.task.Task.{Task as TaskInMemory}
 use Rattle.replay_steps.specs.Steps.{Scene, calling_by, in_scene, scene_at, Sees, Does}
 use Rattle.replay_tasks.specs.Effects.{HasEffect}
 use Rattle.replay_tasks.specs.Outcomes.{result_view, variable_step, LeavesVariables, LeavesIf}
-use Rattle.replay_tasks.specs.Tasks.{branch_task, task_view, end_view, statements_in, tasks_of_statements, StatementsInRange, TaskInRange, EndInRange}
+use Rattle.replay_tasks.specs.Tasks.{branch_task, BegunInRange, task_view, end_view, statements_in, tasks_of_statements, StatementsInRange, TaskInRange, EndInRange}
 use Rattle.replay_terms.specs.declared.term.Term.TheVariants as term
 use Rattle.replay_terms.specs.declared.value.Value.TheVariants as value
 use Rattle.semantics.specs.EventViews.{trap_view}
@@ -48,10 +48,6 @@ abbrev pub tasks_left : Work → List Task
 tasks_left w = tasks_from w.task (tasks_after w.rest w.outer.items)
 
 -- ---- what is known of accepted programs
-
-abbrev pub BegunInRange : Option TaskInMemory → Type 0
-BegunInRange None = Unit {0}
-BegunInRange (Some task) = TaskInRange task
 
 abbrev pub OuterInRange : List Outer → Type 0
 OuterInRange [] = Unit {0}
@@ -108,19 +104,20 @@ pub record IsSettled (w : Work) (took : Outcome) : Type 0 where
   pub begun : w.task ≡ Some task
   pub does : (sight : Sight) → HasEffect sight task took task
 
--- a task is the one that a statement begins as
-pub record HasBegun (s : StmtInMemory) (o : Option TaskInMemory) : Type 0 where
+-- a task that stands for this one is begun
+pub record IsBegunAs (t : Task) (o : Option TaskInMemory) : Type 0 where
   pub task : TaskInMemory
   pub is : o ≡ Some task
-  pub begins : task_view task ≡ task_of (stmt_tree s)
+  pub begins : task_view task ≡ t
   pub range : TaskInRange task
 
--- a task is a loop's, at its test
-pub record HasTurned (line : ℕ) (test : ExprInMemory) (body : BlockInMemory) (o : Option TaskInMemory) : Type 0 where
-  pub task : TaskInMemory
-  pub is : o ≡ Some task
-  pub begins : task_view task ≡ Loop line (expr_tree test) (term_of (expr_tree test)) (block_tree body)
-  pub range : TaskInRange task
+-- the one that a statement begins as
+abbrev pub HasBegun : StmtInMemory → Option TaskInMemory → Type 0
+HasBegun s o = IsBegunAs (task_of (stmt_tree s)) o
+
+-- a loop, at its test
+abbrev pub HasTurned : (line : ℕ) → ExprInMemory → BlockInMemory → Option TaskInMemory → Type 0
+HasTurned line test body o = IsBegunAs (Loop line (expr_tree test) (term_of (expr_tree test)) (block_tree body)) o
 
 -- the task that is begun, after a step
 abbrev pub task_after : Option TaskInMemory → Outcome → Option TaskInMemory

@@ -69,7 +69,7 @@ impl Drop for Activation<'_> {
 pub(crate) fn put_task<'a>(place: &mut Option<Task<'a>>, task: Option<Task<'a>>)
     ensures { place.new ≡ task.entry }
 {
-    drop(mem::replace(place, task));
+    *place = task;
 }
 
 /// Begins a statement in the place of the task that is begun.
@@ -82,8 +82,7 @@ fn begin_statement<'a>(
     requires { StatementInRange statement.now }
     ensures { IfOk result (λ _. HasBegun statement.entry.now place.new) }
 {
-    let task = task_of(alloc, statement)?;
-    put_task(place, Some(task));
+    task_of(alloc, place, statement)?;
     Ok(())
 }
 
@@ -146,8 +145,7 @@ fn begin_turn<'a>(
     requires body { BlockInRange (block_tree body.now) }
     ensures { IfOk result (λ _. HasTurned line test.entry.now body.entry.now place.new) }
 {
-    let task = loop_task(alloc, line, test, body)?;
-    put_task(place, Some(task));
+    loop_task(alloc, place, line, test, body)?;
     Ok(())
 }
 

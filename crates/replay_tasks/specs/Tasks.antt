@@ -1,5 +1,5 @@
 -- Tasks that lie in memory, as those of the language, and what is known of them in accepted programs.
-use Rattle.std.specs.Prelude.{ℕ, Bool, not, List, [], ◌∷◌, Option, Some, None, IsTrue, map, flat_map}
+use Rattle.std.specs.Prelude.{◌≡◌, ℕ, Bool, not, List, [], ◌∷◌, Option, Some, None, IsTrue, map, flat_map}
 use Rattle.std.specs.List.{list_all}
 use Rattle.std.specs.Option.{is_none}
 use Rattle.std.specs.Borrow.{Bor}
@@ -180,6 +180,16 @@ TaskInRange (task.Branch c) = NumbersInRange c.test × BlockInRange (block_tree 
 TaskInRange (task.Loop i) = ExprInRange (expr_tree i.test.now) × NumbersInRange i.term × BlockInRange (block_tree i.body.now)
 TaskInRange task.Return = Unit {0}
 TaskInRange (task.ReturnValue e) = NumbersInRange e.term
+
+-- the same of the task that is begun, if there is one
+abbrev pub BegunInRange : Option TaskInMemory → Type 0
+BegunInRange None = Unit {0}
+BegunInRange (Some task) = TaskInRange task
+
+-- this task is begun
+abbrev pub Begins : Task → Option TaskInMemory → Type 0
+Begins t None = ⊥
+Begins t (Some task) = task_view task ≡ t
 
 abbrev pub EndInRange : EndInMemory → Type 0
 EndInRange end.If = Unit {0}

@@ -13,7 +13,7 @@ ghost use Rattle.semantics.specs.Task.{Declared, Loop, Print, ReturnValue, SetEl
 ghost use Rattle.semantics.specs.Term.{term_of};
 ghost use Rattle.replay_tasks.specs.Outcomes.{else_tree, kind_view, purpose_view, target_view};
 ghost use Rattle.replay_terms.specs.Views.{operand_view};
-ghost use Rattle.replay_tasks.specs.Tasks.{task_view, is_unknown_call, ArgumentsInRange, OperandInRange, OperandsInRange, ExprInRange, RightSideInRange, TestInRange, BlockInRange, PurposeInRange, ElseInRange, StatementInRange, TaskInRange, IsControl};
+ghost use Rattle.replay_tasks.specs.Tasks.{task_view, is_unknown_call, ArgumentsInRange, OperandInRange, OperandsInRange, ExprInRange, RightSideInRange, TestInRange, BlockInRange, PurposeInRange, ElseInRange, StatementInRange, Begins, BegunInRange, IsControl};
 
 use crate::outcome::{Purpose, Target, VariableKind, kind_of};
 use jni::{JniFunction, ParameterKind, function_named};
@@ -103,47 +103,52 @@ impl Drop for Task<'_> {
     }
 }
 
-/// The task that gives a variable the value of an expression.
+/// Begins the task that gives a variable the value of an expression, in the place of the one that is begun.
 fn value_task<'a>(
     alloc: Global,
+    place: &mut Option<Task<'a>>,
     line: usize,
     target: Target<'a>,
     name: &'a Name,
     e: &'a Expr,
-) -> Result<Task<'a>, AllocError>
+) -> Result<(), AllocError>
     requires { ExprInRange (expr_tree e.now) }
-    ensures view { IfOk result (λ t. task_view t ≡ set_task line (target_view target.entry) name.entry.now (expr_tree e.entry.now)) }
-    ensures range { IfOk result TaskInRange }
+    ensures view { IfOk result (λ _. Begins (set_task line (target_view target.entry) name.entry.now (expr_tree e.entry.now)) place.new) }
+    ensures range { IfOk result (λ _. BegunInRange place.new) }
 {
     if let Expr::Named(Constant::Null) = e {
-        return Ok(Task::SetNull(target));
+        *place = Some(Task::SetNull(target));
+        return Ok(());
     }
     let term = term_of(alloc, e)?;
-    Ok(Task::Set(Assignment { line, name, term }))
+    *place = Some(Task::Set(Assignment { line, name, term }));
+    Ok(())
 }
 
-/// The task of a call, of a function that is there.
+/// Begins a call, of a function that is there.
 fn call_task<'a>(
     alloc: Global,
+    place: &mut Option<Task<'a>>,
     line: usize,
     purpose: Purpose<'a>,
     call: &'a Call,
-) -> Result<Task<'a>, AllocError>
+) -> Result<(), AllocError>
     requires numbers { ArgumentsInRange (call_tree call.now).arguments }
     requires branches { PurposeInRange purpose }
     requires known { IsTrue (not (is_unknown_call (call_tree call.now))) }
-    ensures view { IfOk result (λ t. task_view t ≡ call_task line (purpose_view line purpose.entry) (call_tree call.entry.now)) }
-    ensures range { IfOk result TaskInRange }
+    ensures view { IfOk result (λ _. Begins (call_task line (purpose_view line purpose.entry) (call_tree call.entry.now)) place.new) }
+    ensures range { IfOk result (λ _. BegunInRange place.new) }
 {
     let function = function_named(call.function.as_bytes()).unwrap();
     let mut operands = Vec::new(alloc);
     push_arguments(alloc, &mut operands, function, &call.arguments)?;
-    Ok(Task::Invoke(Invocation {
+    *place = Some(Task::Invoke(Invocation {
         line,
         purpose,
         function,
         operands,
-    }))
+    }));
+    Ok(())
 }
 
 /// Adds the operands of a function's arguments.
@@ -254,174 +259,219 @@ fn operand_of<'a>(
     }
 }
 
-/// The task that sets a variable.
+/// Begins to set a variable.
 fn set_task<'a>(
     alloc: Global,
+    place: &mut Option<Task<'a>>,
     line: usize,
     target: Target<'a>,
     name: &'a Name,
     right: &'a RightSide,
-) -> Result<Task<'a>, AllocError>
+) -> Result<(), AllocError>
     requires { RightSideInRange (right_side_tree right.now) }
-    ensures view { IfOk result (λ t. task_view t ≡ right_side_task line (target_view target.entry) name.entry.now (right_side_tree right.entry.now)) }
-    ensures range { IfOk result TaskInRange }
+    ensures view { IfOk result (λ _. Begins (right_side_task line (target_view target.entry) name.entry.now (right_side_tree right.entry.now)) place.new) }
+    ensures range { IfOk result (λ _. BegunInRange place.new) }
 {
     match right {
-        RightSide::Expr(e) => value_task(alloc, line, target, name, e),
-        RightSide::Call(call) => call_task(alloc, line, Purpose::Put(target), call),
+        RightSide::Expr(e) => value_task(alloc, place, line, target, name, e),
+        RightSide::Call(call) => call_task(alloc, place, line, Purpose::Put(target), call),
     }
 }
 
-/// The task of an `if`.
+/// Begins an `if`.
 fn if_task<'a>(
     alloc: Global,
+    place: &mut Option<Task<'a>>,
     line: usize,
     test: &'a Test,
     block: &'a Block,
     otherwise: Option<&'a Block>,
-) -> Result<Task<'a>, AllocError>
+) -> Result<(), AllocError>
     requires test { TestInRange (test_tree test.now) }
     requires block { BlockInRange (block_tree block.now) }
     requires otherwise { ElseInRange otherwise }
-    ensures view { IfOk result (λ t. task_view t ≡ if_task line (test_tree test.entry.now) (block_tree block.entry.now) (else_tree line otherwise.entry)) }
-    ensures range { IfOk result TaskInRange }
+    ensures view { IfOk result (λ _. Begins (if_task line (test_tree test.entry.now) (block_tree block.entry.now) (else_tree line otherwise.entry)) place.new) }
+    ensures range { IfOk result (λ _. BegunInRange place.new) }
 {
     match test {
-        Test::Expr(e) => Ok(Task::Branch(Choice {
-            line,
-            test: term_of(alloc, e)?,
-            block,
-            otherwise,
-        })),
-        Test::Call(call) => call_task(alloc, line, Purpose::Test(block, otherwise), call),
+        Test::Expr(e) => {
+            let test = term_of(alloc, e)?;
+            *place = Some(Task::Branch(Choice {
+                line,
+                test,
+                block,
+                otherwise,
+            }));
+            Ok(())
+        }
+        Test::Call(call) => { call_task(alloc, place, line, Purpose::Test(block, otherwise), call) }
     }
 }
 
-/// The task that a declaration begins as.
+/// Begins a declaration.
 fn declaration<'a>(
     alloc: Global,
+    place: &mut Option<Task<'a>>,
     line: usize,
     kind: VariableKind,
     name: &'a Name,
     right: &'a RightSide,
-) -> Result<Task<'a>, AllocError>
+) -> Result<(), AllocError>
     requires { RightSideInRange (right_side_tree right.now) }
-    ensures view { IfOk result (λ t. task_view t ≡ right_side_task line
-        (Declared (kind_view kind) name.entry.now) name.entry.now (right_side_tree right.entry.now)) }
-    ensures range { IfOk result TaskInRange }
+    ensures view { IfOk result (λ _. Begins (right_side_task line
+        (Declared (kind_view kind) name.entry.now) name.entry.now (right_side_tree right.entry.now)) place.new) }
+    ensures range { IfOk result (λ _. BegunInRange place.new) }
 {
-    set_task(alloc, line, Target::Declared(kind, name), name, right)
+    set_task(
+        alloc,
+        place,
+        line,
+        Target::Declared(kind, name),
+        name,
+        right,
+    )
 }
 
-/// The task that sets an element.
+/// Begins to set an element.
 fn element_task<'a>(
     alloc: Global,
+    place: &mut Option<Task<'a>>,
     line: usize,
     name: &'a Name,
     index: &'a Expr,
     e: &'a Expr,
-) -> Result<Task<'a>, AllocError>
+) -> Result<(), AllocError>
     requires index { ExprInRange (expr_tree index.now) }
     requires number { ExprInRange (expr_tree e.now) }
-    ensures view { IfOk result (λ t. task_view t ≡ SetElement line name.entry.now (term_of (expr_tree index.entry.now)) (term_of (expr_tree e.entry.now))) }
-    ensures range { IfOk result TaskInRange }
+    ensures view { IfOk result (λ _. Begins (SetElement line name.entry.now (term_of (expr_tree index.entry.now)) (term_of (expr_tree e.entry.now))) place.new) }
+    ensures range { IfOk result (λ _. BegunInRange place.new) }
 {
     let index = term_of(alloc, index)?;
     let number = term_of(alloc, e)?;
-    Ok(Task::SetElement(ElementAssignment {
+    *place = Some(Task::SetElement(ElementAssignment {
         line,
         name,
         index,
         number,
-    }))
+    }));
+    Ok(())
 }
 
-/// The task that prints a number.
-fn print_task<'a>(alloc: Global, line: usize, e: &'a Expr) -> Result<Task<'a>, AllocError>
+/// Begins to print a number.
+fn print_task<'a>(
+    alloc: Global,
+    place: &mut Option<Task<'a>>,
+    line: usize,
+    e: &'a Expr,
+) -> Result<(), AllocError>
     requires { ExprInRange (expr_tree e.now) }
-    ensures view { IfOk result (λ t. task_view t ≡ Print line (term_of (expr_tree e.entry.now))) }
-    ensures range { IfOk result TaskInRange }
+    ensures view { IfOk result (λ _. Begins (Print line (term_of (expr_tree e.entry.now))) place.new) }
+    ensures range { IfOk result (λ _. BegunInRange place.new) }
 {
     let term = term_of(alloc, e)?;
-    Ok(Task::Print(Evaluation { line, term }))
+    *place = Some(Task::Print(Evaluation { line, term }));
+    Ok(())
 }
 
-/// The task of a loop.
+/// Begins a loop, or its next turn, in the place of the task that is begun.
 pub fn loop_task<'a>(
     alloc: Global,
+    place: &mut Option<Task<'a>>,
     line: usize,
     test: &'a Expr,
     body: &'a Block,
-) -> Result<Task<'a>, AllocError>
+) -> Result<(), AllocError>
     requires test { ExprInRange (expr_tree test.now) }
     requires body { BlockInRange (block_tree body.now) }
-    ensures view { IfOk result (λ t. task_view t ≡ Loop line (expr_tree test.entry.now) (term_of (expr_tree test.entry.now)) (block_tree body.entry.now)) }
-    ensures range { IfOk result TaskInRange }
+    ensures view { IfOk result (λ _. Begins (Loop line (expr_tree test.entry.now) (term_of (expr_tree test.entry.now)) (block_tree body.entry.now)) place.new) }
+    ensures range { IfOk result (λ _. BegunInRange place.new) }
 {
     let term = term_of(alloc, test)?;
-    Ok(Task::Loop(Iteration {
+    *place = Some(Task::Loop(Iteration {
         line,
         test,
         term,
         body,
-    }))
+    }));
+    Ok(())
 }
 
-/// The task that returns a value.
-fn return_task<'a>(alloc: Global, line: usize, e: &'a Expr) -> Result<Task<'a>, AllocError>
+/// Begins to return a value.
+fn return_task<'a>(
+    alloc: Global,
+    place: &mut Option<Task<'a>>,
+    line: usize,
+    e: &'a Expr,
+) -> Result<(), AllocError>
     requires { ExprInRange (expr_tree e.now) }
-    ensures view { IfOk result (λ t. task_view t ≡ ReturnValue line (term_of (expr_tree e.entry.now))) }
-    ensures range { IfOk result TaskInRange }
+    ensures view { IfOk result (λ _. Begins (ReturnValue line (term_of (expr_tree e.entry.now))) place.new) }
+    ensures range { IfOk result (λ _. BegunInRange place.new) }
 {
     let term = term_of(alloc, e)?;
-    Ok(Task::ReturnValue(Evaluation { line, term }))
+    *place = Some(Task::ReturnValue(Evaluation { line, term }));
+    Ok(())
 }
 
-/// The task that a statement begins as.
-pub fn task_of(alloc: Global, s: &Stmt) -> Result<Task<'_>, AllocError>
+/// Begins a statement, in the place of the task that is begun. With the task handed on by its place, it is moved once.
+pub fn task_of<'a>(
+    alloc: Global,
+    place: &mut Option<Task<'a>>,
+    s: &'a Stmt,
+) -> Result<(), AllocError>
     requires { StatementInRange s.now }
-    ensures view { IfOk result (λ t. task_view t ≡ task_of (stmt_tree s.now)) }
-    ensures range { IfOk result TaskInRange }
+    ensures view { IfOk result (λ _. Begins (task_of (stmt_tree s.entry.now)) place.new) }
+    ensures range { IfOk result (λ _. BegunInRange place.new) }
 {
     let line = s.line;
     match &s.form {
-        Form::Declare(t, x, right) => declaration(alloc, line, kind_of(*t), x, right),
+        Form::Declare(t, x, right) => declaration(alloc, place, line, kind_of(*t), x, right),
         Form::DeclareBuffer(t, x, right) => {
-            declaration(alloc, line, VariableKind::Buffer(*t), x, right)
+            declaration(alloc, place, line, VariableKind::Buffer(*t), x, right)
         }
         Form::DeclareChars(x, right) => {
             declaration(
                 alloc,
+                place,
                 line,
                 VariableKind::Buffer(ElementType::Char),
                 x,
                 right,
             )
         }
-        Form::DeclareArray(t, x, size) => Ok(Task::MakeArray(*t, x, *size)),
-        Form::Assign(x, right) => set_task(alloc, line, Target::Assigned(x), x, right),
-        Form::AssignElement(x, i, e) => element_task(alloc, line, x, i, e),
-        Form::Perform(call) => call_task(alloc, line, Purpose::Put(Target::Dropped), call),
-        _ => control_task(alloc, s),
+        Form::DeclareArray(t, x, size) => {
+            *place = Some(Task::MakeArray(*t, x, *size));
+            Ok(())
+        }
+        Form::Assign(x, right) => set_task(alloc, place, line, Target::Assigned(x), x, right),
+        Form::AssignElement(x, i, e) => element_task(alloc, place, line, x, i, e),
+        Form::Perform(call) => call_task(alloc, place, line, Purpose::Put(Target::Dropped), call),
+        _ => control_task(alloc, place, s),
     }
 }
 
-/// The task of a statement that prints, branches, loops or returns.
+/// Begins a statement that prints, branches, loops or returns.
 #[inline]
-fn control_task(alloc: Global, s: &Stmt) -> Result<Task<'_>, AllocError>
+fn control_task<'a>(
+    alloc: Global,
+    place: &mut Option<Task<'a>>,
+    s: &'a Stmt,
+) -> Result<(), AllocError>
     requires numbers { StatementInRange s.now }
     requires control { IsControl s.now.form }
-    ensures view { IfOk result (λ t. task_view t ≡ task_of (stmt_tree s.now)) }
-    ensures range { IfOk result TaskInRange }
+    ensures view { IfOk result (λ _. Begins (task_of (stmt_tree s.entry.now)) place.new) }
+    ensures range { IfOk result (λ _. BegunInRange place.new) }
 {
     let line = s.line;
     match &s.form {
-        Form::PutJint(e) => print_task(alloc, line, e),
-        Form::If(test, block) => if_task(alloc, line, test, block, None),
-        Form::IfElse(test, block, other) => if_task(alloc, line, test, block, Some(other)),
-        Form::While(test, body) => loop_task(alloc, line, test, body),
-        Form::Return(None) => Ok(Task::Return),
-        Form::Return(Some(e)) => return_task(alloc, line, e),
+        Form::PutJint(e) => print_task(alloc, place, line, e),
+        Form::If(test, block) => if_task(alloc, place, line, test, block, None),
+        Form::IfElse(test, block, other) => if_task(alloc, place, line, test, block, Some(other)),
+        Form::While(test, body) => loop_task(alloc, place, line, test, body),
+        Form::Return(None) => {
+            *place = Some(Task::Return);
+            Ok(())
+        }
+        Form::Return(Some(e)) => return_task(alloc, place, line, e),
         _ => unreachable!(),
     }
 }

@@ -1,6 +1,6 @@
 use Rattle.std.proofs.Common.{subst}
 use Rattle.replay_arguments.specs.Shares.{shared_view}
-use Rattle.replay_steps.specs.Activations.{BegunInRange}
+use Rattle.replay_tasks.specs.Tasks.{BegunInRange}
 use Rattle.replay_steps.proofs.AttemptLemmas.{call_attempted, range_kept}
 use Rattle.replay_steps.proofs.activation.attempt_begun.Goals as goal
 

@@ -1,7 +1,7 @@
 use Rattle.std.proofs.Common.{refl, sym, subst}
 use Rattle.replay_steps.specs.declared.activation.Work.{Work}
-use Rattle.replay_steps.specs.Activations.{BegunInRange, OuterInRange}
-use Rattle.replay_tasks.specs.Tasks.{EndInRange}
+use Rattle.replay_steps.specs.Activations.{OuterInRange}
+use Rattle.replay_tasks.specs.Tasks.{BegunInRange, EndInRange}
 use Rattle.replay_steps.proofs.ActivationLemmas.{if_over, outer_parts, turn_over}
 use Rattle.replay_steps.proofs.activation.leave.Goals as goal
 

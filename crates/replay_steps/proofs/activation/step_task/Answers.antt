@@ -1,5 +1,5 @@
 use Rattle.std.proofs.Common.{Result, Ok, Err, IfOk, refl, subst}
-use Rattle.replay_steps.specs.Activations.{BegunInRange}
+use Rattle.replay_tasks.specs.Tasks.{BegunInRange}
 use Rattle.replay_steps.proofs.activation.step_task.Goals as goal
 
 -- what holds of an answer, by two things that do
