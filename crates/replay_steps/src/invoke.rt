@@ -87,6 +87,7 @@ fn make_call<'a>(
 }
 
 /// Lets the first number of a call that isn't worked out take a step; none where each is.
+#[inline(always)]
 pub(crate) fn reduce_number(
     shared: &Shared<'_>,
     variables: &Variables<'_>,
@@ -105,6 +106,7 @@ pub(crate) fn reduce_number(
 }
 
 /// Lets the first of these numbers that isn't worked out take a step; none where each is.
+#[inline(always)]
 fn reduce_first(
     shared: &Shared<'_>,
     variables: &Variables<'_>,
@@ -124,6 +126,7 @@ fn reduce_first(
 }
 
 /// Lets a number that isn't worked out take a step; none where there is nothing to work out.
+#[inline(always)]
 fn reduce_one(
     shared: &Shared<'_>,
     variables: &Variables<'_>,

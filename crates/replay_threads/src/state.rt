@@ -226,7 +226,7 @@ fn take_whole_turn<'a>(
 
 /// Takes the step of thread `k`, which is at this place and can step, where it is a term's or changes nothing but variables and tasks; all
 /// is as it was where there is more to do.
-#[inline]
+#[inline(always)]
 fn attempt_turn(alloc: Global, state: &mut State<'_>, place: usize) -> Result<Attempt, AllocError>
     requires range { AreInRange state.old.threads.items }
     requires there { place < length state.old.threads.items }
@@ -237,7 +237,7 @@ fn attempt_turn(alloc: Global, state: &mut State<'_>, place: usize) -> Result<At
 }
 
 /// The same, whatever the step does.
-#[inline]
+#[inline(always)]
 fn take_turn<'a>(
     alloc: Global,
     functions: &Functions<'a>,
@@ -283,6 +283,7 @@ fn take_clearing(
 }
 
 /// Takes an entry; false where it isn't possible.
+#[inline(always)]
 pub fn take_entry<'a>(
     alloc: Global,
     functions: &Functions<'a>,

@@ -496,7 +496,7 @@ pub(crate) fn is_waiting<'a>(
 }
 
 /// Lets a thread take its next step, where that is a term's, or changes nothing but variables and tasks, and nothing is refused.
-#[inline]
+#[inline(always)]
 pub(crate) fn try_step<'a>(
     alloc: Global,
     shared: &Shared<'a>,
