@@ -87,11 +87,15 @@ impl Stack {
         self.words[last] = word;
     }
 
-    /// Takes all words.
+    /// Takes all words. Mostly there is none, or one, which is taken faster.
     pub fn clear(&mut self)
         ensures { self.new ≡ [] }
     {
-        self.words.clear();
+        if self.words.len() == 1 {
+            let _ = self.words.pop();
+        } else {
+            self.words.clear();
+        }
     }
 
     /// Takes the topmost word.
