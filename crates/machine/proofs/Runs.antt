@@ -461,9 +461,6 @@ words_more reps i x at = ap (flat_map repeated_words) (take_next reps i x at) �
 pub words_all : (reps : List Repetition) (i : ℕ) → flat_map repeated_words reps ≡ words_to reps i ++ flat_map repeated_words (drop i reps)
 words_all reps i = ap (flat_map repeated_words) (sym (take-append-drop i reps)) ∙ flat_map-append repeated_words (take i reps) (drop i reps)
 
-pub words_past : (reps : List Repetition) (i : ℕ) → length reps ≤ i → words_to reps i ≡ flat_map repeated_words reps
-words_past reps i h = ap (flat_map repeated_words) (take_all i reps h)
-
 -- one repetition more
 pub one_repetition : (a b c : Run) (reps : List Repetition) (i : ℕ) (d : Repetition) → i < length reps → RunsAlong a b (words_to reps i) → RunsAlong b c (repeated_words (get_or reps i d)) → RunsAlong a c (words_to reps (i + 1))
 one_repetition a b c reps i d h p q =

@@ -40,14 +40,6 @@ own_copy space copies k (b ∷ slots) [] i key h at = absurd h
 own_copy space copies k (b ∷ slots) (c ∷ buffers) zero key h at = copy_there space copies k b c key (let same : b ≡ held.Copy key = cc in same) h.0
 own_copy space copies k (b ∷ slots) (c ∷ buffers) (suc i) key h at = own_copy space copies k slots buffers i key h.1 at
 
--- what a slot stands for
-pub slot_agrees : (space : Space) (copies : List (Option OwnedNumbers)) (k : ℕ) (slots : List Buffer) (buffers : List source.Buffer) (i : ℕ) (c : source.Buffer) → AllZip (BufferAgrees space copies k) slots buffers → slice_get buffers i ≡ Some c → (b : Buffer) × (slice_get slots i ≡ Some b) × BufferAgrees space copies k b c
-slot_agrees space copies k [] [] i c h at = absurd (cc)
-slot_agrees space copies k [] (d ∷ buffers) i c h at = absurd h
-slot_agrees space copies k (b ∷ slots) [] i c h at = absurd h
-slot_agrees space copies k (b ∷ slots) (d ∷ buffers) zero c h at = let same : d ≡ c = cc in (b, refl, subst (BufferAgrees space copies k b) same h.0)
-slot_agrees space copies k (b ∷ slots) (d ∷ buffers) (suc i) c h at = slot_agrees space copies k slots buffers i c h.1 at
-
 module _ (space after : Space) (copies left : List (Option OwnedNumbers)) (k : ℕ) (names : (a n : ℕ) → name_at space a ≡ Some n → name_at after a ≡ Some n) where
   pub buffer_stays : (b : Buffer) (c : source.Buffer) → ((key : ℕ) (l : OwnedNumbers) → b ≡ held.Copy key → value_at copies key ≡ Some l → value_at left key ≡ Some l) → BufferAgrees space copies k b c → BufferAgrees after left k b c
   buffer_stays held.Null NoBuffer kept h = h

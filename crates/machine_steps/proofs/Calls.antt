@@ -112,20 +112,6 @@ no_return instr.ReturnJint r h = h
 no_return (instr.ReturnReference operand) r h = h
 no_return i r h = r
 
--- what is none of the others is plain
-pub plain_else : (i : Instr) → ((v : _) (equal : Bool) → i ≡ instr.TestNull v equal → ⊥) → ((v : _) → i ≡ instr.StoreNull v → ⊥) → ((slot line : ℕ) → i ≡ instr.LoadBuffer slot line → ⊥) → ((type : _) (slot line : ℕ) → i ≡ instr.StoreBuffer type slot line → ⊥) → (i ≡ instr.PutJint → ⊥) → ((call : Call) → i ≡ instr.Call call → ⊥)
-    → (i ≡ instr.Return → ⊥) → (i ≡ instr.ReturnJint → ⊥) → ((o : _) → i ≡ instr.ReturnReference o → ⊥) → IsPlain i
-plain_else (instr.TestNull v equal) test store load_buffer store_buffer put call return return_jint return_reference = test v equal refl
-plain_else (instr.StoreNull v) test store load_buffer store_buffer put call return return_jint return_reference = store v refl
-plain_else (instr.LoadBuffer slot line) test store load_buffer store_buffer put call return return_jint return_reference = load_buffer slot line refl
-plain_else (instr.StoreBuffer type slot line) test store load_buffer store_buffer put call return return_jint return_reference = store_buffer type slot line refl
-plain_else instr.PutJint test store load_buffer store_buffer put call return return_jint return_reference = put refl
-plain_else (instr.Call c) test store load_buffer store_buffer put call return return_jint return_reference = call c refl
-plain_else instr.Return test store load_buffer store_buffer put call return return_jint return_reference = return refl
-plain_else instr.ReturnJint test store load_buffer store_buffer put call return return_jint return_reference = return_jint refl
-plain_else (instr.ReturnReference o) test store load_buffer store_buffer put call return return_jint return_reference = return_reference o refl
-plain_else i test store load_buffer store_buffer put call return return_jint return_reference = tt
-
 -- ---- what is known of the instruction at a call's place
 
 pub record Ready (p : Lowered) (classes : Classes) (space : Space) (copies : List (Option OwnedNumbers)) (k : ℕ) (call : Activation) (code : Listing) (visible : Visible) (frames : List Frame) (task : Task) (rest : List Task) : Type 0 where
@@ -181,10 +167,6 @@ fields_count unit classes (a ∷ handles) (f ∷ fields) h = ap suc (fields_coun
 some_is : {A : Type 0} (o : Option A) (x : A) → o ≡ Some x → IsSome o
 some_is None x h = absurd (cc)
 some_is (Some y) x h = refl
-
-some_has : {A : Type 0} (o : Option A) → IsSome o → (x : A) × (o ≡ Some x)
-some_has None h = absurd (cc)
-some_has (Some x) h = (x, refl)
 
 module _ (p : Lowered) (classes : Classes) (space : Space) (copies : List (Option OwnedNumbers)) (k : ℕ) (call : Activation) (code : Listing) (visible : Visible) (frames : List Frame) (task : Task) (rest : List Task) (r : Ready p classes space copies k call code visible frames task rest) where
   -- there is an instruction

@@ -57,7 +57,3 @@ module _ (unit : SourceUnit) (classes : Classes) (in_use : BuffersInUse) (k : �
 entered_cells : (shared : Shared) (o : Option Thread) → cells_made shared (entry_advance shared o) ≡ 0
 entered_cells shared None = refl
 entered_cells shared (Some t) = ap sizes (drop-length shared.heap)
-
-pub entry_cells : (unit : SourceUnit) (classes : Classes) (in_use : BuffersInUse) (k : ℕ) (shared : Shared) (s : Thread) → s.tasks ≡ None → cells_made shared (thread_step unit classes in_use k shared s false) ≡ 0
-entry_cells unit classes in_use k shared s none =
-    ap (λ (o : Option (List Task)). cells_made shared (step_within unit classes in_use k shared s false o)) none ∙ entered_cells shared (enter unit classes s s.calls)

@@ -50,18 +50,6 @@ lookup_other {A = A} x y v ((z, w) ∷ rest) other = by_test (bytes_eq x z) refl
     by_test true e later = ap (λ (b : Bool). if b then Some v else lookup y rest) (unequal (bytes_eq y x) refl) ∙ sym (ap (λ (b : Bool). if b then Some w else lookup y rest) (not_first e))
     by_test false e later = ap (λ (o : Option A). if bytes_eq y z then Some w else o) later
 
--- a value that is there already leaves all as it was
-pub assign_same : {A : Type 0} (x : Identifier) (v : A) (vs : ByName A) → lookup x vs ≡ Some v → assign x v vs ≡ vs
-assign_same x v [] at = absurd (cc)
-assign_same {A = A} x v ((y, w) ∷ rest) at = by_test (bytes_eq x y) refl at (λ h. assign_same x v rest h)
-  where
-    by_test : (b : Bool) → bytes_eq x y ≡ b → (if b then Some w else lookup x rest) ≡ Some v → (lookup x rest ≡ Some v → assign x v rest ≡ rest) → (if b then (x, v) ∷ rest else (y, w) ∷ assign x v rest) ≡ (y, w) ∷ rest
-    by_test true e h later =
-        let name : x ≡ y = (bytes_eq-Decides x y).0 e in
-        let value : w ≡ v = cc in
-        ap (λ (z : Identifier). (z, v) ∷ rest) name ∙ ap (λ (u : A). (y, u) ∷ rest) (sym value)
-    by_test false e h later = ap (λ (vs : ByName A). (y, w) ∷ vs) (later h)
-
 -- a value that is there is changed
 pub change_is : {A : Type 0} (x : Identifier) (f : A → A) (v : A) (vs : ByName A) → lookup x vs ≡ Some v → change x f vs ≡ assign x (f v) vs
 change_is x f v [] at = absurd (cc)
@@ -89,12 +77,6 @@ seen_within zs i z h = by_found (slice_get zs i) refl h
     by_found : (o : Option ℤ) → slice_get zs i ≡ o → in_range o ≡ Gives z → i < length zs
     by_found None e h = absurd (cc)
     by_found (Some y) e h = slice_get_within zs i y e
-
--- a variable with a number's value is a number
-pub scalar_of : (o : Option Variable) (v : Value) → scalar o ≡ Gives v → o ≡ Some (Scalar v)
-scalar_of None v h = absurd (cc)
-scalar_of (Some (Scalar w)) v h = let same : w ≡ v = cc in ap (λ (u : Value). Some (Scalar u)) same
-scalar_of (Some w) v h = absurd (cc)
 
 -- one with an element type is an array
 pub array_of : (o : Option Variable) (type : ElementType) → type_of_array o ≡ Some type → (zs : List ℤ) × (o ≡ Some (LocalArray type zs))

@@ -122,18 +122,6 @@ counts_held n (Some (Elements t NoBuffer)) = refl
 counts_held n (Some (Elements t (Copy m zs))) = refl
 counts_held n (Some (Elements t (View m))) = refl
 
--- where a variable's slot and the variable get another buffer
-pub views_put : (space : Space) (copies : List (Option OwnedNumbers)) (k : ℕ) (slots : List Buffer) (buffers : List source.Buffer) (i : ℕ) (h : Buffer) (x : Identifier) (t : ElementType) (c : source.Buffer) (s next : Thread)
-    → AllZip (BufferAgrees space copies k) slots buffers → slice_get buffers i ≡ Some (held_buffer (lookup x s.variables)) → BufferAgrees space copies k h c → next.variables ≡ assign x (Elements t c) s.variables
-    → AreViewed space slots s → AreViewed space (slice_set slots i h) next
-views_put space copies k slots buffers i h x t c s next agree at new is views = λ n.
-    let slot = slot_put space copies k slots buffers i (held_buffer (lookup x s.variables)) h c n agree at new in
-    let variables = views_assigned (times n) refl (times_append n) x (Elements t c) s.variables in
-    let was = counts_held n (lookup x s.variables) in
-    let now = counts_held n (Some (Elements t c)) in
-    let next_views : times n (objects_viewed next.variables) ≡ times n (taken_by (assign x (Elements t c) s.variables)).viewed = ap (λ (vs : Variables). times n (taken_by vs).viewed) is in
-    omega (arith, slot, variables, was, now, next_views, views n)
-
 -- where a buffer is given up
 pub views_freed : (space : Space) (copies : List (Option OwnedNumbers)) (k : ℕ) (slots : List Buffer) (buffers : List source.Buffer) (i : ℕ) (x : Identifier) (t : ElementType) (b : source.Buffer) (s next : Thread)
     → AllZip (BufferAgrees space copies k) slots buffers → slice_get buffers i ≡ Some b → lookup x s.variables ≡ Some (Elements t b) → next.variables ≡ change x freed s.variables

@@ -43,12 +43,9 @@ use Rattle.machine_steps.proofs.Pushes.{as_pushed, few_callers, pushed_cells, pu
 use Rattle.machine_steps.proofs.Threads.{Working, calls_of_world, did, resting, returned}
 use Rattle.machine_steps.proofs.Returns.{copier_is, first, has_called, none_below, returned_into}
 use Rattle.machine_steps.proofs.Waits.{executes, work}
+use Rattle.machine_steps.proofs.CallsThere.{running, some_by, last_of}
 use Rattle.machine_steps.proofs.advance.advance.Goals as goal
 use Rattle.machine_steps.proofs.advance.advance.Goals.{After-owner_at-owner}
-
--- what is lent of a call is that call
-running : {o : Option Activation} {a b : Activation} → o ≡ Some a → b ≡ a → o ≡ Some b
-running is same = is ∙ ap (λ (x : Activation). Some x) (sym same)
 
 pub owner_at-owner-requires : goal.owner_at-owner-requires
 owner_at-owner-requires c = let few : length c.args.thread.now.callers.items < 64 = c.requires.agrees.5.few in omega (arith, few, c.len.ensures, c.args.thread.now.callers.ok.0)
@@ -288,19 +285,9 @@ leave-requires c x is =
 none_by : (n : ℕ) → (n == 0) ≡ true → n ≡ 0
 none_by n h = (Decides-eqb n 0).0 h
 
-some_by : (n : ℕ) → (n == 0) ≡ false → 0 < n
-some_by zero h = absurd (cc)
-some_by (suc n) h = omega arith
-
 no_items : {A : Type 0} (xs : List A) → length xs ≡ 0 → xs ≡ []
 no_items [] h = refl
 no_items (x ∷ xs) h = absurd (cc)
-
--- the last of a list that has some
-last_of : {A : Type 0} (xs : List A) → 0 < length xs → (front : List A) × (x : A) × (xs ≡ front ++ x ∷ [])
-last_of [] some = absurd (omega (arith, some))
-last_of (x ∷ []) some = ([], x, refl)
-last_of {A} (x ∷ y ∷ xs) some = let r = last_of (y ∷ xs) (omega arith) in (x ∷ r.0, r.1, ap (λ (l : List A). x ∷ l) r.2)
 
 pub resume-requires-clause-called : goal.resume-requires-clause-called
 resume-requires-clause-called c below caller last =

@@ -21,6 +21,7 @@ use Rattle.machine_steps.specs.Received.{HasRoom, HasStatic, HasTarget, Receives
 use Rattle.machine_steps.specs.Resumed.{HasCalled, Resumes}
 use Rattle.machine_steps.specs.Returned.{given_back}
 use Rattle.machine_steps.proofs.Returns.{calls_it, has_room, has_static, has_target}
+use Rattle.machine_steps.proofs.CallsThere.{running}
 use Rattle.machine_steps.proofs.advance.resume.Goals as goal
 
 -- the last of a list
@@ -40,10 +41,6 @@ ends_same {A} (a ∷ xs) (b ∷ ys) x y e =
     let first : a ≡ b = cc in
     let r = ends_same xs ys x y (let rest : xs ++ x ∷ [] ≡ ys ++ y ∷ [] = cc in rest) in
     (ap (λ (z : A). z ∷ xs) first ∙ ap (λ (l : List A). b ∷ l) r.0, r.1)
-
--- what is lent of a call is that call
-running : {o : Option Activation} {a b : Activation} → o ≡ Some a → b ≡ a → o ≡ Some b
-running is same = is ∙ ap (λ (x : Activation). Some x) (sym same)
 
 -- the caller
 last : (items left : List Activation) (o : Option Activation) (caller : Activation) → items ≡ left ++ option_to_list o → o ≡ Some caller → items ≡ left ++ caller ∷ []

@@ -10,12 +10,9 @@ use Rattle.machine_threads.specs.declared.thread.Thread.{Thread}
 use Rattle.machine_steps.proofs.ChangedCalls.{at_it, free, it, pushed}
 use Rattle.machine_steps.proofs.Fetched.{Fetched}
 use Rattle.machine_steps.proofs.Waits.{function_there, place_there, value_enters}
+use Rattle.machine_steps.proofs.CallsThere.{running}
 use Rattle.machine_steps.proofs.change.call_method.Goals as goal
 use Rattle.machine_steps.proofs.change.call_method.Goals.{After-call-call}
-
--- what is lent of a call is that call
-running : {o : Option Activation} {a b : Activation} → o ≡ Some a → b ≡ a → o ≡ Some b
-running is same = is ∙ ap (λ (x : Activation). Some x) (sym same)
 
 pub code_at-code-requires : goal.code_at-code-requires
 code_at-code-requires c =

@@ -12,12 +12,9 @@ use Rattle.machine_threads.specs.declared.thread.Thread.{Thread}
 use Rattle.machine_steps.specs.Resumed.{Resumes}
 use Rattle.machine_steps.specs.declared.execute.ReturnValue.{ReturnValue}
 use Rattle.std.specs.Prelude.{◌==◌}
+use Rattle.machine_steps.proofs.CallsThere.{running, returns_is, some_by, last_of}
 use Rattle.machine_steps.proofs.change.return_to_caller.Goals as goal
 use Rattle.machine_steps.proofs.change.return_to_caller.Goals.{After-instr_at-instr}
-
--- what is lent of a call is that call
-running : {o : Option Activation} {a b : Activation} → o ≡ Some a → b ≡ a → o ≡ Some b
-running is same = is ∙ ap (λ (x : Activation). Some x) (sym same)
 
 pub code_at-code-requires : goal.code_at-code-requires
 code_at-code-requires c =
@@ -30,19 +27,6 @@ instr_at-instr-requires c =
     let few : c.args.store.now.heap.cells ≤ 1048576 = omega (arith, c.cells.ensures.cells, c.cells.ensures.limit) in
     place_there c.args.program.now c.args.world.now c.args.store.now (beside_callers a.0 a.3) c.args.number a.1 a.2 c.args.thread.now a.3 c.get-activation.result.now a.4.0 a.4.1 (running c.in-Some.is c.get-activation.ensures) a.4.2
     c.code_at-code.result.now c.requires.lowered c.code_at-code.ensures.code few
-
-returns_is : (i : Instr) → (i ≡ instr.Return) ⊎ ((i ≡ instr.ReturnJint) ⊎ ((o : ReferenceOperand) × (i ≡ instr.ReturnReference o))) → IsReturn i
-returns_is i h = ⊎_elim (λ e. subst IsReturn (sym e) tt) (λ rest. ⊎_elim (λ e. subst IsReturn (sym e) tt) (λ e. subst IsReturn (sym e.1) tt) rest) h
-
-some_by : (n : ℕ) → (n == 0) ≡ false → 0 < n
-some_by zero h = absurd (cc)
-some_by (suc n) h = omega arith
-
--- the last of a list that has some
-last_of : {A : Type 0} (xs : List A) → 0 < length xs → (front : List A) × (x : A) × (xs ≡ front ++ x ∷ [])
-last_of [] some = absurd (omega (arith, some))
-last_of (x ∷ []) some = ([], x, refl)
-last_of {A} (x ∷ y ∷ xs) some = let r = last_of (y ∷ xs) (omega arith) in (x ∷ r.0, r.1, ap (λ (l : List A). x ∷ l) r.2)
 
 -- what was fetched
 fetched : (c : After-instr_at-instr) → Fetched c.args.program.now c.args.store.now c.get-activation.result.now c.instr_at-instr.result.now

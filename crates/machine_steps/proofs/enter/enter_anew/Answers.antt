@@ -5,6 +5,7 @@ use Rattle.machine_threads.specs.Entry.{IsEnteringOf}
 use Rattle.machine_threads.specs.declared.thread.Entering.{Entering}
 use Rattle.machine_threads.specs.declared.thread.PendingCall.{PendingCall}
 use Rattle.machine_steps.specs.Pushed.{IsNext}
+use Rattle.machine_steps.proofs.CallsThere.{of_caller}
 use Rattle.machine_steps.proofs.enter.enter_anew.Goals as goal
 
 -- what is in front
@@ -12,11 +13,6 @@ in_front : (items : List PendingCall) (o : Option (Bor PendingCall)) (r : Bor Pe
 in_front items None r e h = absurd (cc)
 in_front [] (Some x) r e h = absurd (omega (arith, h.0))
 in_front (n ∷ rest) (Some x) r e h = (rest, let same : x ≡ r = cc in subst (λ (y : Bor PendingCall). n ∷ rest ≡ y.now ∷ rest) same (ap (λ (m : PendingCall). m ∷ rest) (sym (h.1 n))))
-
--- the call that another has made
-of_caller : (loaded : List ℕ) (o : Option Entering) (e : Entering) (calls : List PendingCall) → o ≡ Some e → IsNext loaded o calls calls e
-of_caller loaded None e calls is = absurd (cc)
-of_caller loaded (Some x) e calls is = let same : x ≡ e = cc in (sym same, refl)
 
 -- the first of the world's
 of_world : (loaded : List ℕ) (o : Option Entering) (n : PendingCall) (calls rest : List PendingCall) (e : Entering) → o ≡ None → calls ≡ n ∷ rest → IsEnteringOf loaded n e → IsNext loaded o calls rest e

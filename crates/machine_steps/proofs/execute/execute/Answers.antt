@@ -31,6 +31,7 @@ use Rattle.machine_steps.proofs.Fetched.{Fetched, at_call, possible, reachable, 
 use Rattle.machine_steps.proofs.ElementEffects.{load_executes, store_executes as element_store_executes}
 use Rattle.machine_steps.proofs.SlotBuffers.{slot_of_block}
 use Rattle.machine_steps.proofs.Effects.{few_words, slot_there as variable_there, plain_executes, test_executes, store_executes, put_executes, return_executes}
+use Rattle.machine_steps.proofs.CallsThere.{returns_is}
 use Rattle.machine_steps.proofs.execute.execute.Goals as goal
 use Rattle.machine_steps.proofs.execute.execute.Goals.{After-instr_at-instr}
 
@@ -43,9 +44,6 @@ fetched c = record {
   at = c.instr_at-instr.ensures.instr;
   few = omega (arith, c.cells.ensures.cells, c.cells.ensures.limit);
 }
-
-returns_is : (i : Instr) → (i ≡ instr.Return) ⊎ ((i ≡ instr.ReturnJint) ⊎ ((o : ReferenceOperand) × (i ≡ instr.ReturnReference o))) → IsReturn i
-returns_is i h = ⊎_elim (λ e. subst IsReturn (sym e) tt) (λ rest. ⊎_elim (λ e. subst IsReturn (sym e) tt) (λ e. subst IsReturn (sym e.1) tt) rest) h
 
 pub code_at-code-requires : goal.code_at-code-requires
 code_at-code-requires c =

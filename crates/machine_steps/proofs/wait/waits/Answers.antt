@@ -11,12 +11,9 @@ use Rattle.machine_steps.specs.Waiting.{store_unowned}
 use Rattle.machine_steps.proofs.Fetched.{Fetched}
 use Rattle.machine_steps.proofs.Threads.{resting}
 use Rattle.machine_steps.proofs.Waits.{function_there, goes_on, may_wait, none_waits, place_there, value_enters, waits_by, work}
+use Rattle.machine_steps.proofs.CallsThere.{running}
 use Rattle.machine_steps.proofs.wait.waits.Goals as goal
 use Rattle.machine_steps.proofs.wait.waits.Goals.{After-instr_at-instr}
-
--- what is lent of a call is that call
-running : {o : Option Activation} {a b : Activation} → o ≡ Some a → b ≡ a → o ≡ Some b
-running is same = is ∙ ap (λ (x : Activation). Some x) (sym same)
 
 -- what was fetched
 fetched : (c : After-instr_at-instr) → Fetched c.args.program.now (store_unowned c.args.store.now) c.get-activation.result.now c.instr_at-instr.result.now
