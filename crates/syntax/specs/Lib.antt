@@ -3,3 +3,4 @@ pub mod Parts
 pub mod Limits
 pub mod Views
 pub mod NullTests
+pub mod Shapes

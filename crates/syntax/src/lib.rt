@@ -4,6 +4,7 @@
 mod call;
 mod declared_type;
 mod expr;
+mod expr_ref;
 mod name;
 mod stmt;
 mod unit;
@@ -11,7 +12,8 @@ mod unit;
 pub use base::ElementType;
 pub use call::{Argument, Call, RightSide, Test};
 pub use declared_type::{ParameterType, ReferenceType, StaticType, VariableType};
-pub use expr::{BinaryOp, Constant, Expr, NullTest, PrefixOp};
+pub use expr::{BinaryOp, Constant, Expr, PrefixOp};
+pub use expr_ref::{ExprRef, NullTest, Shape};
 pub use name::Name;
 pub use stmt::{Block, Form, Stmt};
 pub use unit::{Function, Item, Parameter, ResultType, Static, Unit};
