@@ -40,32 +40,17 @@ tested : {P : Type 0} (b : Bool) → (b ≡ true → P) → (b ≡ false → P) 
 tested true t f = t refl
 tested false t f = f refl
 
-letter-no_slash : (b : ℕ) → is_letter b ≡ true → eqb b 47 ≡ false
-letter-no_slash b h = grind (arith, nat_tests)
-
-letter-no_underscore : (b : ℕ) → is_letter b ≡ true → eqb b 95 ≡ false
-letter-no_underscore b h = grind (arith, nat_tests)
-
 word-no_slash : (b : ℕ) → is_word b ≡ true → eqb b 47 ≡ false
 word-no_slash b h = grind (arith, nat_tests)
 
 word-no_underscore : (b : ℕ) → is_word b ≡ true → eqb b 95 ≡ false
 word-no_underscore b h = grind (arith, nat_tests)
 
-one-no_letter : is_letter 49 ≡ false
-one-no_letter = refl
-
 word-part : (b : ℕ) → is_word b ≡ true → is_name_part b ≡ true
 word-part b h = grind (arith, nat_tests)
 
 part-word : (b : ℕ) → is_name_part b ≡ true → eqb b 95 ≡ false → is_word b ≡ true
 part-word b h k = grind (arith, nat_tests)
-
-part-no_slash : (b : ℕ) → is_name_part b ≡ true → eqb b 47 ≡ false
-part-no_slash b h = grind (arith, nat_tests)
-
-letter-part : (b : ℕ) → is_letter b ≡ true → is_name_part b ≡ true
-letter-part b h = grind (arith, nat_tests)
 
 letter-word : (b : ℕ) → is_letter b ≡ true → is_word b ≡ true
 letter-word b h = rw h refl

@@ -15,9 +15,6 @@ split-at : (front rest : List ℕ) → split_last rest ≡ None → split_last (
 split-at [] rest h = rw h refl
 split-at (c ∷ front) rest h = rw (split-at front rest h) refl
 
-split-none : (c : ℕ) (rest : List ℕ) → eqb c 47 ≡ false → split_last rest ≡ None → split_last (c ∷ rest) ≡ None
-split-none c rest h k = rw (k, h) refl
-
 pub split_last-found : (path : List ℕ) (i : ℕ) → i < length path → get_or path i 0 ≡ 47 → split_last (drop (i + 1) path) ≡ None → split_last path ≡ Some (take i path, drop (i + 1) path)
 split_last-found path i below here none =
     let whole : path ≡ take i path ++ (47 ∷ drop (i + 1) path) = grind (arith, common_steps, here) in

@@ -1,12 +1,12 @@
 -- A field that is looked for in a class and then in its superclasses.
-use Rattle.std.proofs.Common.{◌≡◌, ℕ, zero, suc, ◌+◌, ◌<◌, Bool, true, false, cond, List, [], ◌∷◌, ◌++◌, length, map, flat_map, find, Option, Some, None, refl, ap, ◌∙◌, arith}
+use Rattle.std.proofs.Common.{◌≡◌, ℕ, zero, suc, ◌+◌, ◌<◌, Bool, true, false, cond, List, [], ◌∷◌, ◌++◌, map, flat_map, find, Option, Some, None, refl, ap, ◌∙◌, arith}
 use Rattle.std.specs.Prelude.{◌&&◌}
 use Rattle.std.specs.Option.{option_map}
 use Rattle.std.specs.Str.{bytes_eq}
 use Rattle.base.specs.Bytes.{Identifier}
 use Rattle.class_rules.specs.Class.{Field, Classes, superclass, above, ancestry_within}
 use Rattle.class_rules.specs.Fields.{FieldId, signature}
-use Rattle.classes.specs.FieldViews.{declared_as, find_as}
+use Rattle.classes.specs.FieldViews.{declared_as}
 
 find-some : {A : Type 0} (p : A → Bool) (xs ys : List A) (x : A) → find p xs ≡ Some x → find p (xs ++ ys) ≡ Some x
 find-some p [] ys x e = absurd (cc)
@@ -36,10 +36,6 @@ own T s c = map (identified s c) (declared_as T c s)
 -- the first that fits of a class and its ancestors, of which there are at most this many
 abbrev pub found_within : ℕ → Classes → ℕ → Identifier → List ℕ → Bool → Option FieldId
 found_within n T c name text s = find (λ (g : FieldId). fits T name text g.field) (flat_map (own T s) (ancestry_within n T c))
-
-pub found_within-all : (T : Classes) (c : ℕ) (name : Identifier) (text : List ℕ) (s : Bool) → found_within (length T) T c name text s ≡ find_as T c name text s
-found_within-all T c name text true = refl
-found_within-all T c name text false = refl
 
 module _ (T : Classes) (c : ℕ) (name : Identifier) (text : List ℕ) (s : Bool) where
   find-own : (fs : List Field) → find (λ (g : FieldId). fits T name text g.field) (map (identified s c) fs) ≡ option_map (identified s c) (find (fits T name text) fs)

@@ -4,10 +4,9 @@ use Rattle.std.specs.Prelude.{◌==◌, nat_lt, int_lt, int_le, FitsSigned}
 use Rattle.std.specs.Bool.{Decides}
 use Rattle.std.specs.Int.{w32, cast_signed, cast_unsigned}
 use Rattle.std.specs.Ordering.{int_eq}
-use Rattle.std.proofs.Math.Nat.{mod-eq_of_lt}
 use Rattle.std.proofs.lemmas.Bool.{le-ltb}
 use Rattle.std.proofs.lemmas.Bool.Decides.{Decides-eqb, Decides-int_eq, same_from_decides}
-use Rattle.std.proofs.lemmas.Int.{ints, to_z-of_z, of_z-to_z}
+use Rattle.std.proofs.lemmas.Int.{ints, to_z-of_z}
 use Rattle.code.specs.declared.instr.Operator.TheVariants.{Equal, NotEqual, SignedLess, SignedLessEqual, SignedGreater, SignedGreaterEqual}
 use Rattle.base.specs.declared.element.ElementType.{ElementType}
 use Rattle.base.specs.declared.element.ElementType.TheVariants.{Int, Short, Byte, Char}
@@ -59,9 +58,3 @@ element_fits Int word h = h
 element_fits Short word h = let low : word % 65536 < 65536 = omega arith in omega (arith, ints)
 element_fits Byte word h = let low : word % 256 < 256 = omega arith in omega (arith, ints)
 element_fits Char word h = omega arith
-
--- a `jint` of 32 bits is kept by a conversion to `jint`
-pub int_kept : (z : ℤ) → FitsSigned w32 z → cast_unsigned w32 (cast_signed w32 (cast_unsigned w32 z % 2 ^ 32)) ≡ element_word Int (cast_unsigned w32 z)
-int_kept z fits =
-    let range : cast_unsigned w32 z < 4294967296 = omega (arith, ints) in
-    of_z-to_z w32 (cast_unsigned w32 z % 4294967296) (omega arith) ∙ mod-eq_of_lt range

@@ -1,7 +1,5 @@
 -- What a thread sees, and what a list of statics has at its places, once a static holds something else.
-use Rattle.std.proofs.Common.{◌≡◌, ◌≢◌, ℕ, zero, suc, true, false, [], ◌∷◌, Option, Some, None, refl, sym, ap, ◌∙◌, subst, if◌then◌else◌}
-use Rattle.std.specs.Prelude.{slice_get}
-use Rattle.std.specs.Option.{option_map}
+use Rattle.std.proofs.Common.{◌≡◌, ◌≢◌, ℕ, suc, true, false, [], ◌∷◌, Option, Some, None, refl, sym, ap, ◌∙◌, subst}
 use Rattle.std.specs.Str.{bytes_eq}
 use Rattle.std.proofs.lemmas.Slice.Eq.{bytes_eq-Decides}
 use Rattle.std.proofs.lemmas.Bool.Decides.{not_from_Decides}
@@ -9,14 +7,14 @@ use Rattle.base.specs.Bytes.{Identifier, lookup}
 use Rattle.semantics.specs.Sight.{scalar, held_reference, holds_null, static_is_null}
 use Rattle.semantics.specs.Thread.{Shared, Thread}
 use Rattle.semantics.specs.Value.{Gives}
-use Rattle.semantics.specs.Variable.{Variable, Scalar, LocalRef, FieldHandle, MethodHandle, Elements, LocalArray, StaticReference, Empty, Live, Weakly, Cleared, Deleted, Statics, assign}
+use Rattle.semantics.specs.Variable.{Variable, Scalar, LocalRef, FieldHandle, MethodHandle, Elements, LocalArray, StaticReference, Empty, Live, Weakly, Cleared, Deleted, assign}
 use Rattle.code.specs.Depth.{Listing}
 use Rattle.type_rules.specs.ExprTypes.{ExprType, Global, Weak}
 use Rattle.code_meaning.specs.Layout.{Slot, Known}
 use Rattle.code_meaning.specs.Fits.{IsStaticType}
-use Rattle.code_meaning.specs.Slots.{visible_to, type_of_array, kind_of_variable, HasNoVariable, IsAsBefore, IsHeld, is_empty, static_index, Slots, ShowsSlot, Shows}
+use Rattle.code_meaning.specs.Slots.{visible_to, type_of_array, kind_of_variable, HasNoVariable, IsAsBefore, IsHeld, is_empty, Slots, ShowsSlot, Shows}
 use Rattle.code_meaning.proofs.SlotLaws.{slot_stays, static_changes}
-use Rattle.code_meaning.proofs.StaticPlaces.{assigned_stays, assigned_place, assigned_held, there_at}
+use Rattle.code_meaning.proofs.StaticPlaces.{assigned_stays, assigned_held}
 
 -- ---- what a thread sees
 
@@ -119,30 +117,3 @@ module _ (own : Identifier → Option ℕ) (shared : Shared) (t : Thread) (x : I
                   slot_stays (visible_to own shared t) (visible_to own after t) y slots slots (others_as_before y other) s.ty s.index (λ k p. refl) (λ r. (refl, refl)) (λ r. refl) (λ b. refl) (λ r. assigned_stays x y h shared.statics other) (shows.each y s at)
             ] refl;
       }
-
--- ---- what is at the places
-
--- the static that is assigned
-pub assigned_there : (x : Identifier) (h : StaticReference) (i : ℕ) (ss : Statics) → static_index x ss ≡ Some i → slice_get (assign x h ss) i ≡ Some (x, h)
-assigned_there x h i ss at = there_at x i h (assign x h ss) (assigned_place x h i ss at) (assigned_held x h ss)
-
--- and each other
-pub assigned_elsewhere : (x : Identifier) (h : StaticReference) (i j : ℕ) (ss : Statics) → static_index x ss ≡ Some i → j ≢ i → slice_get (assign x h ss) j ≡ slice_get ss j
-assigned_elsewhere x h i j [] at other = absurd (cc)
-assigned_elsewhere x h i j ((z, w) ∷ rest) at other =
-    elim (bytes_eq x z) as (λ b. bytes_eq x z ≡ b → (if b then Some 0 else option_map suc (static_index x rest)) ≡ Some i → slice_get (if b then (x, h) ∷ rest else (z, w) ∷ assign x h rest) j ≡ slice_get ((z, w) ∷ rest) j) [
-      | true ↦ λ e k. past j (λ same. other (same ∙ first_is k))
-      | false ↦ λ e k. later j (static_index x rest) refl k other (λ n m is out. assigned_elsewhere x h n m rest is out)
-    ] refl at
-  where
-    first_is : {n : ℕ} → Some 0 ≡ Some n → 0 ≡ n
-    first_is k = cc
-
-    past : (j : ℕ) → j ≢ 0 → slice_get ((x, h) ∷ rest) j ≡ slice_get ((z, w) ∷ rest) j
-    past zero out = absurd (out refl)
-    past (suc j) out = refl
-
-    later : (j : ℕ) (o : Option ℕ) → static_index x rest ≡ o → option_map suc o ≡ Some i → j ≢ i → ((n m : ℕ) → static_index x rest ≡ Some n → m ≢ n → slice_get (assign x h rest) m ≡ slice_get rest m) → slice_get ((z, w) ∷ assign x h rest) j ≡ slice_get ((z, w) ∷ rest) j
-    later j None is k out further = absurd (cc)
-    later zero (Some n) is k out further = refl
-    later (suc j) (Some n) is k out further = further n j is (λ same. out (let one : suc n ≡ i = cc in ap suc same ∙ one))

@@ -193,9 +193,6 @@ closed_of s t e h a b there r = subst (λ (x : Space). IsAddress x b) e (h a b (
 pub addresses_of : (s t : Space) (roots : List (Option ℕ)) → bare s ≡ bare t → AreAddresses s roots → AreAddresses t roots
 addresses_of s t roots e h a m = subst (λ (x : Space). IsAddress x a) e (h a m)
 
-pub bare_none : (s : Space) → s.marking ≡ None → bare s ≡ s
-bare_none s e = ap (λ (o : Option Marks). let t : Space = record s { marking = o } in t) (sym e)
-
 -- ---- the marking that is taken up, or begun
 
 pub count_is : (o x : Option Marks) (m : Marks) → x ≡ o → x ≡ Some m → m.marked ≡ count_of o

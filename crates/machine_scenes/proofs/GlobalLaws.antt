@@ -2,7 +2,6 @@
 use Rattle.std.proofs.Common.{inl, inr, ◌≡◌, ℕ, zero, suc, ◌<◌, Bool, true, false, List, [], ◌∷◌, ◌++◌, Option, Some, None, refl, sym, ap, ◌∙◌, subst, arith, if◌then◌else◌, ⊎_elim, Contains}
 use Rattle.std.specs.Prelude.{slice_get, slice_set, IsSome, ◌==◌}
 use Rattle.std.proofs.lemmas.Bool.Decides.{eqb_tells}
-use Rattle.std.proofs.lemmas.List.Elements.{Contains-append_cases, Contains-append_left, Contains-append_right}
 use Rattle.heap.specs.Heap.{Space, name_at}
 use Rattle.semantics.specs.CallEffects.{without_one}
 use Rattle.tables.specs.Globals.{without}
@@ -36,22 +35,6 @@ contains_often (m ∷ names) n (suc k, below, is) = by_test (n == m) (contains_o
     by_test : (b : Bool) → 0 < times n names → 0 < (if b then suc (times n names) else times n names)
     by_test true h = omega arith
     by_test false h = h
-
-often_contains : (names : List ℕ) (n : ℕ) → 0 < times n names → Contains names n
-often_contains [] n h = absurd (omega (arith, h))
-often_contains (m ∷ names) n h =
-    by_equal n m
-    (λ same e. (0, omega arith, sym e))
-    (λ other apart.
-    let further = often_contains names n (subst (λ (b : Bool). 0 < (if b then suc (times n names) else times n names)) other h) in
-    (suc further.0, omega (arith, further.1), further.2))
-
--- lists with the same names, each as often, between others
-pub among_both : (front xs ys back : List ℕ) → ((n : ℕ) → times n xs ≡ times n ys) → (n : ℕ) → Contains (front ++ (xs ++ back)) n → Contains (front ++ (ys ++ back)) n
-among_both front xs ys back same n h =
-    ⊎_elim (λ c. Contains-append_left front (ys ++ back) n c)
-    (λ c. Contains-append_right front (ys ++ back) n (⊎_elim (λ d. Contains-append_left ys back n (often_contains ys n (subst (λ (k : ℕ). 0 < k) (same n) (contains_often xs n d)))) (λ d. Contains-append_right ys back n d) (Contains-append_cases xs back n c)))
-    (Contains-append_cases front (xs ++ back) n h)
 
 -- ---- one more
 

@@ -1,11 +1,10 @@
 -- A step of a call makes the objects of its effect.
-use Rattle.std.proofs.Common.{◌≡◌, ℕ, false, List, [], ◌∷◌, ◌++◌, length, drop, Option, Some, None, refl, sym, ap, ◌∙◌}
+use Rattle.std.proofs.Common.{◌≡◌, ℕ, List, [], ◌∷◌, ◌++◌, length, drop, Option, Some, None, refl, sym, ap, ◌∙◌}
 use Rattle.std.proofs.Math.Seq.{drop-append_seam, drop-length}
 use Rattle.base.specs.Bytes.{Identifier, lookup}
 use Rattle.class_rules.specs.Class.{Classes}
 use Rattle.syntax.specs.Tree.{SourceUnit}
 use Rattle.jni.specs.JniFunction.{JniFunction}
-use Rattle.semantics.specs.Activation.{enter, entry_advance}
 use Rattle.semantics.specs.Arguments.{Actual}
 use Rattle.semantics.specs.CallEffects.{CallEffect, CallResult, Enters, Halts, Leaves, Throws}
 use Rattle.semantics.specs.CallStep.{after_call, effect_of_call, put, put_assigned}
@@ -14,7 +13,7 @@ use Rattle.semantics.specs.Heap.{Heap}
 use Rattle.semantics.specs.Object.{Object, sizes}
 use Rattle.semantics.specs.Task.{Assigned, Declared, Dropped, Target, Task, Tested}
 use Rattle.semantics.specs.Thread.{BuffersInUse, Shared, Thread}
-use Rattle.semantics.specs.ThreadStep.{after_effect, step_within, thread_step}
+use Rattle.semantics.specs.ThreadStep.{after_effect}
 use Rattle.semantics.specs.Variable.{Variable}
 use Rattle.semantics.specs.World.{fresh_object}
 use Rattle.machine_calls.specs.CarriedOut.{made_by}
@@ -52,8 +51,3 @@ module _ (unit : SourceUnit) (classes : Classes) (in_use : BuffersInUse) (k : �
   pub call_cells : (effect : CallEffect) → effect_of_call unit classes in_use k shared s line target f args rest ≡ effect → IsAsLong shared effect
       → cells_made shared (after_effect unit classes in_use k shared s rest (Calls line target f args)) ≡ sizes (made_by classes effect)
   call_cells effect is long = ap (λ (e : CallEffect). cells_made shared (after_call unit classes in_use k shared s line target f args rest e)) is ∙ after_cells effect long
-
--- an entry makes nothing
-entered_cells : (shared : Shared) (o : Option Thread) → cells_made shared (entry_advance shared o) ≡ 0
-entered_cells shared None = refl
-entered_cells shared (Some t) = ap sizes (drop-length shared.heap)

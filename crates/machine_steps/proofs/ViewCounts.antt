@@ -1,5 +1,5 @@
 -- Views in slots are those of a thread's variables, once a slot and a variable have changed.
-use Rattle.std.proofs.Common.{◌≡◌, ℕ, zero, suc, ◌+◌, ◌≤◌, List, [], ◌∷◌, ◌++◌, replicate, Option, Some, None, refl, sym, ap, ◌∙◌, arith}
+use Rattle.std.proofs.Common.{◌≡◌, ℕ, zero, suc, ◌+◌, ◌≤◌, List, [], ◌∷◌, ◌++◌, replicate, Option, Some, refl, sym, ap, ◌∙◌, arith}
 use Rattle.std.specs.Prelude.{slice_get, slice_set}
 use Rattle.std.specs.List.{AllZip}
 use Rattle.std.specs.Option.{option_to_list}
@@ -9,11 +9,10 @@ use Rattle.heap.specs.Heap.{Space, name_at}
 use Rattle.semantics.specs.CallEffects.{freed, with_freed}
 use Rattle.semantics.specs.Thread.{Thread, objects_viewed}
 use Rattle.semantics.specs.Variable as source
-use Rattle.semantics.specs.Variable.{Variable, Variables, Scalar, LocalRef, FieldHandle, MethodHandle, Elements, LocalArray, NoBuffer, Copy, View, assign, change, viewed}
+use Rattle.semantics.specs.Variable.{Variables, Elements, NoBuffer, Copy, View, assign, change, viewed}
 use Rattle.semantics_safety.specs.StepSafe.{HoldsNoBuffer}
 use Rattle.code.specs.declared.instr.NullableVariable.{NullableVariable}
 use Rattle.code.specs.declared.instr.NullableVariable.TheVariants as nullable
-use Rattle.code_meaning.specs.Slots.{held_buffer}
 use Rattle.machine_steps.specs.Variables.{nulled_buffers}
 use Rattle.tables.specs.Elements.{OwnedNumbers}
 use Rattle.machine_scenes.specs.declared.buffer.Buffer.{Buffer}
@@ -21,7 +20,7 @@ use Rattle.machine_scenes.specs.declared.buffer.Buffer.TheVariants as held
 use Rattle.machine_scenes.specs.Buffers.{Acquired, AreViewed, BufferAgrees, acquired_of, nothing_acquired, viewed_in}
 use Rattle.machine_scenes.specs.HeapAgrees.{times}
 use Rattle.machine_scenes.proofs.HeldSums.{beside_freed, times_append}
-use Rattle.machine_steps.proofs.Acquisitions.{assigned_buffer, counted, taken_by, views_assigned}
+use Rattle.machine_steps.proofs.Acquisitions.{assigned_buffer, taken_by}
 
 -- ---- slots
 
@@ -109,18 +108,6 @@ views_taken space copies k slots i h x t c s next new none is views = λ n.
     let more = (assigned_buffer nothing_acquired x t c s.variables none).viewed n in
     let next_views : times n (objects_viewed next.variables) ≡ times n (taken_by (assign x (Elements t c) s.variables)).viewed = ap (λ (vs : Variables). times n (taken_by vs).viewed) is in
     omega (arith, slot, more, times_append n (objects_viewed s.variables) (acquired_of c).viewed, next_views, views n)
-
--- a variable counts as what it holds
-counts_held : (n : ℕ) (o : Option Variable) → counted (λ (v : Variable). times n (viewed v)) o ≡ times n (acquired_of (held_buffer o)).viewed
-counts_held n None = refl
-counts_held n (Some (Scalar v)) = refl
-counts_held n (Some (LocalRef level r)) = refl
-counts_held n (Some (FieldHandle f)) = refl
-counts_held n (Some (MethodHandle f)) = refl
-counts_held n (Some (LocalArray t zs)) = refl
-counts_held n (Some (Elements t NoBuffer)) = refl
-counts_held n (Some (Elements t (Copy m zs))) = refl
-counts_held n (Some (Elements t (View m))) = refl
 
 -- where a buffer is given up
 pub views_freed : (space : Space) (copies : List (Option OwnedNumbers)) (k : ℕ) (slots : List Buffer) (buffers : List source.Buffer) (i : ℕ) (x : Identifier) (t : ElementType) (b : source.Buffer) (s next : Thread)

@@ -1,5 +1,5 @@
 -- The table of a call's local references as it is made, and the keys in it.
-use Rattle.std.proofs.Common.{◌≡◌, ℕ, zero, suc, ◌+◌, ◌-◌, ◌<◌, ◌≤◌, true, List, [], ◌∷◌, ◌++◌, length, map, filter_map, replicate, take, Option, Some, None, inl, inr, refl, sym, ap, ◌∙◌, arith, length-append}
+use Rattle.std.proofs.Common.{◌≡◌, ℕ, zero, suc, ◌+◌, ◌-◌, ◌<◌, ◌≤◌, true, List, [], ◌∷◌, ◌++◌, length, map, filter_map, replicate, take, Option, Some, None, inl, inr, refl, sym, ap, ◌∙◌, arith}
 use Rattle.std.specs.Prelude.{slice_get}
 use Rattle.std.proofs.lemmas.Bool.Decides.{nat_tests}
 use Rattle.std.proofs.lemmas.List.{length-map, take_all}
@@ -7,7 +7,7 @@ use Rattle.heap.specs.declared.value.Value.{Value}
 use Rattle.heap.specs.declared.value.Value.TheVariants.{Number as Word, Null, Block as Address}
 use Rattle.tables.specs.Locals.{LocalTable, has_room, IsMade}
 use Rattle.tables.specs.References.{references_in, IsPut}
-use Rattle.machine_threads.specs.Entry.{given_address, keys_from, IsReferencesOf}
+use Rattle.machine_threads.specs.Entry.{given_address, keys_from}
 
 -- ---- one address more
 
@@ -101,54 +101,13 @@ adds_one capacity given place a after made = by_put made.slots
               ∙ ap (λ fs. let t : LocalTable = record { frames = fs; slots = all_taken (given ++ a ∷ []) } in t) made.frames;
         }
 
--- at most as many references as addresses
-pub fewer_before : (xs : List (Option ℕ)) (i : ℕ) → length (references_in (take i xs)) ≤ length (references_in xs)
-fewer_before xs zero = omega arith
-fewer_before [] (suc i) = omega arith
-fewer_before (None ∷ xs) (suc i) = fewer_before xs i
-fewer_before (Some a ∷ xs) (suc i) = let less = fewer_before xs i in omega (arith, less)
-
--- at an address there is one more
-pub one_before : (xs : List (Option ℕ)) (i a : ℕ) → slice_get xs i ≡ Some (Some a) → length (references_in (take i xs)) < length (references_in xs)
-one_before [] i a e = absurd (cc)
-one_before (None ∷ xs) zero a e = absurd (cc)
-one_before (Some b ∷ xs) zero a e = omega arith
-one_before (None ∷ xs) (suc i) a e = one_before xs i a e
-one_before (Some b ∷ xs) (suc i) a e = let less = one_before xs i a e in omega (arith, less)
-
-pub references_few : (xs : List (Option ℕ)) → length (references_in xs) ≤ length xs
-references_few [] = omega arith
-references_few (None ∷ xs) = let less = references_few xs in omega (arith, less)
-references_few (Some a ∷ xs) = let less = references_few xs in omega (arith, less)
-
 -- ---- what a call is given
-
-nulls_few : (n : ℕ) → length (references_in (replicate n None)) ≡ 0
-nulls_few zero = refl
-nulls_few (suc n) = nulls_few n
 
 pub arguments_few : (ws : List Value) → length (references_in (filter_map given_address ws)) ≤ length ws
 arguments_few [] = omega arith
 arguments_few (Word n ∷ ws) = let less = arguments_few ws in omega (arith, less)
 arguments_few (Null ∷ ws) = let less = arguments_few ws in omega (arith, less)
 arguments_few (Address a ∷ ws) = let less = arguments_few ws in omega (arith, less)
-
--- a reference to the class, and one to each argument at most
-pub given_few : (count : ℕ) (loaded : List ℕ) (class : ℕ) (ws : List Value) (slots : List (Option ℕ)) → IsReferencesOf count loaded class ws slots → length ws ≤ 256 → length (references_in slots) ≤ 257
-given_few count loaded class ws slots h few =
-    let rest : List (Option ℕ) = filter_map given_address ws ++ replicate h.more None in
-    let after : length (references_in rest) ≡ length (references_in (filter_map given_address ws)) + length (references_in (replicate h.more None)) =
-    ap length (references_after (filter_map given_address ws) (replicate h.more None)) ∙ length-append (references_in (filter_map given_address ws)) (references_in (replicate h.more None)) in
-    let none = nulls_few h.more in
-    let less = arguments_few ws in
-    ap_few (ap (λ (l : List (Option ℕ)). length (references_in l)) h.given) (first (slice_get loaded (class - 1)) rest (omega (arith, after, none, less, few)))
-  where
-    first : (o : Option ℕ) (xs : List (Option ℕ)) → length (references_in xs) ≤ 256 → length (references_in (o ∷ xs)) ≤ 257
-    first None xs h = omega (arith, h)
-    first (Some a) xs h = omega (arith, h)
-
-    ap_few : {a b : ℕ} → a ≡ b → b ≤ 257 → a ≤ 257
-    ap_few e l = omega (arith, e, l)
 
 -- this number of equal slots
 pub resized : {A : Type 0} (x : A) (items : List A) (n m len : ℕ) → items ≡ [] → len ≡ 0 → m ≡ n → take m items ++ replicate (m - len) x ≡ replicate n x

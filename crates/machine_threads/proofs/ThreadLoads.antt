@@ -76,7 +76,3 @@ agree_length p classes space copies made owners k shared [] [] h = refl
 agree_length p classes space copies made owners k shared [] (s ∷ ss) h = absurd h
 agree_length p classes space copies made owners k shared (t ∷ ts) [] h = absurd h
 agree_length p classes space copies made owners k shared (t ∷ ts) (s ∷ ss) h = ap suc (agree_length p classes space copies made owners (suc k) shared ts ss h.1)
-
-pub items_length : (ts : List (Vec Invocation)) → length (map (λ t. t.items) ts) ≡ length ts
-items_length [] = refl
-items_length (t ∷ ts) = ap suc (items_length ts)

@@ -185,10 +185,6 @@ left_long (v ∷ items) (suc n) = let more = left_long items n in omega (arith, 
 pub last_are : (items : List VariableStateInMemory) (n : ℕ) → take (length items - n) (drop n items) ≡ drop n items
 last_are items n = sym (all_taken (drop n items) (length items - n) (left_long items n))
 
--- the array variable of a held buffer has one
-pub own_held : (v : VariableState) (held : Access × Identifier) → Some held ≡ held_in v → one_of held.1 v ≡ 1
-own_held v held e = one_held held.1 v held e ∙ ap (λ b. if b then 1 else 0) (spelled_alike held.1)
-
 -- a name that has a number is a key
 pub is_key : (x : Identifier) (es : Entries) → 0 < count_of (by_name es) x → maps.lookup (λ (k : Bor Identifier). bytes_eq x k.now) es ≡ None → ⊥
 is_key x es h e = let none : count_of (by_name es) x ≡ 0 = ap (λ (o : Option ℕ). unwrap_or o 0) (sym (looked_up x es) ∙ e) in absurd (omega (arith, none, h))

@@ -74,10 +74,6 @@ none_refused unit w none = by_test (methods_load unit w) refl
     by_test true allowed = no_call (flat_map (refused_calls unit w.classes) w.threads) None (sym none ∙ methods_allowed unit w allowed) refl
     by_test false missing = let bad : Some w.heap_line ≡ None = sym (methods_missing unit w missing) ∙ none in absurd (cc)
 
-pub not_some : {A : Type 0} (o : Option A) → ((x : A) → o ≡ Some x → ⊥) → is_some o ≡ false
-not_some None h = refl
-not_some (Some x) h = absurd (h x refl)
-
 module _ (unit : SourceUnit) (classes : Classes) where
   abbrev pub refused : List (List Invocation) → List Invocation
   refused threads = flat_map (refused_calls unit classes) threads

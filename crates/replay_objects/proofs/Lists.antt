@@ -1,5 +1,5 @@
 -- A list up to an element, and with it.
-use Rattle.std.proofs.Common.{◌≡◌, ℕ, zero, suc, ◌+◌, ◌<◌, List, [], ◌∷◌, ◌++◌, length, map, drop, take, reverse, get_or, Option, Some, None, refl, sym, ap, ◌∙◌, arith}
+use Rattle.std.proofs.Common.{◌≡◌, ℕ, zero, suc, ◌+◌, ◌<◌, List, [], ◌∷◌, ◌++◌, length, map, drop, take, reverse, Option, Some, None, refl, sym, ap, ◌∙◌, arith}
 use Rattle.std.specs.Prelude.{remove, slice_get}
 use Rattle.std.specs.Option.{IsSome, option_map}
 use Rattle.std.proofs.lemmas.List.{drop-map, map-append, reverse-append, take-map, take_more}
@@ -7,12 +7,6 @@ use Rattle.std.proofs.lemmas.Option.{get_or_from_slice_get, slice_get_within}
 
 pub take_next : {A : Type 0} (xs : List A) (i : ℕ) (x : A) → slice_get xs i ≡ Some x → take (i + 1) xs ≡ take i xs ++ x ∷ []
 take_next xs i x at = take_more xs i x (slice_get_within xs i x at) ∙ ap (λ y. take i xs ++ y ∷ []) (get_or_from_slice_get xs i x x at)
-
--- what a list gives up to an element, and with it
-pub map_next : {A B : Type 0} (g : A → B) (xs : List A) (i : ℕ) (x : A) → i < length xs → x ≡ get_or xs i x → map g (take (i + 1) xs) ≡ map g (take i xs) ++ g x ∷ []
-map_next g xs i x h e =
-    ap (map g) (take_more xs i x h ∙ ap (λ y. take i xs ++ y ∷ []) (sym e))
-    ∙ map-append g (take i xs) (x ∷ [])
 
 module _ {A B : Type 0} (g : A → B) where
   pub map_reversed : (xs : List A) → map g (reverse xs) ≡ reverse (map g xs)

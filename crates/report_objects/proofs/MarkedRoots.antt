@@ -1,5 +1,5 @@
 -- Roots that are marked one after another.
-use Rattle.std.proofs.Common.{◌≡◌, ℕ, zero, suc, ◌+◌, ◌<◌, ◌≤◌, Bool, true, false, cond, List, [], ◌∷◌, ◌++◌, length, get_or, set, Some, None, replicate, refl, sym, ap, ◌∙◌, subst, arith, ⊎_elim, inl, inr, ◌⊎◌, Contains, min}
+use Rattle.std.proofs.Common.{◌≡◌, ℕ, zero, suc, ◌+◌, ◌<◌, ◌≤◌, Bool, true, false, cond, List, [], ◌∷◌, ◌++◌, length, get_or, set, Some, None, replicate, refl, sym, ap, ◌∙◌, subst, arith, ⊎_elim, inl, inr, ◌⊎◌, Contains}
 use Rattle.std.specs.Prelude.{nat_lt, nat_le, ◌&&◌}
 use Rattle.std.proofs.lemmas.Bool.{cases_eq, false≢true}
 use Rattle.std.proofs.lemmas.Bool.Decides.{nat_tests}
@@ -106,15 +106,6 @@ next_marked count name marks h w =
 -- a name of an object made at load, or one of the first of these
 abbrev pub IsSoFar : (loaded : ℕ) → (names : List ℕ) → (index : ℕ) → ℕ → Type 0
 IsSoFar loaded names index n = ((0 < n) × (n ≤ loaded)) ⊎ ((k : ℕ) × (k < index) × (k < length names) × (get_or names k n ≡ n))
-
-pub loaded_marked : (count loaded : ℕ) (names : List ℕ) (name : ℕ) (marks : List Bool) → AreRoots count (IsBelow name) marks → name ≡ min loaded count + 1 → AreRoots count (IsSoFar loaded names 0) marks
-loaded_marked count loaded names name marks h e =
-    roots_are count (IsBelow name) (IsSoFar loaded names 0) marks h
-    (λ n w p. inl (p.0, omega (arith, p.1, e)))
-    (λ n w q. ⊎_elim
-    (λ (l : (0 < n) × (n ≤ loaded)). let low : n < name = omega (arith, l.1, w.1, e) in (l.0, low))
-    (λ (c : (k : ℕ) × (k < 0) × (k < length names) × (get_or names k n ≡ n)). let none : c.0 < 0 = c.1 in absurd (omega arith))
-    q)
 
 default_other : (xs : List ℕ) (k d e : ℕ) → k < length xs → get_or xs k d ≡ get_or xs k e
 default_other [] k d e h = absurd (omega arith)

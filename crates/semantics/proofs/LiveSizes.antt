@@ -1,12 +1,11 @@
 -- The reachable objects take no more cells than all objects together.
-use Rattle.std.specs.Prelude.{slice_set, ◌≡◌, ℕ, zero, suc, ◌+◌, ◌<◌, ◌≤◌, Bool, List, [], ◌∷◌, ◌++◌, length, filter, sum_by, slice_get, take, drop, Some, refl}
+use Rattle.std.specs.Prelude.{◌≡◌, ℕ, zero, suc, ◌+◌, ◌<◌, ◌≤◌, Bool, List, [], ◌∷◌, ◌++◌, length, filter, sum_by, slice_get, take, Some, refl}
 use Rattle.std.proofs.Common.{◌∙◌, ap, arith}
 use Rattle.std.proofs.lemmas.Bool.{cond_both}
-use lib.ListN.{length-set}
 use Rattle.std.proofs.lemmas.List.Sums.{sum_by-cons, sum_by-append}
 use Rattle.std.proofs.lemmas.List.{take_all}
-use Rattle.semantics.specs.Heap.{Heap, object_at, class_of, values_of, with_value_at}
-use Rattle.semantics.specs.Object.{Object, ObjectValue, size, sizes}
+use Rattle.semantics.specs.Heap.{Heap}
+use Rattle.semantics.specs.Object.{Object, size, sizes}
 use Rattle.semantics.specs.Reachable.{from_one, is_in, roots, reachable, live_size, size_at}
 use Rattle.semantics.specs.State.{State}
 use Rattle.semantics.specs.World.{World}
@@ -54,28 +53,3 @@ live_within w s =
     let some = sum-filter (size_at heap) r.0 (from_one (length heap)) in
     let same = ap (sum_by (size_at heap)) r.1 in
     omega (arith, some, same, all_sizes heap)
-
--- ---- a heap that changes
-
--- the first objects and the others
-pub sizes_split : (heap : Heap) (n : ℕ) → sizes heap ≡ sizes (take n heap) + sizes (drop n heap)
-sizes_split heap zero = omega arith
-sizes_split [] (suc n) = omega arith
-sizes_split (o ∷ heap) (suc n) = omega (arith, sizes_split heap n, sum_by-cons size o heap, sum_by-cons size o (take n heap))
-
--- another object of the same size
-same_sizes : (heap : Heap) (i : ℕ) (old new : Object) → slice_get heap i ≡ Some old → size new ≡ size old → sizes (slice_set heap i new) ≡ sizes heap
-same_sizes [] i old new at same = absurd (cc)
-same_sizes (o ∷ heap) zero old new at same =
-    let here : size o ≡ size old = ap size (let e : o ≡ old = cc in e) in
-    omega (arith, same, here, sum_by-cons size o heap, sum_by-cons size new heap)
-same_sizes (o ∷ heap) (suc i) old new at same = omega (arith, same_sizes heap i old new at same, sum_by-cons size o heap, sum_by-cons size o (slice_set heap i new))
-
--- another value in an object that is there
-pub written_sizes : (heap : Heap) (n i : ℕ) (v : ObjectValue) (o : Object) → object_at heap n ≡ Some o → sizes (with_value_at heap n i v) ≡ sizes heap
-written_sizes heap zero i v o at = absurd (cc)
-written_sizes heap (suc n) i v o at =
-    let new : Object = record { class = class_of heap (suc n); values = slice_set (values_of heap (suc n)) i v } in
-    let held : values_of heap (suc n) ≡ o.values = rw at refl in
-    let same : size new ≡ size o = ap (λ (l : ℕ). 3 + l) (length-set (values_of heap (suc n)) i v ∙ ap (λ (vs : List ObjectValue). length vs) held) in
-    same_sizes heap n o new at same

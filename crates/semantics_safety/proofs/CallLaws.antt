@@ -1,5 +1,5 @@
 -- The step of each call of the JNI keeps what holds of its thread, and so does each step within a call.
-use Rattle.std.proofs.Common.{◌≡◌, ◌⊎◌, inl, inr, refl, ℕ, Bool, true, false, List, ◌∷◌, Some, sym, subst, length}
+use Rattle.std.proofs.Common.{◌≡◌, refl, ℕ, Bool, true, false, List, ◌∷◌, Some, sym, subst, length}
 use Rattle.class_rules.specs.Class.{Classes}
 use Rattle.syntax.specs.Tree.{SourceUnit}
 use Rattle.jni.specs.JniFunction.{JniFunction, DeleteLocalRef, PushLocalFrame, PopLocalFrame, GetBuffer, ReleaseBuffer, CallStaticVoidMethod, CallStaticIntMethod, CallStaticObjectMethod, calls_method}
@@ -55,19 +55,6 @@ module _ (unit : SourceUnit) (classes : Classes) (in_use : BuffersInUse) (k : �
 abbrev pub IsNoReturn : Effect → Type 0
 IsNoReturn (Returns given) = ⊥
 IsNoReturn e = Unit {0}
-
--- an effect returns or doesn't
-pub returns_or_not : (e : Effect) → ((given : CallResult) × (e ≡ Returns given)) ⊎ IsNoReturn e
-returns_or_not (Returns given) = inl (given, refl)
-returns_or_not (Becomes tasks) = inr tt
-returns_or_not (Sets x v) = inr tt
-returns_or_not (SetsNull target) = inr tt
-returns_or_not (SetsElement x i z) = inr tt
-returns_or_not (MakesArray u x n) = inr tt
-returns_or_not (Prints z) = inr tt
-returns_or_not (Calls line target f args) = inr tt
-returns_or_not (TrapsAt trap line) = inr tt
-returns_or_not NoEffect = inr tt
 
 -- an effect that neither returns nor calls a method
 abbrev pub IsWithin : Effect → Type 0

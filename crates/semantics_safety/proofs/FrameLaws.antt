@@ -26,10 +26,6 @@ turned m n = grind (arith, nat_tests)
 
 -- ---- a frame more or less
 
-pub local_length : (n : ℕ) (frames : List Frame) → length (with_local n frames) ≡ length frames
-local_length n [] = refl
-local_length n (frame ∷ below) = refl
-
 -- a frame with one reference more
 abbrev pub with_reference : ℕ → Frame → Frame
 with_reference n frame = record frame { references = n ∷ frame.references }

@@ -1,5 +1,5 @@
 -- Values by name: one name set, changed or added, and the others as they were.
-use Rattle.std.proofs.Common.{◌≡◌, ◌≢◌, Bool, true, false, ◌⊎◌, inl, inr, [], ◌∷◌, map, Option, Some, None, refl, sym, ap, ◌∙◌, subst, if◌then◌else◌}
+use Rattle.std.proofs.Common.{◌≡◌, ◌≢◌, Bool, true, false, ◌⊎◌, inl, inr, [], ◌∷◌, map, Option, Some, refl, sym, ap, ◌∙◌, subst, if◌then◌else◌}
 use Rattle.std.specs.Option.{option_map}
 use Rattle.std.specs.Str.{bytes_eq}
 use Rattle.std.proofs.lemmas.Slice.Eq.{bytes_eq-Decides}
@@ -47,9 +47,6 @@ lookup_other {A = A} x y v ((z, w) ∷ rest) h = by_test (bytes_eq x z) refl (lo
     by_test : (b : Bool) → bytes_eq x z ≡ b → lookup y (assign x v rest) ≡ lookup y rest → lookup y (if b then (x, v) ∷ rest else (z, w) ∷ assign x v rest) ≡ lookup y ((z, w) ∷ rest)
     by_test true e later = front_other x y v rest h ∙ sym (ap (λ (b : Bool). if b then Some w else lookup y rest) (not_first e))
     by_test false e later = ap (λ (o : Option A). if bytes_eq y z then Some w else o) later
-
-pub once_set : {A : Type 0} (x : Identifier) (v : A) (vs : ByName A) → (y : Identifier) → y ≢ x → lookup y vs ≡ None → lookup y (assign x v vs) ≡ None
-once_set x v vs y h e = lookup_other x y v vs h ∙ e
 
 -- ---- what is known
 

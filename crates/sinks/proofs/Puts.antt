@@ -48,16 +48,6 @@ stops old now next text rest piece more s e p = record {
   failures = p.failures ∙ ap (λ (n : ℕ). n + 1) s.put.failures;
 }
 
--- nothing of what is left was put
-pub stops_here : (old now next : Written) (text rest : List ℕ) → PutSoFar old now text rest → Keeps now.bytes next.bytes → next.failures ≡ now.failures + 1 → StopsWithin old next text
-stops_here old now next text rest s k f = record {
-  part = s.part;
-  rest = rest;
-  whole = s.whole;
-  bytes = Appends-kept old.bytes now.bytes next.bytes s.part s.put.bytes k;
-  failures = f ∙ ap (λ (n : ℕ). n + 1) s.put.failures;
-}
-
 -- the texts of the elements from a place on
 pub flat_map-at : {X : Type 0} (f : X → List ℕ) (xs : List X) (i : ℕ) (d : X) → i < length xs → flat_map f (drop i xs) ≡ f (get_or xs i d) ++ flat_map f (drop (i + 1) xs)
 flat_map-at f xs i d h = at_drop_more (flat_map f) xs i d h ∙ flat_map-cons f (get_or xs i d) (drop (i + 1) xs)

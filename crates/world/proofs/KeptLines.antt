@@ -1,5 +1,5 @@
 -- What is known of a line that keeps the rules, and of lines that keep them one after another.
-use Rattle.std.proofs.Common.{◌≡◌, ℕ, ◌<◌, ◌≤◌, Bool, true, false, cond, List, [], ◌∷◌, ◌++◌, length, map, refl, sym, ap, ◌∙◌, subst, append_assoc, append-nil}
+use Rattle.std.proofs.Common.{◌≡◌, ℕ, ◌<◌, ◌≤◌, Bool, true, false, cond, List, [], ◌∷◌, ◌++◌, length, map, refl, sym, ap, ◌∙◌}
 use Rattle.std.specs.Prelude.{not, ◌&&◌, ◌||◌, nat_lt, nat_le, filter}
 use Rattle.std.specs.List.{list_all}
 use Rattle.std.proofs.lemmas.Bool.{and_parts, or_parts, not-false, lt-ltb, leb-true, ltb-false}
@@ -104,11 +104,3 @@ each_keeps cells earlier rest line h = map_none (λ rule. (line.0, rule)) (broke
 -- the other way
 pub none_breaks : (cells : ℕ) (earlier rest : Lines) (line : ℕ × WorldLine) → broken_by_line cells earlier line ≡ [] → broken_after cells (earlier ++ line ∷ []) rest ≡ [] → broken_after cells earlier (line ∷ rest) ≡ []
 none_breaks cells earlier rest line h k = ap (λ broken. map (λ rule. (line.0, rule)) broken ++ broken_after cells (earlier ++ line ∷ []) rest) h ∙ k
-
--- what each line keeps that keeps the rules, all lines keep
-pub all_keep : (cells : ℕ) (P : Lines → Type 0) → ((earlier : Lines) (n : ℕ) (line : WorldLine) → P earlier → IsKept cells earlier (n, line) → P (earlier ++ (n, line) ∷ [])) → (earlier rest : Lines) → P earlier → broken_after cells earlier rest ≡ []
-    → P (earlier ++ rest)
-all_keep cells P step earlier [] p h = subst P (sym (append-nil earlier)) p
-all_keep cells P step earlier ((n, line) ∷ rest) p h =
-    let k = each_keeps cells earlier rest (n, line) h in
-    subst P (append_assoc earlier ((n, line) ∷ []) rest) (all_keep cells P step (earlier ++ (n, line) ∷ []) rest (step earlier n line p (kept_line cells earlier n line k.0)) k.1)

@@ -1,5 +1,5 @@
 -- The first place at which a test passes.
-use Rattle.std.proofs.Common.{◌≡◌, ℕ, suc, ◌+◌, ◌<◌, Bool, true, false, cond, List, [], ◌∷◌, ◌++◌, length, map, Option, Some, None, refl, sym, ap, ◌∙◌, arith}
+use Rattle.std.proofs.Common.{◌≡◌, ℕ, suc, ◌+◌, ◌<◌, Bool, true, false, cond, List, [], ◌∷◌, ◌++◌, length, Option, Some, None, refl, sym, ap, ◌∙◌, arith}
 use Rattle.std.specs.Prelude.{not, nat_lt, position}
 use Rattle.std.specs.Option.{option_map}
 use Rattle.std.specs.List.{position_or_len}
@@ -30,10 +30,6 @@ placed false k n o h = ap (λ b. cond b (Some (1 + k)) None) (less_suc k n) ∙ 
 pub position-found : {X : Type 0} (p : X → Bool) (xs : List X) → position p xs ≡ found p xs
 position-found p [] = refl
 position-found p (x ∷ xs) = placed (p x) (position_or_len p xs) (length xs) (found p xs) (position-found p xs)
-
-pub found-map : {X Y : Type 0} (p : Y → Bool) (f : X → Y) (xs : List X) → found p (map f xs) ≡ found (λ x. p (f x)) xs
-found-map p f [] = refl
-found-map p f (x ∷ xs) = ap (λ o. cond (p (f x)) (Some 0) (option_map (λ (i : ℕ). suc i) o)) (found-map p f xs)
 
 pub found_below : {X : Type 0} (p : X → Bool) (xs : List X) (i : ℕ) → found p xs ≡ Some i → i < length xs
 found_below p [] i h = absurd (cc)

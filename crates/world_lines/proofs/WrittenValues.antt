@@ -126,12 +126,6 @@ value_in_jint t NullValue h = refl
 value_in_jint t (NamedObject x) h = refl
 value_in_jint t (NamedClass x) h = refl
 
-pub values_in_jint : (t : ElementType) (vs : List WorldValue) → list_all (value_in_range t) vs ≡ true → list_all (value_in_range JInt) vs ≡ true
-values_in_jint t [] h = refl
-values_in_jint t (v ∷ vs) h =
-    let b = and_parts (value_in_range t v) (list_all (value_in_range t) vs) h in
-    and_from (value_in_range JInt v) (list_all (value_in_range JInt) vs) (value_in_jint t v b.0) (values_in_jint t vs b.1)
-
 -- ---- the letter of a type
 
 pub element_written : (word : List ℕ) (t : ElementType) → element_named word ≡ Some t → word ≡ element_letter t

@@ -15,10 +15,6 @@ regroup : {W : Type 0} (front first : List W) (read : Result (List W) TextFault)
 regroup front first (Ok others) = ap Ok (sym (append_assoc front first others))
 regroup front first (Err e) = refl
 
-pub after_nothing : {W : Type 0} (read : Result (List W) TextFault) → after_lines [] read ≡ read
-after_nothing (Ok words) = refl
-after_nothing (Err e) = refl
-
 module _ {W : Type 0} (spelled : List ℕ → Option W) (known : W → Bool) (times apart : W → ℕ) (number count others : ℕ) (line : List ℕ) (left rest : List (List ℕ)) (words : List W) (all : Result (List W) TextFault) (first_is : left ≡ line ∷ rest)
     (so_far : after_lines words (lines_words spelled known times apart number count others left) ≡ all) where
   -- the next line has these words
