@@ -2,7 +2,7 @@
 use Rattle.std.proofs.Common.{◌≡◌, Option, Some, None, refl, ap, ◌∙◌}
 use Rattle.std.specs.Option.{option_map}
 use Rattle.base.specs.Bytes.{Identifier}
-use Rattle.syntax.specs.declared.expr_ref.NullTest.{NullTest as InMemory}
+use Rattle.syntax.specs.declared.null_test.NullTest.{NullTest as InMemory}
 use Rattle.syntax.specs.NullTests.{NullTest, null_test_of, null_test_value}
 use Rattle.syntax.specs.Parts.{null_tested}
 use Rattle.syntax.specs.Tree.{Expr, Named, Null, Variable, Binary, Equal, NotEqual}

@@ -1,6 +1,9 @@
 pub mod Tree
 pub mod Parts
 pub mod Limits
+pub mod Operators
+pub mod Nodes
 pub mod Views
 pub mod NullTests
 pub mod Shapes
+pub mod Stacks

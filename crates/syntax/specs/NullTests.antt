@@ -1,7 +1,7 @@
 -- Comparisons of a bare name with NULL.
 use Rattle.std.specs.Prelude.{Bool, true, false, Option, Some, None}
 use Rattle.base.specs.Bytes.{Identifier}
-use Rattle.syntax.specs.declared.expr_ref.NullTest.{NullTest as InMemory}
+use Rattle.syntax.specs.declared.null_test.NullTest.{NullTest as InMemory}
 use Rattle.syntax.specs.Tree.{Expr, Named, Null, Variable, Binary, Equal, NotEqual}
 
 -- `x == NULL`, or `x != NULL` where it isn't by `==`

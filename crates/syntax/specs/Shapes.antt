@@ -5,11 +5,12 @@ use Rattle.syntax.specs.declared.expr_ref.Shape.{Shape}
 use Rattle.syntax.specs.declared.expr_ref.Shape.TheVariants as shape
 use Rattle.syntax.specs.Limits.{size}
 use Rattle.syntax.specs.Tree.{Expr, Number, Named, Variable, Element, Prefix, Binary, Paren}
-use Rattle.syntax.specs.Views.{constant_tree, prefix_tree, binary_tree, expr_tree}
+use Rattle.syntax.specs.Nodes.{tree_of}
+use Rattle.syntax.specs.Operators.{constant_tree, prefix_tree, binary_tree}
 
 -- the tree of a part of an expression
 unfoldable pub ref_tree : ExprRef → Expr
-ref_tree r = expr_tree r.expr.now
+ref_tree r = tree_of r.nodes.now
 
 -- what is at the top, over what is inside
 abbrev pub shape_tree : Shape → Expr

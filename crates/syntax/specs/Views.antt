@@ -2,13 +2,6 @@
 use Rattle.std.specs.Prelude.{ℕ, List, map, Option, Some, None}
 use Rattle.base.specs.Element.{element_value}
 use Rattle.syntax.specs.declared.expr.Expr.{Expr as ExprInMemory}
-use Rattle.syntax.specs.declared.expr.Expr.TheVariants as expr
-use Rattle.syntax.specs.declared.expr.Constant.{Constant as ConstantInMemory}
-use Rattle.syntax.specs.declared.expr.Constant.TheVariants as constant
-use Rattle.syntax.specs.declared.expr.PrefixOp.{PrefixOp as PrefixInMemory}
-use Rattle.syntax.specs.declared.expr.PrefixOp.TheVariants as prefix
-use Rattle.syntax.specs.declared.expr.BinaryOp.{BinaryOp as BinaryInMemory}
-use Rattle.syntax.specs.declared.expr.BinaryOp.TheVariants as binary
 use Rattle.syntax.specs.declared.call.Call.{Call as CallInMemory}
 use Rattle.syntax.specs.declared.call.Argument.{Argument as ArgumentInMemory}
 use Rattle.syntax.specs.declared.call.Argument.TheVariants as argument
@@ -35,49 +28,13 @@ use Rattle.syntax.specs.declared.unit.Function.{Function as FunctionInMemory}
 use Rattle.syntax.specs.declared.unit.Static.{Static as StaticInMemory}
 use Rattle.syntax.specs.declared.unit.Item.{Item as ItemInMemory}
 use Rattle.syntax.specs.declared.unit.Item.TheVariants as item
-use Rattle.syntax.specs.Tree.{PrefixOp, LogicalNot, Complement, ToWord, ToInt, BinaryOp, LogicalOr, LogicalAnd, BitOr, BitXor, BitAnd, Equal, NotEqual, Less, LessEqual, Greater, GreaterEqual, ShiftLeft, ShiftRight, Add, Subtract, Multiply, Divide, Remainder, Constant, True, False, Commit, Abort, Null, ReferenceType, JObject, JClass, JString, JArray, JThrowable, JIntArray, JShortArray, JByteArray, JCharArray, JObjectArray, ParameterType, IntParameter, ReferenceParameter, StaticType, ReferenceStatic, WeakStatic, VariableType, UInt32, JIntVariable, JSize, JBoolean, JFieldId, JMethodId, ReferenceVariable, Expr, Number, Named, Variable, Element, Prefix, Binary, Paren, Argument, Value, Text, AddressOf, Call, RightSide, FromExpr, FromCall, Test, TestExpr, TestCall, Stmt, Declare, DeclareBuffer, DeclareChars, DeclareArray, Assign, AssignElement, Perform, PutJint, If, IfElse, While, Return, ReturnValue, Block, End, Next, ResultType, Void, IntResult, ReferenceResult, Parameter, Function, Static, Item, StaticItem, FunctionItem, SourceUnit}
+pub use Rattle.syntax.specs.Operators.{prefix_tree, binary_tree, constant_tree}
+use Rattle.syntax.specs.Nodes.{held_nodes, tree_of}
+use Rattle.syntax.specs.Tree.{ReferenceType, JObject, JClass, JString, JArray, JThrowable, JIntArray, JShortArray, JByteArray, JCharArray, JObjectArray, ParameterType, IntParameter, ReferenceParameter, StaticType, ReferenceStatic, WeakStatic, VariableType, UInt32, JIntVariable, JSize, JBoolean, JFieldId, JMethodId, ReferenceVariable, Expr, Argument, Value, Text, AddressOf, Call, RightSide, FromExpr, FromCall, Test, TestExpr, TestCall, Stmt, Declare, DeclareBuffer, DeclareChars, DeclareArray, Assign, AssignElement, Perform, PutJint, If, IfElse, While, Return, ReturnValue, Block, End, Next, ResultType, Void, IntResult, ReferenceResult, Parameter, Function, Static, Item, StaticItem, FunctionItem, SourceUnit}
 
-abbrev pub prefix_tree : PrefixInMemory → PrefixOp
-prefix_tree prefix.LogicalNot = LogicalNot
-prefix_tree prefix.Complement = Complement
-prefix_tree prefix.ToWord = ToWord
-prefix_tree prefix.ToInt = ToInt
-
-abbrev pub binary_tree : BinaryInMemory → BinaryOp
-binary_tree binary.LogicalOr = LogicalOr
-binary_tree binary.LogicalAnd = LogicalAnd
-binary_tree binary.BitOr = BitOr
-binary_tree binary.BitXor = BitXor
-binary_tree binary.BitAnd = BitAnd
-binary_tree binary.Equal = Equal
-binary_tree binary.NotEqual = NotEqual
-binary_tree binary.Less = Less
-binary_tree binary.LessEqual = LessEqual
-binary_tree binary.Greater = Greater
-binary_tree binary.GreaterEqual = GreaterEqual
-binary_tree binary.ShiftLeft = ShiftLeft
-binary_tree binary.ShiftRight = ShiftRight
-binary_tree binary.Add = Add
-binary_tree binary.Subtract = Subtract
-binary_tree binary.Multiply = Multiply
-binary_tree binary.Divide = Divide
-binary_tree binary.Remainder = Remainder
-
-abbrev pub constant_tree : ConstantInMemory → Constant
-constant_tree constant.True = True
-constant_tree constant.False = False
-constant_tree constant.Commit = Commit
-constant_tree constant.Abort = Abort
-constant_tree constant.Null = Null
-
-abbrev pub expr_tree : ExprInMemory → Expr
-expr_tree (expr.Number value unsigned) = Number value unsigned
-expr_tree (expr.Named c) = Named (constant_tree c)
-expr_tree (expr.Variable x) = Variable x
-expr_tree (expr.Element' x p i) = Element x (expr_tree i)
-expr_tree (expr.Prefix' op p a) = Prefix (prefix_tree op) (expr_tree a)
-expr_tree (expr.Binary' op p a b) = Binary (binary_tree op) (expr_tree a) (expr_tree b)
-expr_tree (expr.Paren' p a) = Paren (expr_tree a)
+-- the tree that the nodes of an expression spell
+unfoldable pub expr_tree : ExprInMemory → Expr
+expr_tree e = tree_of (held_nodes e.held)
 
 abbrev pub argument_tree : ArgumentInMemory → Argument
 argument_tree (argument.Value e) = Value (expr_tree e)

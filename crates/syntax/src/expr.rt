@@ -1,23 +1,14 @@
 //! Expressions.
 
-use crate::name::Name;
+ghost use Rattle.syntax.specs.Nodes.{IsWhole, held_nodes};
 
-/// An expression (ISO/IEC 9899:1999, 6.5).
+use crate::node::Held;
+
+/// An expression (ISO/IEC 9899:1999, 6.5): its nodes in postfix order, each after its operands.
 #[derive(Drop)]
-pub enum Expr {
-    /// A number, and whether it ends in `u`.
-    Number { value: u32, unsigned: bool },
-    /// A named constant.
-    Named(Constant),
-    /// A name.
-    Variable(Name),
-    /// An element of a named array or buffer, `x[e]`.
-    Element(Name, Box<Expr>),
-    Prefix(PrefixOp, Box<Expr>),
-    /// The operands lie together.
-    Binary(BinaryOp, Box<(Expr, Expr)>),
-    /// Parentheses, which are kept.
-    Paren(Box<Expr>),
+pub struct Expr {
+    pub(crate) held: Held,
+    ghost whole: { ∥ IsWhole (held_nodes held) ∥₁ },
 }
 
 /// A constant with a name (JNI Specification, chapters 3 and 4; ISO/IEC 9899:1999, 7.17).

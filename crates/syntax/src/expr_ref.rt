@@ -1,21 +1,18 @@
 //! An expression as the passes see it: one level at a time, with what is inside it at hand.
 
-ghost use Rattle.std.specs.Prelude.{◌≡◌, true, false};
-ghost use Rattle.std.specs.Option.{option_map};
-ghost use Rattle.syntax.specs.Limits.{size};
-ghost use Rattle.syntax.specs.NullTests.{null_test_of, null_test_value};
-ghost use Rattle.syntax.specs.Parts.{null_tested};
-ghost use Rattle.syntax.specs.Shapes.{ref_tree, shape_tree, PartsBelow};
-ghost use Rattle.syntax.specs.Tree.{Binary, Equal, NotEqual};
-ghost use Rattle.syntax.specs.Views.{binary_tree, expr_tree};
+ghost use Rattle.syntax.specs.Nodes.{IsWhole};
 
 use crate::expr::{BinaryOp, Constant, Expr, PrefixOp};
 use crate::name::Name;
+use crate::node::{Held, Node};
+use std::slice;
 
 /// A part of an expression, or all of it. It is passed by value.
 #[derive(Clone, Copy)]
 pub struct ExprRef<'a> {
-    expr: &'a Expr,
+    /// Its nodes in postfix order, the top one last.
+    nodes: &'a [Node],
+    ghost whole: { ∥ IsWhole nodes.now ∥₁ },
 }
 
 /// What an expression is at its top, with what is inside it.
@@ -37,66 +34,31 @@ pub enum Shape<'a> {
     Paren(ExprRef<'a>),
 }
 
-/// A comparison of a bare name with NULL.
-#[derive(Clone, Copy)]
-pub struct NullTest<'a> {
-    pub name: &'a Name,
-    /// Whether by `==`, else by `!=`.
-    pub equal: bool,
-}
-
-/// The comparison of these operands, where a bare name is on the left and NULL on the right.
-fn with_null<'a>(left: ExprRef<'a>, right: ExprRef<'_>, equal: bool) -> Option<NullTest<'a>>
-    ensures equal { equal ≡ true → option_map null_test_value result ≡ null_test_of (Binary Equal (ref_tree left.entry) (ref_tree right.entry)) }
-    ensures unequal { equal ≡ false → option_map null_test_value result ≡ null_test_of (Binary NotEqual (ref_tree left.entry) (ref_tree right.entry)) }
-{
-    match left.shape() {
-        Shape::Variable(name) => match right.shape() {
-            Shape::Named(Constant::Null) => Some(NullTest { name, equal }),
-            _ => None,
-        },
-        _ => None,
-    }
-}
-
-/// The test of a name against NULL that this operator makes of its operands, if it makes one.
-fn comparison<'a>(op: BinaryOp, left: ExprRef<'a>, right: ExprRef<'_>) -> Option<NullTest<'a>>
-    ensures { option_map null_test_value result ≡ null_test_of (Binary (binary_tree op) (ref_tree left.entry) (ref_tree right.entry)) }
-{
-    match op {
-        BinaryOp::Equal => with_null(left, right, true),
-        BinaryOp::NotEqual => with_null(left, right, false),
-        BinaryOp::LogicalOr
-        | BinaryOp::LogicalAnd
-        | BinaryOp::BitOr
-        | BinaryOp::BitXor
-        | BinaryOp::BitAnd
-        | BinaryOp::Less
-        | BinaryOp::LessEqual
-        | BinaryOp::Greater
-        | BinaryOp::GreaterEqual
-        | BinaryOp::ShiftLeft
-        | BinaryOp::ShiftRight
-        | BinaryOp::Add
-        | BinaryOp::Subtract
-        | BinaryOp::Multiply
-        | BinaryOp::Divide
-        | BinaryOp::Remainder => None,
-    }
-}
-
 impl Expr {
+    ghost use Rattle.std.specs.Prelude.{◌≡◌};
+    ghost use Rattle.syntax.specs.Shapes.{ref_tree};
+    ghost use Rattle.syntax.specs.Views.{expr_tree};
+
     /// All of it, to be looked at.
     #[inline(always)]
-    #[tactic(auto, unfolding(crate::specs::Shapes::ref_tree))]
+    #[tactic(auto, unfolding(crate::specs::Shapes::ref_tree, crate::specs::Views::expr_tree))]
     pub fn whole(&self) -> ExprRef<'_>
         ensures { ref_tree result ≡ expr_tree self.now }
     {
-        ExprRef { expr: self }
+        match &self.held {
+            Held::One(node) => ExprRef {
+                nodes: slice::from_ref(node),
+            },
+            Held::Many(nodes) => ExprRef { nodes },
+        }
     }
 }
 
 impl<'a> ExprRef<'a> {
+    ghost use Rattle.std.specs.Prelude.{◌≡◌};
+    ghost use Rattle.syntax.specs.Limits.{size};
+    ghost use Rattle.syntax.specs.Shapes.{ref_tree, shape_tree, PartsBelow};
+
     /// What it is at its top.
     #[inline(always)]
     #[tactic(auto, unfolding(crate::specs::Shapes::ref_tree, crate::specs::Limits::size))]
@@ -104,37 +66,21 @@ impl<'a> ExprRef<'a> {
         ensures tree { shape_tree result ≡ ref_tree self.entry }
         ensures below { PartsBelow (size (ref_tree self.entry)) result }
     {
-        match self.expr {
-            Expr::Number { value, unsigned } => Shape::Number {
+        let (before, top) = self.nodes.split_at(self.nodes.len() - 1);
+        match &top[0] {
+            Node::Number { value, unsigned } => Shape::Number {
                 value: *value,
                 unsigned: *unsigned,
             },
-            Expr::Named(constant) => Shape::Named(*constant),
-            Expr::Variable(name) => Shape::Variable(name),
-            Expr::Element(name, index) => Shape::Element(name, index.whole()),
-            Expr::Prefix(op, operand) => Shape::Prefix(*op, operand.whole()),
-            Expr::Binary(op, operands) => {
-                let (left, right) = &**operands;
-                Shape::Binary(*op, left.whole(), right.whole())
+            Node::Named(constant) => Shape::Named(*constant),
+            Node::Variable(name) => Shape::Variable(name),
+            Node::Element(name) => Shape::Element(name, ExprRef { nodes: before }),
+            Node::Prefix(op) => Shape::Prefix(*op, ExprRef { nodes: before }),
+            Node::Binary { op, right } => {
+                let (left, right) = before.split_at(before.len() - *right);
+                Shape::Binary(*op, ExprRef { nodes: left }, ExprRef { nodes: right })
             }
-            Expr::Paren(inside) => Shape::Paren(inside.whole()),
-        }
-    }
-
-    /// The comparison of a bare name with NULL that this is as a whole: `x == NULL` or `x != NULL`.
-    #[tactic(auto, using(crate::proofs::NullTests::name_tested))]
-    pub fn null_test(self) -> Option<NullTest<'a>>
-        ensures test { option_map null_test_value result ≡ null_test_of (ref_tree self.entry) }
-        ensures name { option_map (λ t. t.name.now) result ≡ null_tested (ref_tree self.entry) }
-    {
-        match self.shape() {
-            Shape::Binary(op, left, right) => comparison(op, left, right),
-            Shape::Number { .. } => None,
-            Shape::Named(_) => None,
-            Shape::Variable(_) => None,
-            Shape::Element(..) => None,
-            Shape::Prefix(..) => None,
-            Shape::Paren(_) => None,
+            Node::Paren => Shape::Paren(ExprRef { nodes: before }),
         }
     }
 }
