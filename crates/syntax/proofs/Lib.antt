@@ -1,2 +1,3 @@
 pub mod Blocks
 pub mod NullTests
+pub mod NodeLemmas

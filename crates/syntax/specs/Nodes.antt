@@ -1,5 +1,5 @@
 -- How the nodes of expressions lie in memory, and which trees they spell.
-use Rattle.std.specs.Prelude.{◌≡◌, ℕ, Bool, true, List, [], ◌∷◌, ◌++◌, length}
+use Rattle.std.specs.Prelude.{◌≡◌, ℕ, Bool, true, List, [], ◌∷◌, ◌++◌, length, ◌≤◌}
 use Rattle.base.specs.Bytes.{Identifier}
 use Rattle.syntax.specs.declared.node.Node.{Node}
 use Rattle.syntax.specs.declared.node.Node.TheVariants as node
@@ -8,6 +8,7 @@ use Rattle.syntax.specs.declared.node.Held.TheVariants as held
 use Rattle.syntax.specs.declared.expr.Constant.{Constant as ConstantInMemory}
 use Rattle.syntax.specs.declared.expr.PrefixOp.{PrefixOp as PrefixInMemory}
 use Rattle.syntax.specs.declared.expr.BinaryOp.{BinaryOp as BinaryInMemory}
+use Rattle.syntax.specs.Limits.{size}
 use Rattle.syntax.specs.Operators.{constant_tree, prefix_tree, binary_tree}
 use Rattle.syntax.specs.Tree.{Expr, Number, Named, Variable, Element, Prefix, Binary, Paren}
 
@@ -43,6 +44,14 @@ onto before (node.Element x) = on_top (Element x) before
 onto before (node.Prefix op) = on_top (Prefix (prefix_tree op)) before
 onto before (node.Binary op right) = on_two (Binary (binary_tree op)) before
 onto before node.Paren = on_top Paren before
+
+-- whether the trees so far are what a node needs: its operands, the right one with as many nodes as it says
+abbrev pub HasOperands : List Expr → Node → Type 0
+HasOperands before (node.Element x) = 1 ≤ length before
+HasOperands before (node.Prefix op) = 1 ≤ length before
+HasOperands before (node.Binary op right) = (2 ≤ length before) × (right ≡ size (top before))
+HasOperands before node.Paren = 1 ≤ length before
+HasOperands before n = Unit {0}
 
 -- the trees after more nodes
 unfoldable pub trees_after : List Expr → List Node → List Expr

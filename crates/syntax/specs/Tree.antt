@@ -10,6 +10,7 @@ pub data ReferenceType : Type 0 where
 -- the named constants
 pub data Constant : Type 0 where
   True False Commit Abort Null : Constant
+  deriving IsSet as Constant-set
 
 -- what a function returns
 pub data ResultType : Type 0 where
@@ -35,11 +36,13 @@ pub data StaticType : Type 0 where
 -- the operators in front of an operand, and the casts
 pub data PrefixOp : Type 0 where
   LogicalNot Complement ToWord ToInt : PrefixOp
+  deriving IsSet as PrefixOp-set
 
 -- the operators between two operands
 pub data BinaryOp : Type 0 where
   LogicalOr LogicalAnd BitOr BitXor BitAnd Equal NotEqual Less LessEqual Greater GreaterEqual : BinaryOp
   ShiftLeft ShiftRight Add Subtract Multiply Divide Remainder : BinaryOp
+  deriving IsSet as BinaryOp-set
 
 -- an expression; parentheses are kept
 pub data Expr : Type 0 where
@@ -50,6 +53,7 @@ pub data Expr : Type 0 where
   Prefix : PrefixOp → Expr → Expr
   Binary : BinaryOp → Expr → Expr → Expr
   Paren : Expr → Expr
+  deriving IsSet as Expr-set
 
 -- an argument of a call, after `env`
 pub data Argument : Type 0 where

@@ -19,7 +19,7 @@ impl ExprStack {
     ghost use Rattle.std.specs.Prelude.{◌≡◌, ◌≤◌, ◌<◌, [], ◌∷◌, length, IfOk, OnOk};
     ghost use Rattle.std.specs.List.{sum_by};
     ghost use Rattle.syntax.specs.Limits.{size};
-    ghost use Rattle.syntax.specs.Nodes.{top, before_top, on_top, on_two};
+    ghost use Rattle.syntax.specs.Nodes.{top, before_top, on_top, on_two, onto, HasOperands};
     ghost use Rattle.syntax.specs.Operators.{constant_tree, prefix_tree, binary_tree};
     ghost use Rattle.syntax.specs.Stacks.{stacked};
     ghost use Rattle.syntax.specs.Tree.{Number, Named, Variable, Element, Prefix, Binary, Paren};
@@ -47,28 +47,35 @@ impl ExprStack {
         self.nodes.len()
     }
 
+    /// Adds a node after its operands.
+    #[inline(always)]
+    fn add(&mut self, node: Node) -> Result<(), AllocError>
+        requires { HasOperands (stacked self.old) node }
+        ensures { OnOk result (stacked self.new ≡ onto (stacked self.old) node) }
+    {
+        self.nodes.push(node)?;
+        Ok(())
+    }
+
     /// Adds a number, and whether it ends in `u`.
     pub fn number(&mut self, value: u32, unsigned: bool) -> Result<(), AllocError>
         ensures { OnOk result (stacked self.new ≡ Number value unsigned ∷ stacked self.old) }
     {
-        self.nodes.push(Node::Number { value, unsigned })?;
-        Ok(())
+        self.add(Node::Number { value, unsigned })
     }
 
     /// Adds a named constant.
     pub fn named(&mut self, constant: Constant) -> Result<(), AllocError>
         ensures { OnOk result (stacked self.new ≡ Named (constant_tree constant) ∷ stacked self.old) }
     {
-        self.nodes.push(Node::Named(constant))?;
-        Ok(())
+        self.add(Node::Named(constant))
     }
 
     /// Adds a name.
     pub fn variable(&mut self, name: Name) -> Result<(), AllocError>
         ensures { OnOk result (stacked self.new ≡ Variable name ∷ stacked self.old) }
     {
-        self.nodes.push(Node::Variable(name))?;
-        Ok(())
+        self.add(Node::Variable(name))
     }
 
     /// Makes the last expression the index of an element of this name.
@@ -76,8 +83,7 @@ impl ExprStack {
         requires { 1 ≤ length (stacked self.old) }
         ensures { OnOk result (stacked self.new ≡ on_top (Element name) (stacked self.old)) }
     {
-        self.nodes.push(Node::Element(name))?;
-        Ok(())
+        self.add(Node::Element(name))
     }
 
     /// Puts an operator, or a cast, in front of the last expression.
@@ -85,8 +91,7 @@ impl ExprStack {
         requires { 1 ≤ length (stacked self.old) }
         ensures { OnOk result (stacked self.new ≡ on_top (Prefix (prefix_tree op)) (stacked self.old)) }
     {
-        self.nodes.push(Node::Prefix(op))?;
-        Ok(())
+        self.add(Node::Prefix(op))
     }
 
     /// Puts the last expression in parentheses.
@@ -94,8 +99,7 @@ impl ExprStack {
         requires { 1 ≤ length (stacked self.old) }
         ensures { OnOk result (stacked self.new ≡ on_top Paren (stacked self.old)) }
     {
-        self.nodes.push(Node::Paren)?;
-        Ok(())
+        self.add(Node::Paren)
     }
 
     /// Puts an operator between the last two expressions, of which the last begins with this node.
@@ -105,8 +109,7 @@ impl ExprStack {
         ensures { OnOk result (stacked self.new ≡ on_two (Binary (binary_tree op)) (stacked self.old)) }
     {
         let right = self.nodes.len() - start;
-        self.nodes.push(Node::Binary { op, right })?;
-        Ok(())
+        self.add(Node::Binary { op, right })
     }
 
     /// Takes the last expression, which begins with this node.
@@ -116,12 +119,17 @@ impl ExprStack {
         ensures expr { IfOk result (λ e. expr_tree e ≡ top (stacked self.old)) }
         ensures rest { OnOk result (stacked self.new ≡ before_top (stacked self.old)) }
     {
-        if self.nodes.len() - start == 1 {
-            if let Some(node) = self.nodes.pop() {
-                return Ok(Expr { held: Held::One(node) });
-            }
+        if self.nodes.len() - start > 1 {
+            let nodes = self.nodes.split_off(start)?;
+            return Ok(Expr {
+                held: Held::Many(nodes),
+            });
         }
-        let nodes = self.nodes.split_off(start)?;
-        Ok(Expr { held: Held::Many(nodes) })
+        match self.nodes.pop() {
+            Some(node) => Ok(Expr {
+                held: Held::One(node),
+            }),
+            None => unreachable!(),
+        }
     }
 }
