@@ -7,7 +7,7 @@ use Rattle.syntax.specs.Tree.{Constant, True, False, Null}
 use Rattle.syntax.specs.Parts.{null_tested}
 use Rattle.syntax.specs.Tree.{PrefixOp, LogicalNot, Complement, ToWord, ToInt, BinaryOp, LogicalOr, LogicalAnd, Equal, NotEqual, Less, LessEqual, Greater, GreaterEqual, Expr, Number, Named, Variable, Element, Prefix, Binary, Paren, Argument, Value, Text, AddressOf, Call}
 use Rattle.jni.specs.Access.{Access, ElementsCopy, ArrayView, CharsCopy, CharsView}
-use Rattle.jni.specs.JniFunction.{JniFunction, prototype, parameters_for}
+use Rattle.jni.specs.JniFunction.{JniFunction, parameters_for}
 use Rattle.jni.specs.Prototype.{ParameterKind, FieldID, IntNumber, TextBytes, IsCopy, Mode, AnyReference, LocalVariable, StaticVariable, WeakVariable, ArrayVariable, BufferVariable, MethodID, Passed}
 
 -- the type of a name or an expression: local references of all the JNI's types have one, statics another, and weak statics a third

@@ -1,6 +1,6 @@
 //! The name of a statement that a fault is about.
 
-use syntax::{Argument, Call, Expr, Form, Name, RightSide, Test};
+use syntax::{Argument, Call, ExprRef, Form, Name, RightSide, Shape, Test};
 
 /// A question about the names that a statement uses.
 pub trait Question {
@@ -17,25 +17,25 @@ fn one_name<'f, Q: Question>(name: &'f Name, has_index: bool, question: &Q) -> O
     }
 }
 
-fn first_in_expr<'f, Q: Question>(e: &'f Expr, question: &Q) -> Option<&'f Name> {
-    match e {
-        Expr::Number { .. } | Expr::Named(_) => None,
-        Expr::Variable(x) => one_name(x, false, question),
-        Expr::Element(x, i) => match one_name(x, true, question) {
+fn first_in_expr<'f, Q: Question>(e: ExprRef<'f>, question: &Q) -> Option<&'f Name> {
+    match e.shape() {
+        Shape::Number { .. } | Shape::Named(_) => None,
+        Shape::Variable(x) => one_name(x, false, question),
+        Shape::Element(x, i) => match one_name(x, true, question) {
             Some(x) => Some(x),
             None => first_in_expr(i, question),
         },
-        Expr::Prefix(_, a) | Expr::Paren(a) => first_in_expr(a, question),
-        Expr::Binary(_, operands) => match first_in_expr(&operands.0, question) {
+        Shape::Prefix(_, a) | Shape::Paren(a) => first_in_expr(a, question),
+        Shape::Binary(_, a, b) => match first_in_expr(a, question) {
             Some(x) => Some(x),
-            None => first_in_expr(&operands.1, question),
+            None => first_in_expr(b, question),
         },
     }
 }
 
 fn first_in_argument<'f, Q: Question>(argument: &'f Argument, question: &Q) -> Option<&'f Name> {
     match argument {
-        Argument::Value(e) => first_in_expr(e, question),
+        Argument::Value(e) => first_in_expr(e.whole(), question),
         Argument::Text(_) => None,
         Argument::AddressOf(x) => one_name(x, false, question),
     }
@@ -52,22 +52,22 @@ fn first_in_call<'f, Q: Question>(call: &'f Call, question: &Q) -> Option<&'f Na
 
 fn first_in_right<'f, Q: Question>(right: &'f RightSide, question: &Q) -> Option<&'f Name> {
     match right {
-        RightSide::Expr(e) => first_in_expr(e, question),
+        RightSide::Expr(e) => first_in_expr(e.whole(), question),
         RightSide::Call(call) => first_in_call(call, question),
     }
 }
 
 fn first_in_test<'f, Q: Question>(test: &'f Test, question: &Q) -> Option<&'f Name> {
     match test {
-        Test::Expr(e) => first_in_expr(e, question),
+        Test::Expr(e) => first_in_expr(e.whole(), question),
         Test::Call(call) => first_in_call(call, question),
     }
 }
 
 fn first_in_setting<'f, Q: Question>(
     name: &'f Name,
-    index: &'f Expr,
-    value: &'f Expr,
+    index: ExprRef<'f>,
+    value: ExprRef<'f>,
     question: &Q,
 ) -> Option<&'f Name> {
     match one_name(name, true, question) {
@@ -87,10 +87,13 @@ pub fn first_name<'f, Q: Question>(form: &'f Form, question: &Q) -> Option<&'f N
         | Form::DeclareBuffer(_, _, r)
         | Form::DeclareChars(_, r)
         | Form::Assign(_, r) => first_in_right(r, question),
-        Form::AssignElement(x, i, e) => first_in_setting(x, i, e, question),
+        Form::AssignElement(x, i, e) => first_in_setting(x, i.whole(), e.whole(), question),
         Form::Perform(call) => first_in_call(call, question),
         Form::If(test, _) | Form::IfElse(test, _, _) => first_in_test(test, question),
-        Form::PutJint(e) | Form::While(e, _) | Form::Return(Some(e)) => first_in_expr(e, question),
+        Form::PutJint(e) | Form::While(e, _) | Form::Return(Some(e)) => first_in_expr(
+            e.whole(),
+            question,
+        ),
         Form::DeclareArray(..) | Form::Return(None) => None,
     }
 }
