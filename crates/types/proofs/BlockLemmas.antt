@@ -3,7 +3,6 @@ use Rattle.std.proofs.Common.{◌≡◌, ℕ, suc, ◌+◌, ◌-◌, ◌<◌, No
 use Rattle.std.proofs.Math.Seq.{drop-append_seam}
 use Rattle.std.proofs.lemmas.List.Elements.{filter_map-append}
 use Rattle.base.specs.Bytes.{Identifier, ByName}
-use Rattle.syntax.specs.declared.expr.Expr.{Expr as ExprInMemory}
 use Rattle.syntax.specs.declared.call.Test.{Test as TestInMemory}
 use Rattle.syntax.specs.declared.stmt.Block.{Block as BlockInMemory}
 use Rattle.syntax.specs.declared.stmt.Form.{Form}
@@ -42,7 +41,7 @@ declared-rest taken items i s end_line h e =
 
 -- ---- statements without blocks
 
-pub alone : (line : ℕ) (f : Form) → ((t : TestInMemory) (b : BlockInMemory) → f ≡ form.If t b → ⊥) → ((t : TestInMemory) (b d : BlockInMemory) → f ≡ form.IfElse t b d → ⊥) → ((e : ExprInMemory) (b : BlockInMemory) → f ≡ form.While e b → ⊥)
+pub alone : (line : ℕ) (f : Form) → ((t : TestInMemory) (b : BlockInMemory) → f ≡ form.If t b → ⊥) → ((t : TestInMemory) (b d : BlockInMemory) → f ≡ form.IfElse t b d → ⊥) → ((e : _) (b : BlockInMemory) → f ≡ form.While e b → ⊥)
     → statements_within (form_tree line f) ≡ form_tree line f ∷ []
 alone line (form.Declare t x r) h k l = refl
 alone line (form.DeclareBuffer t x r) h k l = refl
@@ -58,7 +57,7 @@ alone line (form.While e b) h k l = absurd (l e b refl)
 alone line (form.Return None) h k l = refl
 alone line (form.Return (Some e)) h k l = refl
 
-pub none-inside : (returns : ResultType) (known : Scope) (taken : List Identifier) (line : ℕ) (f : Form) → ((t : TestInMemory) (b : BlockInMemory) → f ≡ form.If t b → ⊥) → ((t : TestInMemory) (b d : BlockInMemory) → f ≡ form.IfElse t b d → ⊥) → ((e : ExprInMemory) (b : BlockInMemory) → f ≡ form.While e b → ⊥)
+pub none-inside : (returns : ResultType) (known : Scope) (taken : List Identifier) (line : ℕ) (f : Form) → ((t : TestInMemory) (b : BlockInMemory) → f ≡ form.If t b → ⊥) → ((t : TestInMemory) (b d : BlockInMemory) → f ≡ form.IfElse t b d → ⊥) → ((e : _) (b : BlockInMemory) → f ≡ form.While e b → ⊥)
     → found (places_inside returns known taken (form_tree line f)) ≡ []
 none-inside returns known taken line (form.Declare t x r) h k l = found-none
 none-inside returns known taken line (form.DeclareBuffer t x r) h k l = found-none

@@ -4,7 +4,8 @@ ghost use Rattle.std.specs.Prelude.{◌≡◌, ◌||◌, Some, map, length};
 ghost use Rattle.std.specs.List.{list_all};
 ghost use Rattle.std.specs.Option.{option_map};
 ghost use Rattle.syntax.specs.Parts.{call_expressions};
-ghost use Rattle.syntax.specs.Views.{expr_tree, argument_tree, call_tree};
+ghost use Rattle.syntax.specs.Shapes.{ref_tree};
+ghost use Rattle.syntax.specs.Views.{argument_tree, call_tree};
 ghost use Rattle.base.specs.Options.{some_passes};
 ghost use Rattle.type_rules.specs.ExprTypes.{is_unknown, is_null, is_reference, is_any_reference, name_type, value_fits, address_fits, text_fits, argument_fits, arguments_fit, call_arguments_fit};
 ghost use Rattle.type_rules.specs.TypeRules.{is_formed, is_mode, modes_fit, has_wrong_count, has_wrong_mode, result_fits, is_droppable, is_push, call_fits, may_be_dropped, may_be_tested};
@@ -23,26 +24,26 @@ use crate::ty::{
 };
 use base::limits::MOST_FURTHER;
 use jni::{JniFunction, ParameterKind, ResultKind};
-use syntax::{Argument, Call, Constant, Expr, Name};
+use syntax::{Argument, Call, Constant, ExprRef, Name, Shape};
 use type_rules::{ExprType, Known};
 
 /// Whether an expression is NULL or the bare name of a reference.
-fn is_reference(known: &Known<'_, ExprType>, e: &Expr) -> bool
-    ensures { result ≡ (is_null (expr_tree e.now) || is_reference (name_type (scope_of known.now) (expr_tree e.now))) }
+fn is_reference(known: &Known<'_, ExprType>, e: ExprRef<'_>) -> bool
+    ensures { result ≡ (is_null (ref_tree e.entry) || is_reference (name_type (scope_of known.now) (ref_tree e.entry))) }
 {
     is_null(e) || is_ref(name_type(known, e)) || is_global(name_type(known, e))
 }
 
 /// Whether an expression is NULL or the bare name of a reference, which may be weak.
-fn is_any_reference(known: &Known<'_, ExprType>, e: &Expr) -> bool
-    ensures { result ≡ (is_null (expr_tree e.now) || is_any_reference (name_type (scope_of known.now) (expr_tree e.now))) }
+fn is_any_reference(known: &Known<'_, ExprType>, e: ExprRef<'_>) -> bool
+    ensures { result ≡ (is_null (ref_tree e.entry) || is_any_reference (name_type (scope_of known.now) (ref_tree e.entry))) }
 {
     is_reference(known, e) || is_weak(name_type(known, e))
 }
 
 /// Whether an expression fits a parameter; a mode is judged by a rule of its own.
-fn value_fits(known: &Known<'_, ExprType>, kind: ParameterKind, e: &Expr) -> bool
-    ensures { result ≡ value_fits (scope_of known.now) (parameter_value kind) (expr_tree e.now) }
+fn value_fits(known: &Known<'_, ExprType>, kind: ParameterKind, e: ExprRef<'_>) -> bool
+    ensures { result ≡ value_fits (scope_of known.now) (parameter_value kind) (ref_tree e.entry) }
 {
     match kind {
         ParameterKind::IntNumber => is_jint(type_of(known, e)),
@@ -89,7 +90,7 @@ pub(crate) fn argument_fits(
     ensures { result ≡ argument_fits (scope_of known.now) (parameter_value kind) (argument_tree argument.now) }
 {
     match argument {
-        Argument::Value(e) => value_fits(known, kind, e),
+        Argument::Value(e) => value_fits(known, kind, e.whole()),
         Argument::Text(_) => text_fits(kind),
         Argument::AddressOf(x) => address_fits(known, kind, x),
     }
@@ -135,8 +136,11 @@ fn is_mode(argument: &Argument) -> bool
     ensures { result ≡ is_mode (argument_tree argument.now) }
 {
     match argument {
-        Argument::Value(Expr::Number { value, unsigned }) => *value == 0 && !*unsigned,
-        Argument::Value(Expr::Named(Constant::Commit | Constant::Abort)) => true,
+        Argument::Value(e) => match e.whole().shape() {
+            Shape::Number { value, unsigned } => value == 0 && !unsigned,
+            Shape::Named(Constant::Commit | Constant::Abort) => true,
+            _ => false,
+        },
         _ => false,
     }
 }
@@ -275,7 +279,7 @@ fn argument_unknown(known: &Known<'_, ExprType>, argument: &Argument) -> bool
     ensures { result ≡ argument_uses (is_unknown (scope_of known.now)) (argument_tree argument.now) }
 {
     match argument {
-        Argument::Value(e) => has_unknown(known, e),
+        Argument::Value(e) => has_unknown(known, e.whole()),
         Argument::Text(_) => false,
         Argument::AddressOf(x) => is_unknown(known, x),
     }
@@ -299,7 +303,7 @@ pub(crate) fn call_formed(known: &Known<'_, ExprType>, call: &Call) -> bool
 {
     for argument in &call.arguments {
         if let Argument::Value(e) = argument {
-            if !is_formed(known, e) {
+            if !is_formed(known, e.whole()) {
                 return false;
             }
         }

@@ -3,7 +3,8 @@
 ghost use Rattle.std.specs.Prelude.{◌≡◌, ◌&&◌, ◌||◌, if◌then◌else◌};
 ghost use Rattle.std.specs.Option.{option_map, is_some};
 ghost use Rattle.syntax.specs.Parts.{null_tested};
-ghost use Rattle.syntax.specs.Views.{expr_tree, constant_tree, prefix_tree, binary_tree};
+ghost use Rattle.syntax.specs.Shapes.{ref_tree};
+ghost use Rattle.syntax.specs.Views.{constant_tree, prefix_tree, binary_tree};
 ghost use Rattle.type_rules.specs.ExprTypes.{Jint, is_word, is_jint, is_flag, is_truth, is_castable, is_index, has_elements, type_in, type_of, constant_type, prefix_type, binary_type, group, null_test_type, is_null, name_type, is_unknown};
 ghost use Rattle.type_rules.specs.TypeRules.{is_formed};
 ghost use Rattle.type_rules.specs.TypeViews.{type_value};
@@ -13,7 +14,7 @@ ghost use Rattle.type_rules.specs.Uses.{expr_uses};
 
 use crate::scope::{is_unknown, type_in};
 use crate::ty::{has_elements, is_nullable};
-use syntax::{BinaryOp, Constant, Expr, Name, PrefixOp};
+use syntax::{BinaryOp, Constant, ExprRef, Name, PrefixOp, Shape};
 use type_rules::{ExprType, Known};
 
 /// The type of a value, which each expression has that has a type, but for bare names. It is passed in a register.
@@ -166,25 +167,25 @@ fn value_type_in(known: &Known<'_, ExprType>, name: &Name) -> Option<ValueType>
 }
 
 /// The constant NULL itself.
-pub(crate) fn is_null(e: &Expr) -> bool
-    ensures { result ≡ is_null (expr_tree e.now) }
+pub(crate) fn is_null(e: ExprRef<'_>) -> bool
+    ensures { result ≡ is_null (ref_tree e.entry) }
 {
-    matches!(e, Expr::Named(Constant::Null))
+    matches!(e.shape(), Shape::Named(Constant::Null))
 }
 
 /// The type of a bare name.
-pub(crate) fn name_type(known: &Known<'_, ExprType>, e: &Expr) -> Option<ExprType>
-    ensures { option_map type_value result ≡ name_type (scope_of known.now) (expr_tree e.now) }
+pub(crate) fn name_type(known: &Known<'_, ExprType>, e: ExprRef<'_>) -> Option<ExprType>
+    ensures { option_map type_value result ≡ name_type (scope_of known.now) (ref_tree e.entry) }
 {
-    match e {
-        Expr::Variable(x) => type_in(known, x),
+    match e.shape() {
+        Shape::Variable(x) => type_in(known, x),
         _ => None,
     }
 }
 
 /// Whether an expression compares a bare name, which may be NULL, with NULL.
-fn is_null_test(known: &Known<'_, ExprType>, e: &Expr) -> bool
-    ensures { result ≡ is_some (null_test_type (scope_of known.now) (null_tested (expr_tree e.now))) }
+fn is_null_test(known: &Known<'_, ExprType>, e: ExprRef<'_>) -> bool
+    ensures { result ≡ is_some (null_test_type (scope_of known.now) (null_tested (ref_tree e.entry))) }
 {
     match e.null_test() {
         Some(test) => is_nullable(type_in(known, test.name)),
@@ -193,44 +194,43 @@ fn is_null_test(known: &Known<'_, ExprType>, e: &Expr) -> bool
 }
 
 /// The type of an expression, where it is that of a value.
-fn value_type_of(known: &Known<'_, ExprType>, e: &Expr) -> Option<ValueType>
-    ensures { option_map value_type result ≡ of_value (type_of (scope_of known.now) (expr_tree e.now)) }
+fn value_type_of(known: &Known<'_, ExprType>, e: ExprRef<'_>) -> Option<ValueType>
+    ensures { option_map value_type result ≡ of_value (type_of (scope_of known.now) (ref_tree e.entry)) }
 {
-    match e {
-        Expr::Number { unsigned, .. } => Some(if *unsigned {
+    match e.shape() {
+        Shape::Number { unsigned, .. } => Some(if unsigned {
             ValueType::Word
         } else {
             ValueType::Jint
         }),
-        Expr::Named(c) => constant_type(*c),
-        Expr::Variable(x) => value_type_in(known, x),
-        Expr::Element(x, i) => element_type(known, x, value_type_of(known, i)),
-        Expr::Prefix(op, a) => prefix_type(*op, value_type_of(known, a)),
-        Expr::Binary(op, operands) => {
-            let (left, right) = &**operands;
+        Shape::Named(c) => constant_type(c),
+        Shape::Variable(x) => value_type_in(known, x),
+        Shape::Element(x, i) => element_type(known, x, value_type_of(known, i)),
+        Shape::Prefix(op, a) => prefix_type(op, value_type_of(known, a)),
+        Shape::Binary(op, left, right) => {
             if is_null_test(known, e) {
                 return Some(ValueType::Truth);
             }
-            binary_type(*op, value_type_of(known, left), value_type_of(known, right))
+            binary_type(op, value_type_of(known, left), value_type_of(known, right))
         }
-        Expr::Paren(a) => value_type_of(known, a),
+        Shape::Paren(a) => value_type_of(known, a),
     }
 }
 
 /// The type of a name, which may be in parentheses.
-fn bare_type(known: &Known<'_, ExprType>, e: &Expr) -> Option<ExprType>
-    ensures { option_map type_value result ≡ bare_type (scope_of known.now) (expr_tree e.now) }
+fn bare_type(known: &Known<'_, ExprType>, e: ExprRef<'_>) -> Option<ExprType>
+    ensures { option_map type_value result ≡ bare_type (scope_of known.now) (ref_tree e.entry) }
 {
-    match e {
-        Expr::Variable(x) => type_in(known, x),
-        Expr::Paren(a) => bare_type(known, a),
+    match e.shape() {
+        Shape::Variable(x) => type_in(known, x),
+        Shape::Paren(a) => bare_type(known, a),
         _ => None,
     }
 }
 
 /// The type of an expression, if it has one.
-pub(crate) fn type_of(known: &Known<'_, ExprType>, e: &Expr) -> Option<ExprType>
-    ensures { option_map type_value result ≡ type_of (scope_of known.now) (expr_tree e.now) }
+pub(crate) fn type_of(known: &Known<'_, ExprType>, e: ExprRef<'_>) -> Option<ExprType>
+    ensures { option_map type_value result ≡ type_of (scope_of known.now) (ref_tree e.entry) }
 {
     match value_type_of(known, e) {
         Some(ty) => Some(ty.among_all()),
@@ -239,26 +239,24 @@ pub(crate) fn type_of(known: &Known<'_, ExprType>, e: &Expr) -> Option<ExprType>
 }
 
 /// Whether an expression is a bare name or constant, or has a type.
-pub(crate) fn is_formed(known: &Known<'_, ExprType>, e: &Expr) -> bool
-    ensures { result ≡ is_formed (scope_of known.now) (expr_tree e.now) }
+pub(crate) fn is_formed(known: &Known<'_, ExprType>, e: ExprRef<'_>) -> bool
+    ensures { result ≡ is_formed (scope_of known.now) (ref_tree e.entry) }
 {
-    match e {
-        Expr::Named(_) | Expr::Variable(_) => true,
+    match e.shape() {
+        Shape::Named(_) | Shape::Variable(_) => true,
         _ => type_of(known, e).is_some(),
     }
 }
 
 /// Whether some name of an expression is not known.
-pub(crate) fn has_unknown(known: &Known<'_, ExprType>, e: &Expr) -> bool
-    ensures { result ≡ expr_uses (is_unknown (scope_of known.now)) (expr_tree e.now) }
+pub(crate) fn has_unknown(known: &Known<'_, ExprType>, e: ExprRef<'_>) -> bool
+    ensures { result ≡ expr_uses (is_unknown (scope_of known.now)) (ref_tree e.entry) }
 {
-    match e {
-        Expr::Number { .. } | Expr::Named(_) => false,
-        Expr::Variable(x) => is_unknown(known, x),
-        Expr::Element(x, i) => is_unknown(known, x) || has_unknown(known, i),
-        Expr::Prefix(_, a) | Expr::Paren(a) => has_unknown(known, a),
-        Expr::Binary(_, operands) => {
-            has_unknown(known, &operands.0) || has_unknown(known, &operands.1)
-        }
+    match e.shape() {
+        Shape::Number { .. } | Shape::Named(_) => false,
+        Shape::Variable(x) => is_unknown(known, x),
+        Shape::Element(x, i) => is_unknown(known, x) || has_unknown(known, i),
+        Shape::Prefix(_, a) | Shape::Paren(a) => has_unknown(known, a),
+        Shape::Binary(_, a, b) => has_unknown(known, a) || has_unknown(known, b),
     }
 }

@@ -7,7 +7,8 @@ ghost use Rattle.base.specs.Options.{some_passes};
 ghost use Rattle.syntax.specs.Parts.{own_call, call_of_right_side, assigned_name, call_expressions};
 ghost use Rattle.base.specs.Bytes.{Identifier};
 ghost use Rattle.syntax.specs.Tree.{ResultType as ReturnType, Void};
-ghost use Rattle.syntax.specs.Views.{expr_tree, right_side_tree, test_tree, form_tree, stmt_tree, result_tree};
+ghost use Rattle.syntax.specs.Shapes.{ref_tree};
+ghost use Rattle.syntax.specs.Views.{right_side_tree, test_tree, form_tree, stmt_tree, result_tree};
 ghost use Rattle.jni.specs.JniFunction.{function_named};
 ghost use Rattle.jni.specs.Table.{function_value};
 ghost use Rattle.type_rules.specs.ExprTypes.{type_in, is_unknown, type_of, has_elements, is_index, is_jint, call_arguments_fit};
@@ -33,7 +34,7 @@ use crate::ty::{
 use jni::{JniFunction, function_named};
 use places::{Fault, Line};
 use std::alloc::AllocError;
-use syntax::{Call, ElementType, Expr, Form, Name, ResultType, RightSide, Stmt, Test};
+use syntax::{Call, ElementType, ExprRef, Form, Name, ResultType, RightSide, Stmt, Test};
 use type_rules::{ExprType, Known, own_call, variable_type};
 
 /// The function that a statement calls, if it is known.
@@ -51,7 +52,7 @@ fn right_unknown(known: &Known<'_, ExprType>, right: &RightSide) -> bool
     ensures { result ≡ right_uses (is_unknown (scope_of known.now)) (right_side_tree right.now) }
 {
     match right {
-        RightSide::Expr(e) => has_unknown(known, e),
+        RightSide::Expr(e) => has_unknown(known, e.whole()),
         RightSide::Call(c) => call_unknown(known, c),
     }
 }
@@ -61,7 +62,7 @@ fn test_unknown(known: &Known<'_, ExprType>, test: &Test) -> bool
     ensures { result ≡ test_uses (is_unknown (scope_of known.now)) (test_tree test.now) }
 {
     match test {
-        Test::Expr(e) => has_unknown(known, e),
+        Test::Expr(e) => has_unknown(known, e.whole()),
         Test::Call(c) => call_unknown(known, c),
     }
 }
@@ -76,11 +77,14 @@ fn uses_unknown(known: &Known<'_, ExprType>, form: &Form) -> bool
         | Form::DeclareChars(_, r)
         | Form::Assign(_, r) => right_unknown(known, r),
         Form::AssignElement(x, i, e) => {
-            is_unknown(known, x) || has_unknown(known, i) || has_unknown(known, e)
+            is_unknown(known, x) || has_unknown(known, i.whole()) || has_unknown(known, e.whole())
         }
         Form::Perform(c) => call_unknown(known, c),
         Form::If(test, _) | Form::IfElse(test, _, _) => test_unknown(known, test),
-        Form::PutJint(e) | Form::While(e, _) | Form::Return(Some(e)) => has_unknown(known, e),
+        Form::PutJint(e) | Form::While(e, _) | Form::Return(Some(e)) => has_unknown(
+            known,
+            e.whole(),
+        ),
         _ => false,
     }
 }
@@ -135,8 +139,8 @@ fn declares_taken(taken: &Taken<'_>, form: &Form) -> bool
 }
 
 /// Whether a variable of a type may be set to an expression. Of a known name in a local reference another rule speaks.
-fn value_sets(known: &Known<'_, ExprType>, ty: Option<ExprType>, e: &Expr) -> bool
-    ensures { result ≡ value_sets (scope_of known.now) (option_map type_value ty) (expr_tree e.now) }
+fn value_sets(known: &Known<'_, ExprType>, ty: Option<ExprType>, e: ExprRef<'_>) -> bool
+    ensures { result ≡ value_sets (scope_of known.now) (option_map type_value ty) (ref_tree e.entry) }
 {
     match ty {
         Some(ExprType::Word) => is_word(type_of(known, e)),
@@ -162,7 +166,7 @@ fn right_side_sets(
     ensures { result ≡ right_side_sets (scope_of known.now) (option_map type_value ty) (right_side_tree right.now) }
 {
     match right {
-        RightSide::Expr(e) => value_sets(known, ty, e),
+        RightSide::Expr(e) => value_sets(known, ty, e.whole()),
         RightSide::Call(_) => call_fits(ty, function),
     }
 }
@@ -174,7 +178,7 @@ fn buffer_begins(ty: ExprType, right: &RightSide, function: Option<JniFunction>)
     ensures { result ≡ buffer_begins [] (type_value ty) (right_side_tree right.now) }
 {
     match right {
-        RightSide::Expr(e) => is_null(e),
+        RightSide::Expr(e) => is_null(e.whole()),
         RightSide::Call(_) => call_fits(Some(ty), function),
     }
 }
@@ -185,14 +189,14 @@ fn test_fits(known: &Known<'_, ExprType>, test: &Test, function: Option<JniFunct
     ensures { result ≡ test_fits (scope_of known.now) (test_tree test.now) }
 {
     match test {
-        Test::Expr(e) => is_truth(type_of(known, e)),
+        Test::Expr(e) => is_truth(type_of(known, e.whole())),
         Test::Call(_) => may_be_tested(function),
     }
 }
 
 /// Whether a function may return this.
-fn return_fits(known: &Known<'_, ExprType>, returns: ResultType, e: &Expr) -> bool
-    ensures { result ≡ return_fits (scope_of known.now) (result_tree returns) (expr_tree e.now) }
+fn return_fits(known: &Known<'_, ExprType>, returns: ResultType, e: ExprRef<'_>) -> bool
+    ensures { result ≡ return_fits (scope_of known.now) (result_tree returns) (ref_tree e.entry) }
 {
     match returns {
         ResultType::Void => false,
@@ -202,10 +206,15 @@ fn return_fits(known: &Known<'_, ExprType>, returns: ResultType, e: &Expr) -> bo
 }
 
 /// Whether an element of a named buffer or array may be set.
-fn element_fits(known: &Known<'_, ExprType>, name: &Name, index: &Expr, value: &Expr) -> bool
+fn element_fits(
+    known: &Known<'_, ExprType>,
+    name: &Name,
+    index: ExprRef<'_>,
+    value: ExprRef<'_>,
+) -> bool
     ensures { result ≡ (has_elements (type_in (scope_of known.now) name.now)
-        && is_index (type_of (scope_of known.now) (expr_tree index.now))
-        && is_jint (type_of (scope_of known.now) (expr_tree value.now))) }
+        && is_index (type_of (scope_of known.now) (ref_tree index.entry))
+        && is_jint (type_of (scope_of known.now) (ref_tree value.entry))) }
 {
     has_elements(type_in(known, name))
         && is_index(type_of(known, index))
@@ -231,14 +240,14 @@ pub(crate) fn statement_fits(
         }
         Form::DeclareArray(..) => true,
         Form::Assign(x, r) => right_side_sets(known, type_in(known, x), r, function),
-        Form::AssignElement(x, i, e) => element_fits(known, x, i, e),
+        Form::AssignElement(x, i, e) => element_fits(known, x, i.whole(), e.whole()),
         Form::Perform(_) => may_be_dropped(function),
-        Form::PutJint(e) => is_jint(type_of(known, e)),
+        Form::PutJint(e) => is_jint(type_of(known, e.whole())),
         Form::If(test, _) => test_fits(known, test, function),
         Form::IfElse(test, _, _) => test_fits(known, test, function),
-        Form::While(e, _) => is_truth(type_of(known, e)),
+        Form::While(e, _) => is_truth(type_of(known, e.whole())),
         Form::Return(None) => matches!(returns, ResultType::Void),
-        Form::Return(Some(e)) => return_fits(known, returns, e),
+        Form::Return(Some(e)) => return_fits(known, returns, e.whole()),
     }
 }
 
@@ -309,7 +318,7 @@ fn copies(known: &Known<'_, ExprType>, ty: Option<ExprType>, right: &RightSide) 
         (Some (right_side_tree right.now)) }
 {
     match right {
-        RightSide::Expr(e) => is_ref(ty) && name_type(known, e).is_some(),
+        RightSide::Expr(e) => is_ref(ty) && name_type(known, e.whole()).is_some(),
         RightSide::Call(_) => false,
     }
 }

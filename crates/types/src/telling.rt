@@ -10,8 +10,8 @@ use base::limits::MOST_FURTHER;
 use jni::{Access, JniFunction, ParameterKind, ResultKind};
 use places::Detail;
 use syntax::{
-    Argument, BinaryOp, Call, Constant, ElementType, Expr, Form, Function, Name, PrefixOp,
-    ResultType, RightSide, Test,
+    Argument, BinaryOp, Call, Constant, ElementType, ExprRef, Form, Function, Name, PrefixOp,
+    ResultType, RightSide, Shape, Test,
 };
 use type_rules::{ExprType, Known, Question, first_name, own_call, variable_type};
 
@@ -82,18 +82,18 @@ fn with_type(detail: Detail, ty: Option<ExprType>) -> Detail {
 }
 
 /// Puts what an expression is.
-fn with_expression(detail: Detail, known: &Known<'_, ExprType>, e: &Expr) -> Detail {
-    match e {
-        Expr::Named(constant) => match type_of(known, e) {
+fn with_expression(detail: Detail, known: &Known<'_, ExprType>, e: ExprRef<'_>) -> Detail {
+    match e.shape() {
+        Shape::Named(constant) => match type_of(known, e) {
             Some(ty) => with_type(detail, Some(ty)),
-            None => detail.words(constant_words(*constant)),
+            None => detail.words(constant_words(constant)),
         },
         _ => with_type(detail, type_of(known, e)),
     }
 }
 
 /// An expression is found, where this is wanted.
-fn instead(known: &Known<'_, ExprType>, e: &Expr, wanted: &[u8]) -> Detail {
+fn instead(known: &Known<'_, ExprType>, e: ExprRef<'_>, wanted: &[u8]) -> Detail {
     with_expression(Detail::of(b"found "), known, e)
         .words(b", wanted ")
         .words(wanted)
@@ -109,7 +109,7 @@ fn wanted_after(op: PrefixOp) -> &'static [u8] {
 }
 
 /// What the operands of an operator have to be.
-fn wanted_beside(op: BinaryOp, right: &Expr) -> &'static [u8] {
+fn wanted_beside(op: BinaryOp, right: ExprRef<'_>) -> &'static [u8] {
     match op {
         BinaryOp::LogicalOr | BinaryOp::LogicalAnd => b"two truth values",
         BinaryOp::Equal | BinaryOp::NotEqual => {
@@ -127,28 +127,28 @@ fn wanted_beside(op: BinaryOp, right: &Expr) -> &'static [u8] {
 }
 
 /// The innermost part of an expression whose own parts don't fit each other.
-fn unformed(known: &Known<'_, ExprType>, e: &Expr) -> Option<Detail> {
-    match e {
-        Expr::Number { .. } | Expr::Named(_) | Expr::Variable(_) => None,
-        Expr::Paren(a) => unformed(known, a),
-        Expr::Element(x, i) => match unformed(known, i) {
+fn unformed(known: &Known<'_, ExprType>, e: ExprRef<'_>) -> Option<Detail> {
+    match e.shape() {
+        Shape::Number { .. } | Shape::Named(_) | Shape::Variable(_) => None,
+        Shape::Paren(a) => unformed(known, a),
+        Shape::Element(x, i) => match unformed(known, i) {
             Some(detail) => Some(detail),
             None => unindexed(known, x, i),
         },
-        Expr::Prefix(op, a) => match unformed(known, a) {
+        Shape::Prefix(op, a) => match unformed(known, a) {
             Some(detail) => Some(detail),
             None => match type_of(known, e) {
                 Some(_) => None,
-                None => Some(instead(known, a, wanted_after(*op))),
+                None => Some(instead(known, a, wanted_after(op))),
             },
         },
-        Expr::Binary(op, operands) => match unformed(known, &operands.0) {
+        Shape::Binary(op, left, right) => match unformed(known, left) {
             Some(detail) => Some(detail),
-            None => match unformed(known, &operands.1) {
+            None => match unformed(known, right) {
                 Some(detail) => Some(detail),
                 None => match type_of(known, e) {
                     Some(_) => None,
-                    None => Some(unjoined(known, *op, &operands.0, &operands.1)),
+                    None => Some(unjoined(known, op, left, right)),
                 },
             },
         },
@@ -156,7 +156,7 @@ fn unformed(known: &Known<'_, ExprType>, e: &Expr) -> Option<Detail> {
 }
 
 /// What is wrong with an element and its index.
-fn unindexed(known: &Known<'_, ExprType>, name: &Name, index: &Expr) -> Option<Detail> {
+fn unindexed(known: &Known<'_, ExprType>, name: &Name, index: ExprRef<'_>) -> Option<Detail> {
     let ty = type_in(known, name);
     if !has_elements(ty) {
         let detail = with_type(Detail::of(b"found "), ty);
@@ -174,7 +174,12 @@ fn unindexed(known: &Known<'_, ExprType>, name: &Name, index: &Expr) -> Option<D
 }
 
 /// Two operands that don't fit their operator.
-fn unjoined(known: &Known<'_, ExprType>, op: BinaryOp, left: &Expr, right: &Expr) -> Detail {
+fn unjoined(
+    known: &Known<'_, ExprType>,
+    op: BinaryOp,
+    left: ExprRef<'_>,
+    right: ExprRef<'_>,
+) -> Detail {
     let detail = with_expression(Detail::of(b"found "), known, left).words(operator_words(op));
     with_expression(detail, known, right)
         .words(b", wanted ")
@@ -182,7 +187,7 @@ fn unjoined(known: &Known<'_, ExprType>, op: BinaryOp, left: &Expr, right: &Expr
 }
 
 /// An expression doesn't fit where this is wanted.
-fn misfit(known: &Known<'_, ExprType>, e: &Expr, wanted: &[u8]) -> Detail {
+fn misfit(known: &Known<'_, ExprType>, e: ExprRef<'_>, wanted: &[u8]) -> Detail {
     match unformed(known, e) {
         Some(detail) => detail,
         None => instead(known, e, wanted),
@@ -252,10 +257,12 @@ fn misfit_right(
 ) -> Detail {
     match right {
         RightSide::Call(_) => misfit_result(ty, function),
-        RightSide::Expr(e) => match unformed(known, e) {
+        RightSide::Expr(e) => match unformed(known, e.whole()) {
             Some(detail) => detail,
             None => {
-                let detail = with_expression(Detail::of(b"found "), known, e).words(b", wanted ");
+                let detail = with_expression(Detail::of(b"found "), known, e.whole()).words(
+                    b", wanted ",
+                );
                 with_right_sides(detail, ty)
             }
         },
@@ -272,14 +279,19 @@ fn misfit_buffer(
     match right {
         RightSide::Call(_) => misfit_result(Some(ty), function),
         RightSide::Expr(e) => {
-            let detail = with_expression(Detail::of(b"found "), known, e);
+            let detail = with_expression(Detail::of(b"found "), known, e.whole());
             with_right_sides(detail.words(b", wanted NULL or "), Some(ty))
         }
     }
 }
 
 /// An element isn't set to such a value.
-fn misfit_element(known: &Known<'_, ExprType>, name: &Name, index: &Expr, value: &Expr) -> Detail {
+fn misfit_element(
+    known: &Known<'_, ExprType>,
+    name: &Name,
+    index: ExprRef<'_>,
+    value: ExprRef<'_>,
+) -> Detail {
     match unformed(known, index) {
         Some(detail) => detail,
         None => match unindexed(known, name, index) {
@@ -292,7 +304,7 @@ fn misfit_element(known: &Known<'_, ExprType>, name: &Name, index: &Expr, value:
 /// A test of an `if` doesn't fit.
 fn misfit_test(known: &Known<'_, ExprType>, test: &Test) -> Detail {
     match test {
-        Test::Expr(e) => misfit(known, e, b"a truth value"),
+        Test::Expr(e) => misfit(known, e.whole(), b"a truth value"),
         Test::Call(call) => Detail::of(b"found a test of ")
             .words(call.function.as_bytes())
             .words(b" for 0, wanted one of PushLocalFrame"),
@@ -300,7 +312,7 @@ fn misfit_test(known: &Known<'_, ExprType>, test: &Test) -> Detail {
 }
 
 /// A returned value doesn't fit the function's result.
-fn misfit_return(known: &Known<'_, ExprType>, returns: ResultType, e: &Expr) -> Detail {
+fn misfit_return(known: &Known<'_, ExprType>, returns: ResultType, e: ExprRef<'_>) -> Detail {
     match returns {
         ResultType::Void => Detail::of(b"found a value, wanted `return;`"),
         ResultType::Jint => misfit(known, e, b"jint"),
@@ -341,20 +353,20 @@ fn misfit_statement(
         ),
         Form::DeclareArray(..) => Detail::none(),
         Form::Assign(x, r) => misfit_right(known, type_in(known, x), r, function),
-        Form::AssignElement(x, i, e) => misfit_element(known, x, i, e),
+        Form::AssignElement(x, i, e) => misfit_element(known, x, i.whole(), e.whole()),
         Form::Perform(call) => undroppable(call, function),
-        Form::PutJint(e) => misfit(known, e, b"jint"),
+        Form::PutJint(e) => misfit(known, e.whole(), b"jint"),
         Form::If(test, _) | Form::IfElse(test, _, _) => misfit_test(known, test),
-        Form::While(e, _) => misfit(known, e, b"a truth value"),
+        Form::While(e, _) => misfit(known, e.whole(), b"a truth value"),
         Form::Return(None) => Detail::of(b"found `return;`, wanted a value"),
-        Form::Return(Some(e)) => misfit_return(known, returns, e),
+        Form::Return(Some(e)) => misfit_return(known, returns, e.whole()),
     }
 }
 
 /// Puts what an argument is.
 fn with_argument(detail: Detail, known: &Known<'_, ExprType>, argument: &Argument) -> Detail {
     match argument {
-        Argument::Value(e) => with_expression(detail, known, e),
+        Argument::Value(e) => with_expression(detail, known, e.whole()),
         Argument::Text(_) => detail.words(b"a string"),
         Argument::AddressOf(x) => with_type(detail.words(b"the address of "), type_in(known, x)),
     }
@@ -391,7 +403,7 @@ fn with_parameter(detail: Detail, kind: ParameterKind) -> Detail {
 /// An argument whose own parts don't fit each other.
 fn unformed_argument(known: &Known<'_, ExprType>, argument: &Argument) -> Option<Detail> {
     match argument {
-        Argument::Value(e) => unformed(known, e),
+        Argument::Value(e) => unformed(known, e.whole()),
         Argument::Text(_) | Argument::AddressOf(_) => None,
     }
 }
@@ -507,8 +519,12 @@ fn miscounted(call: &Call) -> Detail {
 /// The name that a reference is set to.
 fn copied(form: &Form) -> Detail {
     match form {
-        Form::Declare(_, _, RightSide::Expr(Expr::Variable(x)))
-        | Form::Assign(_, RightSide::Expr(Expr::Variable(x))) => Detail::of(x.as_bytes()),
+        Form::Declare(_, _, RightSide::Expr(e)) | Form::Assign(_, RightSide::Expr(e)) => {
+            match e.whole().shape() {
+                Shape::Variable(x) => Detail::of(x.as_bytes()),
+                _ => Detail::none(),
+            }
+        }
         _ => Detail::none(),
     }
 }
