@@ -9,7 +9,7 @@ ghost use Rattle.jni.specs.Table.{access_value, function_value};
 ghost use Rattle.region_states.specs.StateEffects.{call_state_effect, made_value, release_value, got, released, deleted, popped, is_forbidden};
 
 use jni::{Access, JniFunction, StateEffect, function_named};
-use syntax::{Argument, Constant, Expr, Form};
+use syntax::{Argument, Constant, Form, Shape};
 use type_rules::own_call;
 
 /// A call: what it does, and its arguments.
@@ -58,7 +58,10 @@ fn argument_name(argument: &Argument) -> Option<&[u8]>
     ensures { option_map (λ x. x.now) result ≡ argument_name (argument_tree argument.now) }
 {
     match argument {
-        Argument::Value(Expr::Variable(x)) => Some(x.as_bytes()),
+        Argument::Value(e) => match e.whole().shape() {
+            Shape::Variable(x) => Some(x.as_bytes()),
+            _ => None,
+        },
         _ => None,
     }
 }
@@ -77,7 +80,10 @@ fn first_name(arguments: &[Argument]) -> Option<&[u8]>
 fn is_commit(argument: &Argument) -> bool
     ensures { result ≡ has_commit (argument_tree argument.now ∷ []) }
 {
-    matches!(argument, Argument::Value(Expr::Named(Constant::Commit)))
+    match argument {
+        Argument::Value(e) => matches!(e.whole().shape(), Shape::Named(Constant::Commit)),
+        _ => false,
+    }
 }
 
 /// Whether one of the arguments is `JNI_COMMIT`.

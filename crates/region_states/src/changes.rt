@@ -171,7 +171,7 @@ impl<'a> FlowState<'a> {
     {
         match test {
             Test::Expr(e) => {
-                self.learn_true(e.null_test());
+                self.learn_true(e.whole().null_test());
                 Ok(())
             }
             Test::Call(_) => { self.push_frame() }
@@ -183,7 +183,7 @@ impl<'a> FlowState<'a> {
         ensures { self.new ≡ where_false self.old (test_tree test.now) }
     {
         match test {
-            Test::Expr(e) => self.learn_false(e.null_test()),
+            Test::Expr(e) => self.learn_false(e.whole().null_test()),
             Test::Call(_) => {}
         }
     }

@@ -1,27 +1,28 @@
 //! The names that a statement uses, and those whose elements it reads or writes.
 
 ghost use Rattle.std.specs.Prelude.{◌≡◌, ℕ};
-ghost use Rattle.syntax.specs.Views.{expr_tree, argument_tree, call_tree, right_side_tree, test_tree, form_tree};
+ghost use Rattle.syntax.specs.Shapes.{ref_tree};
+ghost use Rattle.syntax.specs.Views.{argument_tree, call_tree, right_side_tree, test_tree, form_tree};
 ghost use Rattle.region_states.specs.StatesInMemory.{asks};
 ghost use Rattle.type_rules.specs.Uses.{expr_uses, argument_uses, call_uses, right_uses, test_uses, uses};
 ghost use Rattle.region_states.specs.Reads.{expr_reads, argument_reads, call_reads, right_reads, test_reads, reads};
 
 use crate::states::{Condition, FlowState};
-use syntax::{Argument, Call, Expr, Form, RightSide, Test};
+use syntax::{Argument, Call, ExprRef, Form, RightSide, Shape, Test};
 
 /// Whether some name of an expression meets the condition.
-fn expr_uses(state: &FlowState, condition: Condition, e: &Expr) -> bool
-    ensures { result ≡ expr_uses (asks condition state.now) (expr_tree e.now) }
+fn expr_uses(state: &FlowState, condition: Condition, e: ExprRef<'_>) -> bool
+    ensures { result ≡ expr_uses (asks condition state.now) (ref_tree e.entry) }
 {
-    match e {
-        Expr::Number { .. } | Expr::Named(_) => false,
-        Expr::Variable(x) => state.meets(condition, x.as_bytes()),
-        Expr::Element(x, i) => {
+    match e.shape() {
+        Shape::Number { .. } | Shape::Named(_) => false,
+        Shape::Variable(x) => state.meets(condition, x.as_bytes()),
+        Shape::Element(x, i) => {
             state.meets(condition, x.as_bytes()) || expr_uses(state, condition, i)
         }
-        Expr::Prefix(_, a) | Expr::Paren(a) => expr_uses(state, condition, a),
-        Expr::Binary(_, operands) => {
-            expr_uses(state, condition, &operands.0) || expr_uses(state, condition, &operands.1)
+        Shape::Prefix(_, a) | Shape::Paren(a) => expr_uses(state, condition, a),
+        Shape::Binary(_, a, b) => {
+            expr_uses(state, condition, a) || expr_uses(state, condition, b)
         }
     }
 }
@@ -31,7 +32,7 @@ fn argument_uses(state: &FlowState, condition: Condition, argument: &Argument) -
     ensures { result ≡ argument_uses (asks condition state.now) (argument_tree argument.now) }
 {
     match argument {
-        Argument::Value(e) => expr_uses(state, condition, e),
+        Argument::Value(e) => expr_uses(state, condition, e.whole()),
         Argument::Text(_) => false,
         Argument::AddressOf(x) => state.meets(condition, x.as_bytes()),
     }
@@ -53,7 +54,7 @@ fn right_uses(state: &FlowState, condition: Condition, right: &RightSide) -> boo
     ensures { result ≡ right_uses (asks condition state.now) (right_side_tree right.now) }
 {
     match right {
-        RightSide::Expr(e) => expr_uses(state, condition, e),
+        RightSide::Expr(e) => expr_uses(state, condition, e.whole()),
         RightSide::Call(c) => call_uses(state, condition, c),
     }
 }
@@ -62,7 +63,7 @@ fn test_uses(state: &FlowState, condition: Condition, test: &Test) -> bool
     ensures { result ≡ test_uses (asks condition state.now) (test_tree test.now) }
 {
     match test {
-        Test::Expr(e) => expr_uses(state, condition, e),
+        Test::Expr(e) => expr_uses(state, condition, e.whole()),
         Test::Call(c) => call_uses(state, condition, c),
     }
 }
@@ -79,31 +80,31 @@ fn form_uses(state: &FlowState, condition: Condition, form: &Form) -> bool
         Form::Assign(_, r) => right_uses(state, condition, r),
         Form::AssignElement(x, i, e) => {
             state.meets(condition, x.as_bytes())
-                || expr_uses(state, condition, i)
-                || expr_uses(state, condition, e)
+                || expr_uses(state, condition, i.whole())
+                || expr_uses(state, condition, e.whole())
         }
         Form::Perform(c) => call_uses(state, condition, c),
-        Form::PutJint(e) => expr_uses(state, condition, e),
+        Form::PutJint(e) => expr_uses(state, condition, e.whole()),
         Form::If(test, _) => test_uses(state, condition, test),
         Form::IfElse(test, _, _) => test_uses(state, condition, test),
-        Form::While(e, _) => expr_uses(state, condition, e),
+        Form::While(e, _) => expr_uses(state, condition, e.whole()),
         Form::Return(None) => false,
-        Form::Return(Some(e)) => expr_uses(state, condition, e),
+        Form::Return(Some(e)) => expr_uses(state, condition, e.whole()),
     }
 }
 
 /// Whether an expression reads an element of a name that meets the condition.
-fn expr_reads(state: &FlowState, condition: Condition, e: &Expr) -> bool
-    ensures { result ≡ expr_reads (asks condition state.now) (expr_tree e.now) }
+fn expr_reads(state: &FlowState, condition: Condition, e: ExprRef<'_>) -> bool
+    ensures { result ≡ expr_reads (asks condition state.now) (ref_tree e.entry) }
 {
-    match e {
-        Expr::Number { .. } | Expr::Named(_) | Expr::Variable(_) => false,
-        Expr::Element(x, i) => {
+    match e.shape() {
+        Shape::Number { .. } | Shape::Named(_) | Shape::Variable(_) => false,
+        Shape::Element(x, i) => {
             state.meets(condition, x.as_bytes()) || expr_reads(state, condition, i)
         }
-        Expr::Prefix(_, a) | Expr::Paren(a) => expr_reads(state, condition, a),
-        Expr::Binary(_, operands) => {
-            expr_reads(state, condition, &operands.0) || expr_reads(state, condition, &operands.1)
+        Shape::Prefix(_, a) | Shape::Paren(a) => expr_reads(state, condition, a),
+        Shape::Binary(_, a, b) => {
+            expr_reads(state, condition, a) || expr_reads(state, condition, b)
         }
     }
 }
@@ -112,7 +113,7 @@ fn argument_reads(state: &FlowState, condition: Condition, argument: &Argument) 
     ensures { result ≡ argument_reads (asks condition state.now) (argument_tree argument.now) }
 {
     match argument {
-        Argument::Value(e) => expr_reads(state, condition, e),
+        Argument::Value(e) => expr_reads(state, condition, e.whole()),
         Argument::Text(_) => false,
         Argument::AddressOf(_) => false,
     }
@@ -133,7 +134,7 @@ fn right_reads(state: &FlowState, condition: Condition, right: &RightSide) -> bo
     ensures { result ≡ right_reads (asks condition state.now) (right_side_tree right.now) }
 {
     match right {
-        RightSide::Expr(e) => expr_reads(state, condition, e),
+        RightSide::Expr(e) => expr_reads(state, condition, e.whole()),
         RightSide::Call(c) => call_reads(state, condition, c),
     }
 }
@@ -142,7 +143,7 @@ fn test_reads(state: &FlowState, condition: Condition, test: &Test) -> bool
     ensures { result ≡ test_reads (asks condition state.now) (test_tree test.now) }
 {
     match test {
-        Test::Expr(e) => expr_reads(state, condition, e),
+        Test::Expr(e) => expr_reads(state, condition, e.whole()),
         Test::Call(c) => call_reads(state, condition, c),
     }
 }
@@ -159,17 +160,17 @@ fn form_reads(state: &FlowState, condition: Condition, form: &Form) -> bool
         Form::DeclareArray(..) => false,
         Form::Assign(_, r) => right_reads(state, condition, r),
         Form::AssignElement(x, i, e) => {
-            expr_reads(state, condition, i)
-                || expr_reads(state, condition, e)
+            expr_reads(state, condition, i.whole())
+                || expr_reads(state, condition, e.whole())
                 || state.meets(condition, x.as_bytes())
         }
         Form::Perform(c) => call_reads(state, condition, c),
-        Form::PutJint(e) => expr_reads(state, condition, e),
+        Form::PutJint(e) => expr_reads(state, condition, e.whole()),
         Form::If(test, _) => test_reads(state, condition, test),
         Form::IfElse(test, _, _) => test_reads(state, condition, test),
-        Form::While(e, _) => expr_reads(state, condition, e),
+        Form::While(e, _) => expr_reads(state, condition, e.whole()),
         Form::Return(None) => false,
-        Form::Return(Some(e)) => expr_reads(state, condition, e),
+        Form::Return(Some(e)) => expr_reads(state, condition, e.whole()),
     }
 }
 

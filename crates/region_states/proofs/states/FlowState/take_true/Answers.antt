@@ -1,4 +1,5 @@
 use Rattle.std.proofs.Common.{sym, ap, ◌∙◌}
+use Rattle.syntax.specs.NullTests.{null_test_of}
 use Rattle.syntax.specs.Views.{expr_tree, test_tree}
 use Rattle.region_states.specs.Changes.{taught_true}
 use Rattle.region_rules.specs.Regions.{where_true}
@@ -8,4 +9,4 @@ use Rattle.region_states.proofs.states.FlowState.take_true.Goals as goal
 pub returns-in-Expr : goal.returns-in-Expr
 returns-in-Expr c =
     let old = c.args.self.now in
-    c.learn_true.ensures ∙ ap (taught_true old) c.null_test.ensures.test ∙ sym (true_is old (expr_tree c.in-Expr.e)) ∙ ap (λ t. where_true old (test_tree t)) (sym c.in-Expr.is)
+    c.learn_true.ensures ∙ ap (taught_true old) (c.null_test.ensures.test ∙ ap null_test_of c.whole.ensures) ∙ sym (true_is old (expr_tree c.in-Expr.e)) ∙ ap (λ t. where_true old (test_tree t)) (sym c.in-Expr.is)
