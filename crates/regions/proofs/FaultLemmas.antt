@@ -1,5 +1,5 @@
 -- Which part of a walk a fault comes from, and that a statement has one path.
-use Rattle.std.proofs.Common.{◌≡◌, ℕ, Bool, true, false, not, ◌⊎◌, Option, Some, None, Result, Ok, Err, refl, sym, ap, ◌∙◌, inl, inr, true≢false}
+use Rattle.std.proofs.Common.{◌≡◌, ℕ, Bool, true, false, ◌⊎◌, Option, Some, None, Result, Ok, Err, refl, sym, ap, ◌∙◌, inl, inr, true≢false}
 use Rattle.syntax.specs.Parts.{line_of}
 use Rattle.syntax.specs.Tree.{Stmt, Block, End, Next}
 use Rattle.region_rules.specs.RegionRules.{RegionRule, PathsDiffer, NoReturn}

@@ -1,8 +1,7 @@
 -- The walk over the paths in memory is that of the definitions.
-use Rattle.std.proofs.Common.{◌≡◌, ℕ, zero, suc, ◌+◌, ◌<◌, ◌≤◌, true, false, not, List, [], ◌∷◌, length, get_or, drop, Some, None, Result, Ok, Err, refl, sym, ap, ◌∙◌, subst, arith, add-one, drop-cons}
+use Rattle.std.proofs.Common.{◌≡◌, ℕ, suc, ◌+◌, ◌<◌, true, false, not, List, [], ◌∷◌, length, get_or, drop, Some, None, Result, Ok, Err, refl, sym, ap, ◌∙◌, subst, add-one, drop-cons}
 use Rattle.std.specs.Prelude.{IfOk}
 use Rattle.base.specs.Bytes.{Identifier}
-use Rattle.syntax.specs.declared.expr.Expr.{Expr as ExprInMemory}
 use Rattle.syntax.specs.declared.call.Test.{Test as TestInMemory}
 use Rattle.syntax.specs.declared.stmt.Form.{Form as FormInMemory}
 use Rattle.syntax.specs.declared.stmt.Form.TheVariants as form
@@ -85,7 +84,7 @@ stmt_goes r after before s h k =
 
 -- the statement in memory has no block
 abbrev pub HasNone : FormInMemory → Type 0
-HasNone f = ((t : TestInMemory) (b : BlockInMemory) → f ≡ form.If t b → ⊥) × ((t : TestInMemory) (b d : BlockInMemory) → f ≡ form.IfElse t b d → ⊥) × ((e : ExprInMemory) (b : BlockInMemory) → f ≡ form.While e b → ⊥)
+HasNone f = ((t : TestInMemory) (b : BlockInMemory) → f ≡ form.If t b → ⊥) × ((t : TestInMemory) (b d : BlockInMemory) → f ≡ form.IfElse t b d → ⊥) × ((e : _) (b : BlockInMemory) → f ≡ form.While e b → ⊥)
 
 pub plain_is : (before : RegionState) (line : ℕ) (f : FormInMemory) → HasNone f → inner_path before (form_tree line f) ≡ plain_path before (form_tree line f)
 plain_is before line (form.Declare t x r) h = refl
