@@ -3,7 +3,8 @@
 ghost use Rattle.std.specs.Prelude.{◌≡◌, ℕ, ◌+◌, ◌<◌, nat_lt, if◌then◌else◌, IfSome, IfNone, IsTrue, map};
 ghost use Rattle.std.specs.List.{list_any, sum_by};
 ghost use Rattle.base.specs.Limits.{most_steps};
-ghost use Rattle.syntax.specs.Views.{expr_tree, argument_tree, call_tree, right_side_tree, test_tree, result_tree, form_tree, block_tree, function_tree, item_tree, unit_tree};
+ghost use Rattle.syntax.specs.Shapes.{ref_tree};
+ghost use Rattle.syntax.specs.Views.{argument_tree, call_tree, right_side_tree, test_tree, result_tree, form_tree, block_tree, function_tree, item_tree, unit_tree};
 ghost use Rattle.jni.specs.JniFunction.{function_named};
 ghost use Rattle.jni.specs.Table.{parameter_value};
 ghost use Rattle.code_meaning.specs.Plain.{is_plain};
@@ -17,7 +18,8 @@ use code_meaning::Parameters;
 use jni::{ParameterKind, function_named};
 use region_rules::Checked;
 use syntax::{
-    Argument, Block, Call, Constant, Expr, Form, Function, Item, ResultType, RightSide, Test,
+    Argument, Block, Call, Constant, ExprRef, Form, Function, Item, ResultType, RightSide, Shape,
+    Test,
 };
 
 /// What is left of `left` after one step, where there is one.
@@ -29,27 +31,27 @@ fn after_one(left: usize) -> Option<usize>
 }
 
 /// What is left of `left` after the steps of an expression, where there are as many.
-fn after_expr(left: usize, e: &Expr) -> Option<usize>
-    ensures some { IfSome result (λ rest. rest + expr_steps (expr_tree e.now) ≡ left) }
-    ensures none { IfNone result (left < expr_steps (expr_tree e.now)) }
+fn after_expr(left: usize, e: ExprRef<'_>) -> Option<usize>
+    ensures some { IfSome result (λ rest. rest + expr_steps (ref_tree e.entry) ≡ left) }
+    ensures none { IfNone result (left < expr_steps (ref_tree e.entry)) }
 {
-    match e {
-        Expr::Number { .. } | Expr::Named(_) | Expr::Variable(_) => after_one(left),
-        Expr::Element(_, a) | Expr::Prefix(_, a) => after_one(after_expr(left, a)?),
-        Expr::Binary(_, operands) => {
+    match e.shape() {
+        Shape::Number { .. } | Shape::Named(_) | Shape::Variable(_) => after_one(left),
+        Shape::Element(_, a) | Shape::Prefix(_, a) => after_one(after_expr(left, a)?),
+        Shape::Binary(_, a, b) => {
             if e.null_test().is_some() {
                 return after_one(left);
             }
-            after_one(after_expr(after_expr(left, &operands.0)?, &operands.1)?)
+            after_one(after_expr(after_expr(left, a)?, b)?)
         }
-        Expr::Paren(a) => after_expr(left, a),
+        Shape::Paren(a) => after_expr(left, a),
     }
 }
 
 /// What is left of `left` after the steps of an expression and one that takes its value.
-fn after_number(left: usize, e: &Expr) -> Option<usize>
-    ensures some { IfSome result (λ rest. rest + expr_steps (expr_tree e.now) + 1 ≡ left) }
-    ensures none { IfNone result (left < expr_steps (expr_tree e.now) + 1) }
+fn after_number(left: usize, e: ExprRef<'_>) -> Option<usize>
+    ensures some { IfSome result (λ rest. rest + expr_steps (ref_tree e.entry) + 1 ≡ left) }
+    ensures none { IfNone result (left < expr_steps (ref_tree e.entry) + 1) }
 {
     after_one(after_expr(left, e)?)
 }
@@ -65,21 +67,21 @@ fn after_argument(
     ensures none { IfNone result (left < argument_steps ints.now (parameter_value parameter, argument_tree argument.now)) }
 {
     match (parameter, argument) {
-        (ParameterKind::IntNumber, Argument::Value(e)) => after_expr(left, e),
-        (ParameterKind::Passed, Argument::Value(e)) => after_passed(left, ints, e),
+        (ParameterKind::IntNumber, Argument::Value(e)) => after_expr(left, e.whole()),
+        (ParameterKind::Passed, Argument::Value(e)) => after_passed(left, ints, e.whole()),
         _ => Some(left),
     }
 }
 
 /// What is left of `left` after the steps of what a method is given.
-fn after_passed(left: usize, ints: &IntNames<'_>, e: &Expr) -> Option<usize>
-    ensures some { IfSome result (λ rest. rest + passed_steps ints.now (expr_tree e.now) ≡ left) }
-    ensures none { IfNone result (left < passed_steps ints.now (expr_tree e.now)) }
+fn after_passed(left: usize, ints: &IntNames<'_>, e: ExprRef<'_>) -> Option<usize>
+    ensures some { IfSome result (λ rest. rest + passed_steps ints.now (ref_tree e.entry) ≡ left) }
+    ensures none { IfNone result (left < passed_steps ints.now (ref_tree e.entry)) }
 {
-    match e {
-        Expr::Named(Constant::Null) => Some(left),
-        Expr::Variable(name) => after_name(left, ints.has(name)),
-        e => after_expr(left, e),
+    match e.shape() {
+        Shape::Named(Constant::Null) => Some(left),
+        Shape::Variable(name) => after_name(left, ints.has(name)),
+        _ => after_expr(left, e),
     }
 }
 
@@ -132,13 +134,13 @@ fn after_call(left: usize, ints: &IntNames<'_>, call: &Call) -> Option<usize>
 }
 
 /// What is left of `left` after the steps of a value for a variable.
-fn after_value(left: usize, e: &Expr) -> Option<usize>
-    ensures some { IfSome result (λ rest. rest + value_steps (expr_tree e.now) ≡ left) }
-    ensures none { IfNone result (left < value_steps (expr_tree e.now)) }
+fn after_value(left: usize, e: ExprRef<'_>) -> Option<usize>
+    ensures some { IfSome result (λ rest. rest + value_steps (ref_tree e.entry) ≡ left) }
+    ensures none { IfNone result (left < value_steps (ref_tree e.entry)) }
 {
-    match e {
-        Expr::Named(Constant::Null) => after_one(left),
-        e => after_number(left, e),
+    match e.shape() {
+        Shape::Named(Constant::Null) => after_one(left),
+        _ => after_number(left, e),
     }
 }
 
@@ -148,7 +150,7 @@ fn after_right(left: usize, ints: &IntNames<'_>, right: &RightSide) -> Option<us
     ensures none { IfNone result (left < right_steps ints.now (right_side_tree right.now)) }
 {
     match right {
-        RightSide::Expr(e) => after_value(left, e),
+        RightSide::Expr(e) => after_value(left, e.whole()),
         RightSide::Call(call) => after_call(left, ints, call),
     }
 }
@@ -159,15 +161,15 @@ fn after_test(left: usize, ints: &IntNames<'_>, test: &Test) -> Option<usize>
     ensures none { IfNone result (left < test_steps ints.now (test_tree test.now)) }
 {
     match test {
-        Test::Expr(e) => after_number(left, e),
+        Test::Expr(e) => after_number(left, e.whole()),
         Test::Call(call) => after_one(after_call(left, ints, call)?),
     }
 }
 
 /// What is left of `left` after the steps of the return of a value.
-fn after_return(left: usize, returns: ResultType, e: &Expr) -> Option<usize>
-    ensures some { IfSome result (λ rest. rest + return_steps (result_tree returns) (expr_tree e.now) ≡ left) }
-    ensures none { IfNone result (left < return_steps (result_tree returns) (expr_tree e.now)) }
+fn after_return(left: usize, returns: ResultType, e: ExprRef<'_>) -> Option<usize>
+    ensures some { IfSome result (λ rest. rest + return_steps (result_tree returns) (ref_tree e.entry) ≡ left) }
+    ensures none { IfNone result (left < return_steps (result_tree returns) (ref_tree e.entry)) }
 {
     match returns {
         ResultType::Jint => after_number(left, e),
@@ -191,7 +193,12 @@ fn after_form(left: usize, ints: &IntNames<'_>, returns: ResultType, form: &Form
                 other,
             )
         }
-        Form::While(test, body) => after_path(after_number(left, test)?, ints, returns, body),
+        Form::While(test, body) => after_path(
+            after_number(left, test.whole())?,
+            ints,
+            returns,
+            body,
+        ),
         _ => after_plain(left, ints, returns, form),
     }
 }
@@ -224,11 +231,11 @@ fn after_plain(left: usize, ints: &IntNames<'_>, returns: ResultType, form: &For
         Form::DeclareChars(_, right) => after_right(left, ints, right),
         Form::DeclareArray(..) => after_one(left),
         Form::Assign(_, right) => after_right(left, ints, right),
-        Form::AssignElement(_, i, e) => after_number(after_expr(left, i)?, e),
+        Form::AssignElement(_, i, e) => after_number(after_expr(left, i.whole())?, e.whole()),
         Form::Perform(call) => after_call(left, ints, call),
-        Form::PutJint(e) => after_number(left, e),
+        Form::PutJint(e) => after_number(left, e.whole()),
         Form::Return(None) => after_one(left),
-        Form::Return(Some(e)) => after_return(left, returns, e),
+        Form::Return(Some(e)) => after_return(left, returns, e.whole()),
         Form::If(..) | Form::IfElse(..) | Form::While(..) => Some(left),
     }
 }

@@ -6,7 +6,7 @@ use Rattle.syntax.specs.Views.{stmt_tree, result_tree}
 use Rattle.syntax.specs.declared.stmt.Stmt.{Stmt as StmtInMemory}
 use Rattle.syntax.specs.declared.stmt.Block.{out-Block}
 use Rattle.syntax.proofs.Blocks.{block_is, statements_tree}
-use Rattle.code_meaning.specs.Length.{block_steps, stmt_steps}
+use Rattle.code_meaning.specs.Length.{expr_steps, block_steps, stmt_steps}
 use Rattle.step_counts.proofs.Left.{some_by, none_by}
 use Rattle.step_counts.proofs.length.+statements.Goals as goal
 
@@ -47,7 +47,7 @@ pub after_form-returns-in_err-after_number-in-While-clause-some : goal.after_for
 after_form-returns-in_err-after_number-in-While-clause-some t c = λ line. rw c.from_residual-in_err-after_number-in-While.ensures tt
 
 pub after_form-returns-in_err-after_number-in-While-clause-none : goal.after_form-returns-in_err-after_number-in-While-clause-none
-after_form-returns-in_err-after_number-in-While-clause-none t c = λ line. rw (c.from_residual-in_err-after_number-in-While.ensures, c.in-While.is) (omega (arith, c.in_err-after_number-in-While.ensures.none))
+after_form-returns-in_err-after_number-in-While-clause-none t c = λ line. rw (c.from_residual-in_err-after_number-in-While.ensures, c.in-While.is) (omega (arith, c.in_err-after_number-in-While.ensures.none, ap expr_steps c.whole.ensures))
 
 pub after_path-returns-in_err-after_block-clause-some : goal.after_path-returns-in_err-after_block-clause-some
 after_path-returns-in_err-after_block-clause-some t c = rw c.from_residual.ensures tt
@@ -82,10 +82,10 @@ pub after_form-returns-in_ok-after_first-in-IfElse-clause-none : goal.after_form
 after_form-returns-in_ok-after_first-in-IfElse-clause-none t c = λ line. rw c.in-IfElse.is (none_by c.after_path.result _ _ (λ e. omega (arith, e, c.in_ok-after_first-in-IfElse.ensures.some)) c.after_path.ensures.none)
 
 pub after_form-returns-in_ok-after_number-in-While-clause-some : goal.after_form-returns-in_ok-after_number-in-While-clause-some
-after_form-returns-in_ok-after_number-in-While-clause-some t c = λ line. rw c.in-While.is (some_by c.after_path-in-While.result _ _ (λ x e. omega (arith, e, c.in_ok-after_number-in-While.ensures.some)) c.after_path-in-While.ensures.some)
+after_form-returns-in_ok-after_number-in-While-clause-some t c = λ line. rw c.in-While.is (some_by c.after_path-in-While.result _ _ (λ x e. omega (arith, e, c.in_ok-after_number-in-While.ensures.some, ap expr_steps c.whole.ensures)) c.after_path-in-While.ensures.some)
 
 pub after_form-returns-in_ok-after_number-in-While-clause-none : goal.after_form-returns-in_ok-after_number-in-While-clause-none
-after_form-returns-in_ok-after_number-in-While-clause-none t c = λ line. rw c.in-While.is (none_by c.after_path-in-While.result _ _ (λ e. omega (arith, e, c.in_ok-after_number-in-While.ensures.some)) c.after_path-in-While.ensures.none)
+after_form-returns-in_ok-after_number-in-While-clause-none t c = λ line. rw c.in-While.is (none_by c.after_path-in-While.result _ _ (λ e. omega (arith, e, c.in_ok-after_number-in-While.ensures.some, ap expr_steps c.whole.ensures)) c.after_path-in-While.ensures.none)
 
 pub after_form-returns-in_default : goal.after_form-returns-in_default
 after_form-returns-in_default t c = record { some = c.after_plain.ensures.some; none = c.after_plain.ensures.none }
