@@ -2,7 +2,8 @@
 
 ghost use Rattle.std.specs.Prelude.{◌≡◌, ◌+◌, ◌-◌, ◌<◌, ◌≤◌, [], ◌∷◌, ◌++◌, slice_set, vec_len, map, IfOk, OnOk, IsTrue};
 ghost use Rattle.base.specs.Bytes.{lookup};
-ghost use Rattle.syntax.specs.Views.{expr_tree, argument_tree, call_tree, right_side_tree, test_tree, form_tree, block_tree};
+ghost use Rattle.syntax.specs.Shapes.{ref_tree};
+ghost use Rattle.syntax.specs.Views.{argument_tree, call_tree, right_side_tree, test_tree, form_tree, block_tree};
 ghost use Rattle.jni.specs.JniFunction.{function_named};
 ghost use Rattle.jni.specs.Table.{function_value, parameter_value};
 ghost use Rattle.type_rules.specs.TypeViews.{type_value};
@@ -22,7 +23,9 @@ use code::instr::{BoxedCall, Instr, LocalArray, Operand, ReferenceOperand, Relea
 use code_meaning::Parameters;
 use jni::{JniFunction, ParameterKind, function_named};
 use std::alloc::{AllocError, Global};
-use syntax::{Argument, Block, Call, Constant, ElementType, Expr, Form, Name, RightSide, Test};
+use syntax::{
+    Argument, Block, Call, Constant, ElementType, ExprRef, Form, Name, RightSide, Shape, Test,
+};
 use type_rules::{ExprType, variable_type};
 
 /// A statement on this line, with the names that are known after it.
@@ -46,7 +49,7 @@ pub fn emit_form<'a>(
             emit_block(code, names, second)?;
             emit_end(code, end)
         }
-        Form::While(test, body) => emit_loop(code, names, line, body, test),
+        Form::While(test, body) => emit_loop(code, names, line, body, test.whole()),
         _ => emit_plain(code, names, line, form),
     }
 }
@@ -65,12 +68,12 @@ fn emit_plain<'a>(
     match form {
         Form::Assign(name, right) => emit_assignment(code, names, line, name, right),
         Form::AssignElement(name, index, value) => {
-            emit_element_set(code, names, line, name, index, value)
+            emit_element_set(code, names, line, name, index.whole(), value.whole())
         }
         Form::Perform(call) => emit_call(code, names, line, Target::Dropped, call),
-        Form::PutJint(number) => emit_print(code, names, line, number),
+        Form::PutJint(number) => emit_print(code, names, line, number.whole()),
         Form::Return(None) => emit(code, Instr::Return),
-        Form::Return(Some(value)) => emit_return(code, names, line, value),
+        Form::Return(Some(value)) => emit_return(code, names, line, value.whole()),
         Form::If(..) | Form::IfElse(..) | Form::While(..) => Ok(()),
         _ => emit_declaring(code, names, line, form),
     }
@@ -184,10 +187,10 @@ fn emit_loop<'a>(
     names: &mut Names<'a>,
     line: u32,
     body: &'a Block,
-    test: &Expr,
+    test: ExprRef<'_>,
 ) -> Result<(), AllocError>
     ensures code { OnOk result (code.new.items ≡ code.old.items
-        ++ loop_code (expr_code names.old.known line (expr_tree test.now))
+        ++ loop_code (expr_code names.old.known line (ref_tree test.entry))
         (block_code names.old (block_tree body.now))) }
     ensures names { OnOk result (names.new ≡ closed names.old (block_layout names.old (block_tree body.now))) }
 {
@@ -224,7 +227,7 @@ fn emit_test(
     ensures { OnOk result (code.new.items ≡ code.old.items ++ test_code names.now.known line (test_tree test.now)) }
 {
     match test {
-        Test::Expr(expr) => emit_expr(code, names, line, expr),
+        Test::Expr(expr) => emit_expr(code, names, line, expr.whole()),
         Test::Call(call) => emit_call(code, names, line, Target::Test, call),
     }
 }
@@ -289,14 +292,16 @@ fn emit_right(
     ensures { OnOk result (code.new.items ≡ code.old.items ++ right_code names.now.known line (slot_view slot) (right_side_tree right.now)) }
 {
     match right {
-        RightSide::Expr(Expr::Named(Constant::Null)) => match nullable(slot) {
-            Some(variable) => emit(code, Instr::StoreNull(variable)),
-            None => Ok(()),
+        RightSide::Expr(value) => match value.whole().shape() {
+            Shape::Named(Constant::Null) => match nullable(slot) {
+                Some(variable) => emit(code, Instr::StoreNull(variable)),
+                None => Ok(()),
+            },
+            _ => {
+                emit_expr(code, names, line, value.whole())?;
+                emit(code, Instr::Store(slot.index))
+            }
         },
-        RightSide::Expr(value) => {
-            emit_expr(code, names, line, value)?;
-            emit(code, Instr::Store(slot.index))
-        }
         RightSide::Call(call) => emit_call(code, names, line, result_target(slot), call),
     }
 }
@@ -322,12 +327,12 @@ fn emit_element_set(
     names: &Names<'_>,
     line: u32,
     name: &Name,
-    index: &Expr,
-    value: &Expr,
+    index: ExprRef<'_>,
+    value: ExprRef<'_>,
 ) -> Result<(), AllocError>
     ensures { OnOk result (code.new.items ≡ code.old.items
-        ++ (expr_code names.now.known line (expr_tree index.now)
-        ++ (expr_code names.now.known line (expr_tree value.now)
+        ++ (expr_code names.now.known line (ref_tree index.entry)
+        ++ (expr_code names.now.known line (ref_tree value.entry)
         ++ of_slot (write_code line) (lookup name.now names.now.known)))) }
 {
     emit_expr(code, names, line, index)?;
@@ -340,9 +345,9 @@ fn emit_print(
     code: &mut Vec<Instr>,
     names: &Names<'_>,
     line: u32,
-    number: &Expr,
+    number: ExprRef<'_>,
 ) -> Result<(), AllocError>
-    ensures { OnOk result (code.new.items ≡ code.old.items ++ (expr_code names.now.known line (expr_tree number.now) ++ Instr.PutJint ∷ [])) }
+    ensures { OnOk result (code.new.items ≡ code.old.items ++ (expr_code names.now.known line (ref_tree number.entry) ++ Instr.PutJint ∷ [])) }
 {
     emit_expr(code, names, line, number)?;
     emit(code, Instr::PutJint)
@@ -466,9 +471,11 @@ fn emit_argument(
 {
     match (parameter, argument) {
         (ParameterKind::IntNumber, Argument::Value(number)) => {
-            emit_expr(code, names, line, number)
+            emit_expr(code, names, line, number.whole())
         }
-        (ParameterKind::Passed, Argument::Value(given)) => { emit_passed(code, names, line, given) }
+        (ParameterKind::Passed, Argument::Value(given)) => {
+            emit_passed(code, names, line, given.whole())
+        }
         _ => Ok(()),
     }
 }
@@ -478,14 +485,14 @@ fn emit_passed(
     code: &mut Vec<Instr>,
     names: &Names<'_>,
     line: u32,
-    given: &Expr,
+    given: ExprRef<'_>,
 ) -> Result<(), AllocError>
-    ensures { OnOk result (code.new.items ≡ code.old.items ++ passed_rest names.now.known line (expr_tree given.now)) }
+    ensures { OnOk result (code.new.items ≡ code.old.items ++ passed_rest names.now.known line (ref_tree given.entry)) }
 {
-    match given {
-        Expr::Named(Constant::Null) => Ok(()),
-        Expr::Variable(name) => emit_number(code, names, name),
-        number => emit_expr(code, names, line, number),
+    match given.shape() {
+        Shape::Named(Constant::Null) => Ok(()),
+        Shape::Variable(name) => emit_number(code, names, name),
+        _ => emit_expr(code, names, line, given),
     }
 }
 
@@ -547,13 +554,15 @@ fn operand_of(names: &Names<'_>, parameter: ParameterKind, argument: &Argument) 
 {
     match (parameter, argument) {
         (ParameterKind::IntNumber, Argument::Value(_)) => Operand::Number,
-        (ParameterKind::Passed, Argument::Value(given)) => passed_operand(names, given),
-        (ParameterKind::Mode, Argument::Value(mode)) => Operand::Mode(release_mode(mode)),
-        (_, Argument::Value(Expr::Variable(name))) => match names.slot_of(name) {
-            Some(Slot { ty, index }) => variable_operand(ty, index),
-            None => Operand::Null,
+        (ParameterKind::Passed, Argument::Value(given)) => passed_operand(names, given.whole()),
+        (ParameterKind::Mode, Argument::Value(mode)) => Operand::Mode(release_mode(mode.whole())),
+        (_, Argument::Value(given)) => match given.whole().shape() {
+            Shape::Variable(name) => match names.slot_of(name) {
+                Some(Slot { ty, index }) => variable_operand(ty, index),
+                None => Operand::Null,
+            },
+            _ => Operand::Null,
         },
-        (_, Argument::Value(_)) => Operand::Null,
         (_, Argument::Text(_)) => Operand::Text,
         (_, Argument::AddressOf(name)) => match names.slot_of(name) {
             Some(Slot { ty: _, index }) => Operand::IsCopy(index),
@@ -563,12 +572,12 @@ fn operand_of(names: &Names<'_>, parameter: ParameterKind, argument: &Argument) 
 }
 
 /// Where what a method is given is found.
-fn passed_operand(names: &Names<'_>, given: &Expr) -> Operand
-    ensures { result ≡ passed_code names.now.known (expr_tree given.now) }
+fn passed_operand(names: &Names<'_>, given: ExprRef<'_>) -> Operand
+    ensures { result ≡ passed_code names.now.known (ref_tree given.entry) }
 {
-    match given {
-        Expr::Named(Constant::Null) => Operand::Null,
-        Expr::Variable(name) => match names.slot_of(name) {
+    match given.shape() {
+        Shape::Named(Constant::Null) => Operand::Null,
+        Shape::Variable(name) => match names.slot_of(name) {
             Some(
                 Slot {
                     ty: ExprType::Jint,
@@ -583,12 +592,12 @@ fn passed_operand(names: &Names<'_>, given: &Expr) -> Operand
 }
 
 /// The mode that stands for `JNI_COMMIT`, `JNI_ABORT` or 0.
-fn release_mode(mode: &Expr) -> ReleaseMode
-    ensures { result ≡ mode_code (mode_of (expr_tree mode.now)) }
+fn release_mode(mode: ExprRef<'_>) -> ReleaseMode
+    ensures { result ≡ mode_code (mode_of (ref_tree mode.entry)) }
 {
-    match mode {
-        Expr::Named(Constant::Commit) => ReleaseMode::CopyBack,
-        Expr::Named(Constant::Abort) => ReleaseMode::FreeUncopied,
+    match mode.shape() {
+        Shape::Named(Constant::Commit) => ReleaseMode::CopyBack,
+        Shape::Named(Constant::Abort) => ReleaseMode::FreeUncopied,
         _ => ReleaseMode::CopyBackAndFree,
     }
 }
@@ -629,16 +638,16 @@ fn emit_return(
     code: &mut Vec<Instr>,
     names: &Names<'_>,
     line: u32,
-    value: &Expr,
+    value: ExprRef<'_>,
 ) -> Result<(), AllocError>
-    ensures { OnOk result (code.new.items ≡ code.old.items ++ return_code names.now.known line (term_of (expr_tree value.now))) }
+    ensures { OnOk result (code.new.items ≡ code.old.items ++ return_code names.now.known line (term_of (ref_tree value.entry))) }
 {
-    match value {
-        Expr::Named(Constant::Null) => {
+    match value.shape() {
+        Shape::Named(Constant::Null) => {
             emit(code, Instr::ReturnReference(ReferenceOperand::Null))
         }
-        Expr::Variable(name) => emit_returned(code, names, name),
-        Expr::Paren(inner) => emit_return(code, names, line, inner),
+        Shape::Variable(name) => emit_returned(code, names, name),
+        Shape::Paren(inner) => emit_return(code, names, line, inner),
         _ => {
             emit_expr(code, names, line, value)?;
             emit(code, Instr::ReturnJint)

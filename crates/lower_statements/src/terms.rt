@@ -3,8 +3,9 @@
 ghost use Rattle.std.specs.Prelude.{◌≡◌, ◌-◌, ◌<◌, [], ◌∷◌, ◌++◌, slice_set, vec_len, None, OnOk};
 ghost use Rattle.base.specs.Bytes.{lookup};
 ghost use Rattle.syntax.specs.Parts.{null_tested};
+ghost use Rattle.syntax.specs.Shapes.{ref_tree};
 ghost use Rattle.syntax.specs.Tree.{Binary};
-ghost use Rattle.syntax.specs.Views.{constant_tree, prefix_tree, binary_tree, expr_tree};
+ghost use Rattle.syntax.specs.Views.{constant_tree, prefix_tree, binary_tree};
 ghost use Rattle.semantics.specs.Term as term;
 ghost use Rattle.semantics.specs.Term.{term_of};
 ghost use Rattle.code_meaning.specs.Coding.{nullable_of, element_code, null_code, of_slot, load_code, constant_code, prefix_code, operator_code, is_signed, skip_code, logical_code, term_code, expr_code};
@@ -14,7 +15,7 @@ use crate::emitting::{counted, emit, replace};
 use crate::names::{Names, Slot};
 use code::instr::{Instr, LocalArray, NullableVariable, Operator, TrappingOperator};
 use std::alloc::AllocError;
-use syntax::{BinaryOp, Constant, Expr, Name, PrefixOp};
+use syntax::{BinaryOp, Constant, ExprRef, Name, PrefixOp, Shape};
 use type_rules::ExprType;
 
 /// An expression in a statement on this line. What no accepted program has becomes nothing.
@@ -23,27 +24,27 @@ pub fn emit_expr(
     code: &mut Vec<Instr>,
     names: &Names<'_>,
     line: u32,
-    expr: &Expr,
+    expr: ExprRef<'_>,
 ) -> Result<(), AllocError>
-    ensures { OnOk result (code.new.items ≡ code.old.items ++ expr_code names.now.known line (expr_tree expr.now)) }
+    ensures { OnOk result (code.new.items ≡ code.old.items ++ expr_code names.now.known line (ref_tree expr.entry)) }
 {
-    match expr {
-        Expr::Number { value, .. } => emit(code, Instr::Push(*value)),
-        Expr::Named(constant) => emit_constant(code, *constant),
-        Expr::Variable(name) => emit_variable(code, names, name),
-        Expr::Element(name, index) => {
+    match expr.shape() {
+        Shape::Number { value, .. } => emit(code, Instr::Push(value)),
+        Shape::Named(constant) => emit_constant(code, constant),
+        Shape::Variable(name) => emit_variable(code, names, name),
+        Shape::Element(name, index) => {
             emit_expr(code, names, line, index)?;
             emit_element(code, names, line, name)
         }
-        Expr::Prefix(operator, operand) => {
+        Shape::Prefix(operator, operand) => {
             emit_expr(code, names, line, operand)?;
-            emit(code, prefix_instr(*operator))
+            emit(code, prefix_instr(operator))
         }
-        Expr::Binary(operator, operands) => match expr.null_test() {
+        Shape::Binary(operator, left, right) => match expr.null_test() {
             Some(test) => emit_null_test(code, names, test.name, test.equal),
-            None => emit_binary(code, names, line, *operator, &operands.0, &operands.1),
+            None => emit_binary(code, names, line, operator, left, right),
         },
-        Expr::Paren(inner) => emit_expr(code, names, line, inner),
+        Shape::Paren(inner) => emit_expr(code, names, line, inner),
     }
 }
 
@@ -104,12 +105,12 @@ fn emit_binary(
     names: &Names<'_>,
     line: u32,
     operator: BinaryOp,
-    left: &Expr,
-    right: &Expr,
+    left: ExprRef<'_>,
+    right: ExprRef<'_>,
 ) -> Result<(), AllocError>
-    requires { null_tested (Binary (binary_tree operator) (expr_tree left.now) (expr_tree right.now)) ≡ None }
+    requires { null_tested (Binary (binary_tree operator) (ref_tree left) (ref_tree right)) ≡ None }
     ensures { OnOk result (code.new.items ≡ code.old.items
-        ++ expr_code names.now.known line (Binary (binary_tree operator) (expr_tree left.now) (expr_tree right.now))) }
+        ++ expr_code names.now.known line (Binary (binary_tree operator) (ref_tree left.entry) (ref_tree right.entry))) }
 {
     match operator {
         BinaryOp::LogicalAnd => emit_logical(code, names, line, true, left, right),
@@ -140,12 +141,12 @@ fn emit_operator(
     names: &Names<'_>,
     line: u32,
     operator: BinaryOp,
-    left: &Expr,
-    right: &Expr,
+    left: ExprRef<'_>,
+    right: ExprRef<'_>,
 ) -> Result<(), AllocError>
     ensures { OnOk result (code.new.items ≡ code.old.items
-        ++ term_code names.now.known line (term.Binary (binary_tree operator) (term_of (expr_tree left.now))
-        (term_of (expr_tree right.now)))) }
+        ++ term_code names.now.known line (term.Binary (binary_tree operator) (term_of (ref_tree left.entry))
+        (term_of (ref_tree right.entry)))) }
 {
     emit_expr(code, names, line, left)?;
     emit_expr(code, names, line, right)?;
@@ -158,10 +159,10 @@ fn emit_operation(
     names: &Names<'_>,
     line: u32,
     operator: BinaryOp,
-    left: &Expr,
+    left: ExprRef<'_>,
 ) -> Result<(), AllocError>
     ensures { OnOk result (code.new.items ≡ code.old.items
-        ++ operator_code line (is_signed names.now.known (term_of (expr_tree left.now))) (binary_tree operator) ∷ []) }
+        ++ operator_code line (is_signed names.now.known (term_of (ref_tree left.entry))) (binary_tree operator) ∷ []) }
 {
     let signed = is_signed(names, left);
     emit(code, operator_instr(line, signed, operator))
@@ -174,12 +175,12 @@ fn emit_logical(
     names: &Names<'_>,
     line: u32,
     conjunction: bool,
-    left: &Expr,
-    right: &Expr,
+    left: ExprRef<'_>,
+    right: ExprRef<'_>,
 ) -> Result<(), AllocError>
     ensures { OnOk result (code.new.items ≡ code.old.items
-        ++ logical_code conjunction (expr_code names.now.known line (expr_tree left.now))
-        (expr_code names.now.known line (expr_tree right.now))) }
+        ++ logical_code conjunction (expr_code names.now.known line (ref_tree left.entry))
+        (expr_code names.now.known line (ref_tree right.entry))) }
 {
     emit_expr(code, names, line, left)?;
     let place = code.len();
@@ -241,18 +242,18 @@ pub fn nullable(slot: Slot) -> Option<NullableVariable>
 }
 
 /// Whether an operand is a `jint`.
-fn is_signed(names: &Names<'_>, operand: &Expr) -> bool
-    ensures { result ≡ is_signed names.now.known (term_of (expr_tree operand.now)) }
+fn is_signed(names: &Names<'_>, operand: ExprRef<'_>) -> bool
+    ensures { result ≡ is_signed names.now.known (term_of (ref_tree operand.entry)) }
 {
-    match operand {
-        Expr::Number { unsigned, .. } => !*unsigned,
-        Expr::Variable(name) => match names.slot_of(name) {
+    match operand.shape() {
+        Shape::Number { unsigned, .. } => !unsigned,
+        Shape::Variable(name) => match names.slot_of(name) {
             Some(slot) => matches!(slot.ty, ExprType::Jint),
             None => false,
         },
-        Expr::Element(..) | Expr::Prefix(PrefixOp::ToInt, _) => true,
-        Expr::Paren(inner) => is_signed(names, inner),
-        Expr::Named(_) | Expr::Prefix(..) | Expr::Binary(..) => false,
+        Shape::Element(..) | Shape::Prefix(PrefixOp::ToInt, _) => true,
+        Shape::Paren(inner) => is_signed(names, inner),
+        Shape::Named(_) | Shape::Prefix(..) | Shape::Binary(..) => false,
     }
 }
 

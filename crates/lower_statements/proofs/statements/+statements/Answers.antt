@@ -213,7 +213,7 @@ pub emit_form-returns-in_ok-end-in-If-clause-names : goal.emit_form-returns-in_o
 emit_form-returns-in_ok-end-in-If-clause-names t c = rw c.in-If.is (on_always c.emit_end.result _ c.in_ok-end-in-If.ensures.names)
 
 pub emit_form-returns-in-While-clause-code : goal.emit_form-returns-in-While-clause-code
-emit_form-returns-in-While-clause-code t c = rw c.in-While.is c.emit_loop.ensures.code
+emit_form-returns-in-While-clause-code t c = rw c.in-While.is (rw c.whole.ensures at c.emit_loop.ensures.code)
 
 pub emit_form-returns-in-While-clause-names : goal.emit_form-returns-in-While-clause-names
 emit_form-returns-in-While-clause-names t c = rw c.in-While.is c.emit_loop.ensures.names

@@ -1,12 +1,5 @@
-use Rattle.std.proofs.Common.{◌≡◌, ℕ, ◌-◌, ◌<◌, Bool, Box, Global, List, [], ◌∷◌, ◌++◌, length, Option, None, refl, sym, ◌∙◌, ap, rules, arith, length-append}
+use Rattle.std.proofs.Common.{◌≡◌, ℕ, ◌-◌, Bool, List, [], ◌∷◌, ◌++◌, length, refl, ◌∙◌, ap, arith, length-append}
 use Rattle.std.specs.Prelude.{slice_set, vec_len}
-use Rattle.std.specs.Option.{option_map}
-use Rattle.syntax.specs.declared.expr.BinaryOp.{BinaryOp}
-use Rattle.syntax.specs.declared.expr.Expr.{Expr as ExprInMemory, Binary, size-Expr, the_lemmas}
-use Rattle.syntax.specs.declared.expr.NullTest.{NullTest}
-use Rattle.syntax.specs.Parts.{null_tested}
-use Rattle.syntax.specs.Tree as tree
-use Rattle.syntax.specs.Views.{binary_tree, expr_tree}
 use Rattle.code.specs.declared.instr.Instr.{Instr}
 use Rattle.code_meaning.specs.Coding.{skip_code, logical_code}
 use Rattle.lower_statements.proofs.Jumps.{on_ok, side_made}
@@ -31,20 +24,3 @@ emit_logical-returns t c =
     side_whole both c.args.code.now.items _ _ whole.items _ _ _ jump _ c.in_ok-emit_expr.ensures c.in_ok-emit.ensures c.in_ok-emit_expr-2.ensures c.skip.ensures (omega (arith, c.len-place.ensures))
     (e ∙ ap (λ n. slice_set whole.items jump (skip_code both (n - jump - 1))) whole.ok.0))
     c.close_side.ensures
-
--- an operand is less deep than the whole
-left_size : (op : BinaryOp) (operands : Box (ExprInMemory × ExprInMemory) Global) → size-Expr operands.value.0 < size-Expr (Binary op operands)
-left_size op operands = search (rules, the_lemmas)
-
-right_size : (op : BinaryOp) (operands : Box (ExprInMemory × ExprInMemory) Global) → size-Expr operands.value.1 < size-Expr (Binary op operands)
-right_size op operands = search (rules, the_lemmas)
-
-pub emit_expr-emit_binary-requires : goal.emit_expr-emit_binary-requires
-emit_expr-emit_binary-requires t c =
-    let first = left_size c.in-Binary.operator c.in-Binary.operands in
-    let second = right_size c.in-Binary.operator c.in-Binary.operands in
-    let none : null_tested (expr_tree c.args.expr.now) ≡ None = sym c.null_test.ensures.name ∙ ap (λ (o : Option NullTest). option_map (λ (t : NullTest). t.name.now) o) c.in-None.is in
-    let plain : null_tested (expr_tree (Binary c.in-Binary.operator c.in-Binary.operands)) ≡ None = ap (λ (e : ExprInMemory). null_tested (expr_tree e)) (sym c.in-Binary.is) ∙ none in (
-      omega (arith, c.decreases, first, second, ap size-Expr c.in-Binary.is, ap (λ (o : ExprInMemory × ExprInMemory). size-Expr o.0) c.deref-in-None.ensures, ap (λ (o : ExprInMemory × ExprInMemory). size-Expr o.1) c.deref-in-None-2.ensures),
-      (λ i. null_tested (tree.Binary (binary_tree c.in-Binary.operator) (expr_tree (c.deref-in-None.ensures i).0) (expr_tree (c.deref-in-None-2.ensures i).1))) ∙ plain,
-    )
