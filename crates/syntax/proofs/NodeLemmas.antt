@@ -13,8 +13,7 @@ use Rattle.syntax.specs.declared.node.Node.TheVariants as node
 use Rattle.syntax.specs.declared.expr.Constant.{Constant as ConstantInMemory}
 use Rattle.syntax.specs.declared.expr.PrefixOp.{PrefixOp as PrefixInMemory}
 use Rattle.syntax.specs.declared.expr.BinaryOp.{BinaryOp as BinaryInMemory}
-use Rattle.syntax.specs.Limits.{size}
-use Rattle.syntax.specs.Nodes.{top, before_top, onto, HasOperands, trees_after, tree_of, Spells, number, named, variable, element, prefix, binary, paren, IsWhole, SpellAll, none, more, AreWhole}
+use Rattle.syntax.specs.Nodes.{size, top, before_top, onto, HasOperands, trees_after, tree_of, Spells, number, named, variable, element, prefix, binary, paren, IsWhole, SpellAll, none, more, AreWhole}
 use Rattle.syntax.specs.Operators.{constant_tree, prefix_tree, binary_tree}
 use Rattle.syntax.specs.Tree.{Expr, Expr-set, Constant-set, PrefixOp-set, BinaryOp-set, PrefixOp, BinaryOp, Number, Named, Variable, Element, Prefix, Binary, Paren}
 

@@ -66,16 +66,6 @@ abbrev pub text_of_bytes : Argument → Bool
 text_of_bytes (Text bytes) = list_all (λ b. nat_lt b 256) bytes
 text_of_bytes a = true
 
--- how many numbers, names, constants, operators and parentheses an expression has
-unfoldable pub size : Expr → ℕ
-size (Number n unsigned) = 1
-size (Named c) = 1
-size (Variable x) = 1
-size (Element x i) = 1 + size i
-size (Prefix op a) = 1 + size a
-size (Binary op a b) = 1 + size a + size b
-size (Paren a) = 1 + size a
-
 -- operators, parentheses, casts, indexes and blocks inside one another
 abbrev pub height : Expr → ℕ
 height (Number n unsigned) = 0

@@ -1,5 +1,5 @@
 -- How the nodes of expressions lie in memory, and which trees they spell.
-use Rattle.std.specs.Prelude.{◌≡◌, ℕ, Bool, true, List, [], ◌∷◌, ◌++◌, length, ◌≤◌}
+use Rattle.std.specs.Prelude.{◌≡◌, ℕ, ◌+◌, Bool, true, List, [], ◌∷◌, ◌++◌, length, ◌≤◌}
 use Rattle.base.specs.Bytes.{Identifier}
 use Rattle.syntax.specs.declared.node.Node.{Node}
 use Rattle.syntax.specs.declared.node.Node.TheVariants as node
@@ -8,9 +8,18 @@ use Rattle.syntax.specs.declared.node.Held.TheVariants as held
 use Rattle.syntax.specs.declared.expr.Constant.{Constant as ConstantInMemory}
 use Rattle.syntax.specs.declared.expr.PrefixOp.{PrefixOp as PrefixInMemory}
 use Rattle.syntax.specs.declared.expr.BinaryOp.{BinaryOp as BinaryInMemory}
-use Rattle.syntax.specs.Limits.{size}
 use Rattle.syntax.specs.Operators.{constant_tree, prefix_tree, binary_tree}
 use Rattle.syntax.specs.Tree.{Expr, Number, Named, Variable, Element, Prefix, Binary, Paren}
+
+-- how many numbers, names, constants, operators and parentheses an expression has
+unfoldable pub size : Expr → ℕ
+size (Number n unsigned) = 1
+size (Named c) = 1
+size (Variable x) = 1
+size (Element x i) = 1 + size i
+size (Prefix op a) = 1 + size a
+size (Binary op a b) = 1 + size a + size b
+size (Paren a) = 1 + size a
 
 -- ---- postfix notation, with the last tree first
 

@@ -3,9 +3,8 @@ use Rattle.std.specs.Prelude.{ℕ, ◌<◌}
 use Rattle.syntax.specs.declared.expr_ref.ExprRef.{ExprRef}
 use Rattle.syntax.specs.declared.expr_ref.Shape.{Shape}
 use Rattle.syntax.specs.declared.expr_ref.Shape.TheVariants as shape
-use Rattle.syntax.specs.Limits.{size}
 use Rattle.syntax.specs.Tree.{Expr, Number, Named, Variable, Element, Prefix, Binary, Paren}
-use Rattle.syntax.specs.Nodes.{tree_of}
+use Rattle.syntax.specs.Nodes.{size, tree_of}
 use Rattle.syntax.specs.Operators.{constant_tree, prefix_tree, binary_tree}
 
 -- the tree of a part of an expression

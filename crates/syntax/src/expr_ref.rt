@@ -56,12 +56,12 @@ impl Expr {
 
 impl<'a> ExprRef<'a> {
     ghost use Rattle.std.specs.Prelude.{◌≡◌};
-    ghost use Rattle.syntax.specs.Limits.{size};
+    ghost use Rattle.syntax.specs.Nodes.{size};
     ghost use Rattle.syntax.specs.Shapes.{ref_tree, shape_tree, PartsBelow};
 
     /// What it is at its top.
     #[inline(always)]
-    #[tactic(auto, unfolding(crate::specs::Shapes::ref_tree, crate::specs::Limits::size))]
+    #[tactic(auto, unfolding(crate::specs::Shapes::ref_tree, crate::specs::Nodes::size))]
     pub fn shape(self) -> Shape<'a>
         ensures tree { shape_tree result ≡ ref_tree self.entry }
         ensures below { PartsBelow (size (ref_tree self.entry)) result }

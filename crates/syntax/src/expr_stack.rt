@@ -18,8 +18,7 @@ pub struct ExprStack {
 impl ExprStack {
     ghost use Rattle.std.specs.Prelude.{◌≡◌, ◌≤◌, ◌<◌, [], ◌∷◌, length, IfOk, OnOk};
     ghost use Rattle.std.specs.List.{sum_by};
-    ghost use Rattle.syntax.specs.Limits.{size};
-    ghost use Rattle.syntax.specs.Nodes.{top, before_top, on_top, on_two, onto, HasOperands};
+    ghost use Rattle.syntax.specs.Nodes.{size, top, before_top, on_top, on_two, onto, HasOperands};
     ghost use Rattle.syntax.specs.Operators.{constant_tree, prefix_tree, binary_tree};
     ghost use Rattle.syntax.specs.Stacks.{stacked};
     ghost use Rattle.syntax.specs.Tree.{Number, Named, Variable, Element, Prefix, Binary, Paren};

@@ -3,7 +3,7 @@
 use crate::expr::{BinaryOp, Constant, PrefixOp};
 use crate::name::Name;
 
-/// What an expression has one of for each of its numbers, constants, names, operators and parentheses.
+/// A node of an expression: a number, a constant, a name, an operator or parentheses. What is inside it isn't in it.
 #[derive(Drop)]
 pub(crate) enum Node {
     /// A number, and whether it ends in `u`.

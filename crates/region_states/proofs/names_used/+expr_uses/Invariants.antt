@@ -1,4 +1,4 @@
-use Rattle.syntax.specs.Limits.{size}
+use Rattle.syntax.specs.Nodes.{size}
 use Rattle.syntax.specs.Shapes.{ref_tree}
 use Rattle.region_states.proofs.names_used.+expr_uses.Given as goal
 

@@ -1,4 +1,4 @@
-use Rattle.syntax.specs.Limits.{size}
+use Rattle.syntax.specs.Nodes.{size}
 use Rattle.syntax.specs.Shapes.{ref_tree}
 use Rattle.step_counts.proofs.length.+after_expr.Given as goal
 

@@ -1,4 +1,4 @@
-use Rattle.syntax.specs.Limits.{size}
+use Rattle.syntax.specs.Nodes.{size}
 use Rattle.syntax.specs.Shapes.{ref_tree}
 use Rattle.type_rules.proofs.names.+first_in_expr.Given as goal
 

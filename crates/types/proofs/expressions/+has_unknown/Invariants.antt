@@ -1,4 +1,4 @@
-use Rattle.syntax.specs.Limits.{size}
+use Rattle.syntax.specs.Nodes.{size}
 use Rattle.syntax.specs.Shapes.{ref_tree}
 use Rattle.types.proofs.expressions.+has_unknown.Given as goal
 

@@ -1,4 +1,4 @@
-use Rattle.syntax.specs.Limits.{size}
+use Rattle.syntax.specs.Nodes.{size}
 use Rattle.syntax.specs.Shapes.{ref_tree}
 use Rattle.types.proofs.expressions.+value_type_of.Given as goal
 
