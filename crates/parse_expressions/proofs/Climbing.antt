@@ -11,7 +11,7 @@ use Rattle.parse_lexemes.specs.declared.fault.ParseError.TheVariants.{Memory, Fa
 use Rattle.parse_lexemes.specs.Results.{◌>>=◌, Fails}
 use Rattle.parse_lexemes.specs.Lexemes.{Lexed, fault_at}
 use Rattle.parse_expressions.specs.Reading.{ReadExpr, operator_at, climb, climb_step, deeper, operand_at, expr_by, expr_at}
-use Rattle.parse_expressions.specs.Steps.{joined_by, right_by, within}
+use Rattle.parse_expressions.specs.Steps.{right_by, within}
 use Rattle.parse_lexemes.specs.Reading.{rest_of}
 
 -- Some steps are left, and what is read from here is all that is read.
@@ -86,32 +86,32 @@ module _ (room least : ℕ) (left : Expr) (high : ℕ) (ls : List Lexed) (total 
 
   -- the right operand, and what is read after the larger expression
   after_right : (op : BinaryOp) → Result ReadExpr ParseError → Result ReadExpr ParseError
-  after_right op right = joined_by op (left, high, ls) right >>= λ r. climb (deeper room) room least c.steps r.0 r.1 r.2
+  after_right op right = right >>= λ r. climb (deeper room) room least c.steps (Binary op left r.0) (1 + max high r.1) r.2
 
   joined : (op : BinaryOp) → Some op ≡ operator_at ls → least ≤ operator_level op → total ≡ after_right op (right_by (deeper room) room high op ls)
   unfolding after_right
   joined op e le = sym (step_is (Some op) e) ∙ rw (le-ltb (operator_level op) least le) (chosen (nat_lt high room))
     where
-      one : (r : Result ReadExpr ParseError) → (r >>= λ r. climb (deeper room) room least c.steps (Binary op left r.0) (1 + max high r.1) r.2) ≡ after_right op r
-      one (Ok r) = refl
-      one (Err f) = refl
-
       chosen : (b : Bool) → (if b then (deeper room (operator_level op + 1) (rest_of ls) >>= λ r. climb (deeper room) room least c.steps (Binary op left r.0) (1 + max high r.1) r.2) else Err (fault_at TooHigh ls))
           ≡ after_right op (if b then deeper room (operator_level op + 1) (rest_of ls) else Err (fault_at TooHigh ls))
-      chosen true = one (deeper room (operator_level op + 1) (rest_of ls))
+      chosen true = refl
       chosen false = refl
 
-  pub climb_fails : (op : BinaryOp) (f : ParseError) → Some op ≡ operator_at ls → least ≤ operator_level op → Fails f (joined_by op (left, high, ls) (right_by (deeper room) room high op ls)) → Fails f total
+  pub climb_fails : (op : BinaryOp) (f : ParseError) → Some op ≡ operator_at ls → least ≤ operator_level op → Fails f (right_by (deeper room) room high op ls) → Fails f total
   unfolding after_right
   climb_fails op Memory e le h = tt
   climb_fails op (Fault broken) e le h = joined op e le ∙ rw h refl
 
-  pub climb_on : (op : BinaryOp) (next : Expr) (high' : ℕ) (rest : List Lexed) → Some op ≡ operator_at ls → least ≤ operator_level op → high < high' → high' ≤ room → joined_by op (left, high, ls) (right_by (deeper room) room high op ls) ≡ Ok (next, high', rest) → Climbs room least next high' rest total
+  pub climb_on : (op : BinaryOp) (right : Expr) (height : ℕ) (rest : List Lexed) → Some op ≡ operator_at ls → least ≤ operator_level op → high < room → height < room → right_by (deeper room) room high op ls ≡ Ok (right, height, rest) → Climbs room least (Binary op left right) (1 + max high height) rest total
   unfolding after_right
-  climb_on op next high' rest e le higher low h =
-      let on : climb (deeper room) room least c.steps next high' rest ≡ total = sym (joined op e le ∙ rw h refl) in
-      climbs_from next high' rest low c.steps (omega (arith, c.enough)) on
+  climb_on op right height rest e le low_left low_right h =
+      let on : climb (deeper room) room least c.steps (Binary op left right) (1 + max high height) rest ≡ total = sym (joined op e le ∙ rw h refl) in
+      climbs_from (Binary op left right) (1 + max high height) rest (omega arith) c.steps (omega (arith, c.enough)) on
     where
       climbs_from : (next : Expr) (high' : ℕ) (rest : List Lexed) → high' ≤ room → (steps : ℕ) → room < high' + steps → climb (deeper room) room least steps next high' rest ≡ total → Climbs room least next high' rest total
       climbs_from next high' rest low zero enough same = absurd (omega arith)
       climbs_from next high' rest low (suc steps) enough same = record { low = low; steps = steps; enough = enough; same = same }
+
+-- an operand after which no operator comes is the whole expression
+pub alone : (room least : ℕ) (e : Expr) (ls rest : List Lexed) → operand_at room ls ≡ Ok (e, 0, rest) → None ≡ within least (operator_at rest) → expr_at room least ls ≡ Ok (e, 0, rest)
+alone room least e ls rest read none = climb_done room least e 0 rest (expr_at room least ls) (climbs_start room least ls e 0 rest (omega arith) read) none

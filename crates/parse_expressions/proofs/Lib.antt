@@ -2,8 +2,10 @@ pub mod Forms
 pub mod Table
 pub mod Levels
 pub mod Climbing
+pub mod Pushes
 pub mod Openings
 pub mod Primaries
 pub mod JniCalls
 pub mod Commas
 pub mod Numbers
+pub mod Names

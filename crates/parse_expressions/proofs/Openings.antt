@@ -4,7 +4,8 @@ use Rattle.std.specs.Prelude.{◌||◌, ◌&&◌, ◌==◌}
 use Rattle.base.specs.Bytes.{Identifier}
 use Rattle.scan.specs.declared.token.Mark.TheVariants as marks
 use Rattle.scan.specs.declared.reserved.Word.TheVariants as words
-use Rattle.syntax.specs.Tree.{LogicalNot, Complement, ToWord, ToInt, PrefixOp, Element}
+use Rattle.syntax.specs.Tree.{LogicalNot, Complement, ToWord, ToInt, PrefixOp, Expr, Element}
+use Rattle.parse_lexemes.specs.declared.first.Fixed.{Fixed}
 use Rattle.parse_lexemes.specs.declared.first.Fixed.TheVariants as fixed
 use Rattle.parse_lexemes.specs.declared.fault.ParseRule.TheVariants.{TooHigh}
 use Rattle.parse_lexemes.specs.declared.fault.ParseError.{ParseError}
@@ -21,7 +22,7 @@ abbrev pub operand_from : Reader → List Lexed → ReadOpening → Result ReadE
 operand_from deep ls None = primary_at ls
 operand_from deep ls (Some x) = deep (level_inside x.0) x.1 >>= λ e. operand_of x.0 e
 
-abbrev pub until_bracket : ReadExpr → Result ReadExpr ParseError
+abbrev until_bracket : ReadExpr → Result ReadExpr ParseError
 until_bracket i = expect (fixed.Mark marks.CloseBracket) i.2 >>= λ after. Ok (i.0, i.1, after)
 
 abbrev element_of : Identifier → ReadExpr → Result ReadExpr ParseError
@@ -97,6 +98,15 @@ module _ (room : ℕ) (deep : Reader) (ls : List Lexed) where
       (under_prefix deep Complement (rest_of ls)) (under_prefix deep LogicalNot (rest_of ls)) (after_paren deep (rest_of ls)) (element_by room deep ls) (paren_opening_at (rest_of ls)) (element_opening_at room ls)
       (Some (OfPrefix Complement, rest_of ls)) (Some (OfPrefix LogicalNot, rest_of ls)) refl refl (paren_is deep ls (rest_of ls)) element_is
 
+-- where what comes next opens nothing
+pub opens_none : (room : ℕ) (ls : List Lexed) → ((f : Fixed) → starts_with f ls ≡ false) → starts_element ls ≡ false → opening_at room ls ≡ Ok None
+unfolding opening_at
+opens_none room ls no_fixed no_element = rw (no_fixed (fixed.Mark marks.Tilde), no_fixed (fixed.Mark marks.Exclamation), no_fixed (fixed.Mark marks.OpenParen), no_element) (plain (room == 0))
+  where
+    plain : (b : Bool) → (let read : Result ReadOpening ParseError = if b && false then Err (fault_at TooHigh ls) else Ok None in read) ≡ Ok None
+    plain true = refl
+    plain false = refl
+
 -- how the cases of an operand are read
 module _ (room : ℕ) (ls : List Lexed) where
   pub operand_fails : (f : ParseError) → Fails f (opening_at room ls) → Fails f (operand_at room ls)
@@ -117,9 +127,16 @@ module _ (room : ℕ) (ls : List Lexed) where
   index_fails Memory h = tt
   index_fails (Fault broken) h = rw (index_is room (deeper room) ls, h) refl
 
-  pub index_opens : (within : List Lexed) → bracket_at room ls ≡ Ok within → 1 ≤ room → index_at room ls ≡ (expr_at (room - 1) 0 within >>= λ i. until_bracket i)
+  index_opens : (within : List Lexed) → bracket_at room ls ≡ Ok within → 1 ≤ room → index_at room ls ≡ (expr_at (room - 1) 0 within >>= λ i. until_bracket i)
   index_opens within h some = rw (index_is room (deeper room) ls, h, deeper_is room 0 within some) refl
 
   pub index_inside_fails : (within : List Lexed) (f : ParseError) → bracket_at room ls ≡ Ok within → 1 ≤ room → Fails f (expr_at (room - 1) 0 within) → Fails f (index_at room ls)
   index_inside_fails within Memory h some fails = tt
   index_inside_fails within (Fault broken) h some fails = rw (index_opens within h some, fails) refl
+
+  pub index_end_fails : (within : List Lexed) (i : ReadExpr) (f : ParseError) → bracket_at room ls ≡ Ok within → 1 ≤ room → expr_at (room - 1) 0 within ≡ Ok i → Fails f (expect (fixed.Mark marks.CloseBracket) i.2) → Fails f (index_at room ls)
+  index_end_fails within i Memory h some read fails = tt
+  index_end_fails within i (Fault broken) h some read fails = rw (index_opens within h some, read, fails) refl
+
+  pub index_read : (within rest after : List Lexed) (e : Expr) (height : ℕ) → bracket_at room ls ≡ Ok within → 1 ≤ room → expr_at (room - 1) 0 within ≡ Ok (e, height, rest) → expect (fixed.Mark marks.CloseBracket) rest ≡ Ok after → index_at room ls ≡ Ok (e, height, after)
+  index_read within rest after e height h some read closed = rw (index_opens within h some, read, closed) refl

@@ -1,10 +1,10 @@
 -- A last step of reading.
-use Rattle.std.specs.Prelude.{ℕ, ◌+◌, max, Bool, ◌&&◌, ◌||◌, ◌==◌, List, Option, Some, None, Result, Ok, Err, nat_lt, if◌then◌else◌}
+use Rattle.std.specs.Prelude.{ℕ, ◌+◌, Bool, ◌&&◌, ◌||◌, ◌==◌, List, Option, Some, None, Result, Ok, Err, nat_lt, if◌then◌else◌}
 use Rattle.base.specs.Bytes.{Identifier}
 use Rattle.scan.specs.declared.token.Mark.TheVariants as marks
 use Rattle.scan.specs.declared.reserved.Word.TheVariants as words
 use Rattle.syntax.specs.Limits.{operator_level, prefix_level}
-use Rattle.syntax.specs.Tree.{PrefixOp, LogicalNot, Complement, ToWord, ToInt, BinaryOp, Expr, Element, Prefix, Binary, Paren}
+use Rattle.syntax.specs.Tree.{PrefixOp, LogicalNot, Complement, ToWord, ToInt, BinaryOp, Expr, Variable, Element, Prefix, Paren}
 use Rattle.syntax.specs.Views.{prefix_tree}
 use Rattle.parse_lexemes.specs.declared.first.Fixed.TheVariants as fixed
 use Rattle.parse_lexemes.specs.declared.fault.ParseRule.TheVariants.{TooHigh}
@@ -16,9 +16,9 @@ use Rattle.parse_expressions.specs.declared.expressions.Opening.{Opening as InMe
 use Rattle.parse_expressions.specs.declared.expressions.Opening.TheVariants as opening
 use Rattle.parse_expressions.specs.Reading.{Reader, ReadExpr, starts_element}
 
--- what is made of what a step gives
-abbrev pub made_of : {A B : Type 0} → Result A ParseError → (A → B) → Result B ParseError
-made_of step make = step >>= λ x. Ok (make x)
+-- a name
+abbrev pub variable_at : List Lexed → Result ReadExpr ParseError
+variable_at ls = name_at ls >>= λ name. Ok (Variable name.0, 0, name.1)
 
 -- an operator, where it is of this level or tighter
 abbrev pub within : ℕ → Option BinaryOp → Option BinaryOp
@@ -28,10 +28,6 @@ within least (Some op) = if nat_lt (operator_level op) least then None else Some
 -- what comes after an operator, whose left operand is this high
 abbrev pub right_by : Reader → (room high : ℕ) → BinaryOp → List Lexed → Result ReadExpr ParseError
 right_by deep room high op ls = if nat_lt high room then deep (operator_level op + 1) (rest_of ls) else Err (fault_at TooHigh ls)
-
--- an operator with both operands, of which the right one is read so
-abbrev pub joined_by : BinaryOp → ReadExpr → Result ReadExpr ParseError → Result ReadExpr ParseError
-joined_by op left read = read >>= λ r. Ok (Binary op left.0 r.0, 1 + max left.1 r.1, r.2)
 
 -- ---- operands
 

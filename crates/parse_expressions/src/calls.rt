@@ -9,8 +9,7 @@ ghost use Rattle.parse_expressions.specs.Reading.{interface_at, value_at, argume
 use crate::expressions::{expression, owned_name, right_expression};
 use parse_lexemes::{Cursor, Fixed, ParseError};
 use scan::{Mark, Word};
-use std::alloc::Global;
-use syntax::{Argument, Call, Name, RightSide, Test};
+use syntax::{Argument, Call, ExprStack, Name, RightSide, Test};
 
 /// What comes after `(*env)->`.
 #[tactic(auto, unfolding(crate::specs::Reading::interface_at))]
@@ -27,54 +26,54 @@ fn interface(lexemes: Cursor<'_>) -> Result<Cursor<'_>, ParseError>
 
 /// An argument that is no string.
 #[tactic(auto, unfolding(crate::specs::Reading::value_at))]
-fn value(
-    alloc: Global,
+fn value<'t>(
+    stack: &mut ExprStack,
     room: u32,
-    lexemes: Cursor<'_>,
-) -> Result<(Argument, Cursor<'_>), ParseError>
+    lexemes: Cursor<'t>,
+) -> Result<(Argument, Cursor<'t>), ParseError>
     requires { room ≤ 32 }
     ensures { Gives (λ x. (argument_tree x.0, views x.1)) result (value_at room (views lexemes.entry)) }
 {
     if lexemes.starts_with(Fixed::Mark(Mark::Ampersand)) {
-        let (name, rest) = owned_name(alloc, lexemes.skip())?;
+        let (name, rest) = owned_name(stack.alloc(), lexemes.skip())?;
         return Ok((Argument::AddressOf(name), rest));
     }
-    let (value, _, rest) = expression(alloc, room, 0, lexemes)?;
+    let (value, _, rest) = expression(stack, room, 0, lexemes)?;
     Ok((Argument::Value(value), rest))
 }
 
 /// An argument.
 #[tactic(auto, unfolding(crate::specs::Reading::argument_at))]
-fn argument(
-    alloc: Global,
+fn argument<'t>(
+    stack: &mut ExprStack,
     room: u32,
-    lexemes: Cursor<'_>,
-) -> Result<(Argument, Cursor<'_>), ParseError>
+    lexemes: Cursor<'t>,
+) -> Result<(Argument, Cursor<'t>), ParseError>
     requires { room ≤ 32 }
     ensures { Gives (λ x. (argument_tree x.0, views x.1)) result (argument_at room (views lexemes.entry)) }
 {
     match lexemes.text() {
         Some(bytes) => {
-            let bytes = Vec::from_slice(alloc, bytes)?;
+            let bytes = Vec::from_slice(stack.alloc(), bytes)?;
             Ok((Argument::Text(bytes), lexemes.skip()))
         }
-        None => value(alloc, room, lexemes),
+        None => value(stack, room, lexemes),
     }
 }
 
 /// Arguments, each with the comma before it.
-fn arguments(
-    alloc: Global,
+fn arguments<'t>(
+    stack: &mut ExprStack,
     room: u32,
-    lexemes: Cursor<'_>,
-) -> Result<(Vec<Argument>, Cursor<'_>), ParseError>
+    lexemes: Cursor<'t>,
+) -> Result<(Vec<Argument>, Cursor<'t>), ParseError>
     requires { room ≤ 32 }
     ensures { Gives (λ x. (map argument_tree x.0.items, views x.1)) result (arguments_at room (length (views lexemes.entry) + 1) (views lexemes.entry)) }
 {
-    let mut arguments = Vec::new(alloc);
+    let mut arguments = Vec::new(stack.alloc());
     let mut rest = lexemes;
     'arguments: while rest.starts_with(Fixed::Mark(Mark::Comma)) {
-        let (argument, after) = argument(alloc, room, rest.skip())?;
+        let (argument, after) = argument(stack, room, rest.skip())?;
         arguments.push(argument)?;
         rest = after;
     }
@@ -83,7 +82,11 @@ fn arguments(
 
 /// A call of a JNI function, and what comes after it.
 #[tactic(auto, unfolding(crate::specs::Reading::call_at))]
-pub fn call(alloc: Global, room: u32, lexemes: Cursor<'_>) -> Result<(Call, Cursor<'_>), ParseError>
+pub fn call<'t>(
+    stack: &mut ExprStack,
+    room: u32,
+    lexemes: Cursor<'t>,
+) -> Result<(Call, Cursor<'t>), ParseError>
     requires { room ≤ 32 }
     ensures { Gives (λ x. (call_tree x.0, views x.1)) result (call_at room (views lexemes.entry)) }
 {
@@ -91,9 +94,9 @@ pub fn call(alloc: Global, room: u32, lexemes: Cursor<'_>) -> Result<(Call, Curs
     let rest = rest
         .expect(Fixed::Mark(Mark::OpenParen))?
         .expect(Fixed::Word(Word::Env))?;
-    let (arguments, rest) = arguments(alloc, room, rest)?;
+    let (arguments, rest) = arguments(stack, room, rest)?;
     let rest = rest.expect(Fixed::Mark(Mark::CloseParen))?;
-    let function = Name::new(alloc, function)?;
+    let function = Name::new(stack.alloc(), function)?;
     let call = Call {
         function,
         arguments,
@@ -111,50 +114,54 @@ fn starts_call(lexemes: Cursor<'_>) -> bool
 
 /// An expression or a call.
 #[tactic(auto, unfolding(crate::specs::Reading::right_at))]
-pub(crate) fn right_side(
-    alloc: Global,
+pub(crate) fn right_side<'t>(
+    stack: &mut ExprStack,
     room: u32,
-    lexemes: Cursor<'_>,
-) -> Result<(RightSide, Cursor<'_>), ParseError>
+    lexemes: Cursor<'t>,
+) -> Result<(RightSide, Cursor<'t>), ParseError>
     requires { room ≤ 32 }
     ensures { Gives (λ x. (right_side_tree x.0, views x.1)) result (right_at room (views lexemes.entry)) }
 {
     if starts_call(lexemes) {
-        let (call, rest) = call(alloc, room, lexemes)?;
+        let (call, rest) = call(stack, room, lexemes)?;
         return Ok((RightSide::Call(call), rest));
     }
-    let (value, _, rest) = right_expression(alloc, room, lexemes)?;
+    let (value, _, rest) = right_expression(stack, room, lexemes)?;
     Ok((RightSide::Expr(value), rest))
 }
 
 /// A name, what it is set to, and what comes after the semicolon.
 #[tactic(auto, unfolding(crate::specs::Reading::setting_at))]
-pub fn setting(
-    alloc: Global,
+pub fn setting<'t>(
+    stack: &mut ExprStack,
     room: u32,
-    lexemes: Cursor<'_>,
-) -> Result<(Name, RightSide, Cursor<'_>), ParseError>
+    lexemes: Cursor<'t>,
+) -> Result<(Name, RightSide, Cursor<'t>), ParseError>
     requires { room ≤ 32 }
     ensures { Gives (λ x. (x.0, right_side_tree x.1, views x.2)) result (setting_at room (views lexemes.entry)) }
 {
     let (name, rest) = lexemes.name()?;
     let rest = rest.expect(Fixed::Mark(Mark::Assign))?;
-    let (right, rest) = right_side(alloc, room, rest)?;
+    let (right, rest) = right_side(stack, room, rest)?;
     let rest = rest.expect(Fixed::Mark(Mark::Semicolon))?;
-    Ok((Name::new(alloc, name)?, right, rest))
+    Ok((Name::new(stack.alloc(), name)?, right, rest))
 }
 
 /// An expression, or a call that is tested for 0.
 #[tactic(auto, unfolding(crate::specs::Reading::test_at))]
-pub fn test(alloc: Global, room: u32, lexemes: Cursor<'_>) -> Result<(Test, Cursor<'_>), ParseError>
+pub fn test<'t>(
+    stack: &mut ExprStack,
+    room: u32,
+    lexemes: Cursor<'t>,
+) -> Result<(Test, Cursor<'t>), ParseError>
     requires { room ≤ 32 }
     ensures { Gives (λ x. (test_tree x.0, views x.1)) result (test_at room (views lexemes.entry)) }
 {
     if starts_call(lexemes) {
-        let (call, rest) = call(alloc, room, lexemes)?;
+        let (call, rest) = call(stack, room, lexemes)?;
         let (_, rest) = rest.expect(Fixed::Mark(Mark::Equal))?.number(0, 0)?;
         return Ok((Test::Call(call), rest));
     }
-    let (value, _, rest) = expression(alloc, room, 0, lexemes)?;
+    let (value, _, rest) = expression(stack, room, 0, lexemes)?;
     Ok((Test::Expr(value), rest))
 }

@@ -1,24 +1,28 @@
 //! Expressions, by the levels of their operators (ISO/IEC 9899:1999, 6.5).
 
-ghost use Rattle.std.specs.Prelude.{◌≡◌, ℕ, ◌+◌, ◌≤◌, ◌<◌, Result, Ok, IfOk, IfSome, is_ok};
+ghost use Rattle.std.specs.Prelude.{◌≡◌, ℕ, ◌+◌, ◌≤◌, ◌<◌, ◌∷◌, length, Ok, IfOk, OnOk, IfSome, IsTrue, is_ok};
 ghost use Rattle.std.specs.Option.{option_map};
 ghost use Rattle.syntax.specs.Limits.{operator_level};
 ghost use Rattle.syntax.specs.Tree.{Number};
+ghost use Rattle.syntax.specs.Nodes.{top, on_top};
+ghost use Rattle.syntax.specs.Stacks.{stacked};
 ghost use Rattle.syntax.specs.Views.{constant_tree, prefix_tree, binary_tree, expr_tree};
 ghost use Rattle.parse_lexemes.specs.Results.{Gives};
-ghost use Rattle.parse_expressions.specs.Steps.{made_of, joined_by, right_by, within, opening_view, level_inside, around, ending_at, operand_of, cast_at, paren_opening_at, bracket_at, element_opening_at, starts_deep, opening_at};
-ghost use Rattle.parse_lexemes.specs.declared.fault.ParseError.{ParseError};
-ghost use Rattle.parse_lexemes.specs.Lexemes.{views, expect, name_at};
+ghost use Rattle.parse_expressions.specs.Steps.{variable_at, right_by, within, opening_view, level_inside, around, ending_at, operand_of, cast_at, paren_opening_at, bracket_at, element_opening_at, starts_deep, opening_at};
+ghost use Rattle.parse_lexemes.specs.Lexemes.{views, name_at};
 ghost use Rattle.parse_expressions.specs.Reading.{ReadExpr, operator_at, binary_of_mark, named_of, primary_at, starts_element, starts_inside, index_at, operand_at, expr_at, right_expr_at, deeper};
 ghost use Rattle.parse_lexemes.specs.Reading.{constant_of_word, rest_of};
 
 use parse_lexemes::{Cursor, Fixed, ParseError, ParseRule, Shape};
 use scan::{Mark, Word};
 use std::alloc::{AllocError, Global};
-use syntax::{BinaryOp, Constant, Expr, Name, PrefixOp};
+use syntax::{BinaryOp, Constant, Expr, ExprStack, Name, PrefixOp};
 
 /// An expression, its height, and what comes after it.
 type ReadExpr<'t> = (Expr, u32, Cursor<'t>);
+
+/// The height of an expression that is on a stack, and what comes after it.
+type Pushed<'t> = (u32, Cursor<'t>);
 
 /// What comes in an operand before an expression inside it.
 #[derive(Clone, Copy)]
@@ -110,117 +114,102 @@ pub fn owned_name(alloc: Global, lexemes: Cursor<'_>) -> Result<(Name, Cursor<'_
     Ok((name, rest))
 }
 
-/// A named constant.
+/// Pushes a named constant.
 #[inline(always)]
-fn named(word: Word, lexemes: Cursor<'_>) -> Result<ReadExpr<'_>, ParseError>
-    ensures low { IfOk result (λ x. x.1 ≡ 0) }
-    ensures gives { Gives {Y = ReadExpr} (λ x. (expr_tree x.0, x.1, views x.2)) result
+fn named<'t>(
+    stack: &mut ExprStack,
+    word: Word,
+    lexemes: Cursor<'t>,
+) -> Result<Pushed<'t>, ParseError>
+    ensures pushed { OnOk result (stacked stack.new ≡ top (stacked stack.new) ∷ stacked stack.old) }
+    ensures low { IfOk result (λ x. x.0 ≡ 0) }
+    ensures gives { Gives {Y = ReadExpr} (λ x. (top (stacked stack.new), x.0, views x.1)) result
         (named_of (constant_of_word word) (views lexemes.entry) (rest_of (views lexemes.entry))) }
 {
     match constant_of(word) {
-        Some(constant) => Ok((Expr::Named(constant), 0, lexemes.skip())),
+        Some(constant) => {
+            stack.named(constant)?;
+            Ok((0, lexemes.skip()))
+        }
         None => Err(lexemes.unexpected()),
     }
 }
 
-/// A number, a named constant or a name.
+/// Pushes a name.
+#[inline(always)]
+fn variable<'t>(stack: &mut ExprStack, lexemes: Cursor<'t>) -> Result<Pushed<'t>, ParseError>
+    ensures pushed { OnOk result (stacked stack.new ≡ top (stacked stack.new) ∷ stacked stack.old) }
+    ensures low { IfOk result (λ x. x.0 ≡ 0) }
+    ensures gives { Gives (λ x. (top (stacked stack.new), x.0, views x.1)) result (variable_at (views lexemes.entry)) }
+{
+    let (name, rest) = owned_name(stack.alloc(), lexemes)?;
+    stack.variable(name)?;
+    Ok((0, rest))
+}
+
+/// Pushes a number, a named constant or a name.
 #[tactic(auto, unfolding(crate::specs::Reading::primary_at))]
-fn primary(alloc: Global, lexemes: Cursor<'_>) -> Result<ReadExpr<'_>, ParseError>
-    ensures low { IfOk result (λ x. x.1 ≡ 0) }
-    ensures gives { Gives (λ x. (expr_tree x.0, x.1, views x.2)) result (primary_at (views lexemes.entry)) }
+fn primary<'t>(stack: &mut ExprStack, lexemes: Cursor<'t>) -> Result<Pushed<'t>, ParseError>
+    ensures pushed { OnOk result (stacked stack.new ≡ top (stacked stack.new) ∷ stacked stack.old) }
+    ensures low { IfOk result (λ x. x.0 ≡ 0) }
+    ensures gives { Gives (λ x. (top (stacked stack.new), x.0, views x.1)) result (primary_at (views lexemes.entry)) }
 {
     match lexemes.shape() {
         Shape::Number { value, unsigned } => {
-            Ok((Expr::Number { value, unsigned }, 0, lexemes.skip()))
+            stack.number(value, unsigned)?;
+            Ok((0, lexemes.skip()))
         }
-        Shape::Name => {
-            let (name, rest) = owned_name(alloc, lexemes)?;
-            Ok((Expr::Variable(name), 0, rest))
-        }
-        Shape::Fixed(Fixed::Word(word)) => named(word, lexemes),
+        Shape::Name => variable(stack, lexemes),
+        Shape::Fixed(Fixed::Word(word)) => named(stack, word, lexemes),
         _ => Err(lexemes.unexpected()),
     }
 }
 
-/// An expression inside an operand, with what is around it.
-fn around(alloc: Global, opening: Opening<'_>, inside: Expr) -> Result<Expr, AllocError>
-    ensures { IfOk result (λ e. expr_tree e ≡ around (opening_view opening.entry) (expr_tree inside)) }
+/// Puts around the last expression what it is inside of.
+fn around(stack: &mut ExprStack, opening: Opening<'_>) -> Result<(), AllocError>
+    requires { 1 ≤ length (stacked stack.old) }
+    ensures { OnOk result (stacked stack.new ≡ on_top (around (opening_view opening.entry)) (stacked stack.old)) }
 {
-    let inside = Box::new(alloc, inside)?;
     match opening {
-        Opening::Prefix(op) => Ok(Expr::Prefix(op, inside)),
-        Opening::Paren => Ok(Expr::Paren(inside)),
-        Opening::Element(name) => Ok(Expr::Element(Name::new(alloc, name)?, inside)),
+        Opening::Prefix(op) => stack.prefix(op),
+        Opening::Paren => stack.paren(),
+        Opening::Element(name) => {
+            let name = Name::new(stack.alloc(), name)?;
+            stack.element(name)
+        }
     }
 }
 
-/// What is read of an expression, and what comes after the next lexeme, which ends it.
+/// What comes after the end of an operand which opened so.
 #[inline(always)]
-fn ended<'t>(end: Fixed, read: ReadExpr<'t>) -> Result<ReadExpr<'t>, ParseError>
-    ensures low { IfOk result (λ x. x.1 ≡ read.entry.1) }
-    ensures gives { Gives (λ x. (expr_tree x.0, x.1, views x.2)) result
-        (made_of {B = ReadExpr} (expect end (views read.entry.2)) (λ after.
-        (expr_tree read.entry.0, read.entry.1, after))) }
-{
-    let (inside, height, rest) = read;
-    let rest = rest.expect(end)?;
-    Ok((inside, height, rest))
-}
-
-/// What is read inside an operand which opened so, and what comes after the lexeme that ends it.
-#[inline(always)]
-fn ended_as<'t>(opening: Opening<'t>, inside: ReadExpr<'t>) -> Result<ReadExpr<'t>, ParseError>
-    ensures low { IfOk result (λ x. x.1 ≡ inside.entry.1) }
-    ensures gives { Gives (λ x. (expr_tree x.0, x.1, views x.2)) result
-        (made_of {B = ReadExpr} (ending_at (opening_view opening.entry) (views inside.entry.2))
-        (λ after. (expr_tree inside.entry.0, inside.entry.1, after))) }
+fn ending<'t>(opening: Opening<'t>, lexemes: Cursor<'t>) -> Result<Cursor<'t>, ParseError>
+    ensures { Gives views result (ending_at (opening_view opening.entry) (views lexemes.entry)) }
 {
     match opening {
-        Opening::Prefix(_) => Ok(inside),
-        Opening::Paren => ended(Fixed::Mark(Mark::CloseParen), inside),
-        Opening::Element(_) => ended(Fixed::Mark(Mark::CloseBracket), inside),
+        Opening::Prefix(_) => Ok(lexemes),
+        Opening::Paren => lexemes.expect(Fixed::Mark(Mark::CloseParen)),
+        Opening::Element(_) => lexemes.expect(Fixed::Mark(Mark::CloseBracket)),
     }
 }
 
-/// An operand with the expression that was read inside it, and what comes after it.
+/// Makes an operand of the last expression, which was read inside it, and gives what comes after it.
 #[inline(always)]
 fn operand_of<'t>(
-    alloc: Global,
+    stack: &mut ExprStack,
     opening: Opening<'t>,
-    inside: ReadExpr<'t>,
-) -> Result<ReadExpr<'t>, ParseError>
-    requires { inside.1 < 32 }
-    ensures low { IfOk result (λ x. x.1 ≡ 1 + inside.entry.1) }
-    ensures gives { Gives (λ x. (expr_tree x.0, x.1, views x.2)) result
-        (operand_of (opening_view opening.entry) (expr_tree inside.entry.0, inside.entry.1, views inside.entry.2)) }
+    inside: Pushed<'t>,
+) -> Result<Pushed<'t>, ParseError>
+    requires some { 1 ≤ length (stacked stack.old) }
+    requires low { inside.0 < 32 }
+    ensures pushed { OnOk result (stacked stack.new ≡ on_top (around (opening_view opening.entry)) (stacked stack.old)) }
+    ensures low { IfOk result (λ x. x.0 ≡ 1 + inside.entry.0) }
+    ensures gives { Gives (λ x. (top (stacked stack.new), x.0, views x.1)) result
+        (operand_of (opening_view opening.entry) (top (stacked stack.old), inside.entry.0, views inside.entry.1)) }
 {
-    let (inside, height, rest) = ended_as(opening, inside)?;
-    let operand = around(alloc, opening, inside)?;
-    Ok((operand, 1 + height, rest))
-}
-
-/// An operator with what is to its left, and what was read to its right.
-#[inline(always)]
-fn joined<'t>(
-    alloc: Global,
-    op: BinaryOp,
-    left: ReadExpr<'t>,
-    right: Result<ReadExpr<'t>, ParseError>,
-) -> Result<ReadExpr<'t>, ParseError>
-    requires { IfOk right (λ x. (x.1 < 32) × (left.1 < 32)) }
-    ensures low { (most : ℕ) → IfOk right.entry (λ x. (x.1 < most) × (left.entry.1 < most)) → IfOk result (λ x. (x.1 ≤ most) × (left.entry.1 < x.1)) }
-    ensures gives { (read : Result ReadExpr ParseError) → Gives (λ x. (expr_tree x.0, x.1, views x.2)) right.entry read
-        → Gives (λ x. (expr_tree x.0, x.1, views x.2)) result (joined_by (binary_tree op)
-        (expr_tree left.entry.0, left.entry.1, views left.entry.2) read) }
-{
-    let (right, right_height, rest) = right?;
-    let (left, height, _) = left;
-    let operands = Box::new(alloc, (left, right))?;
-    Ok((
-        Expr::Binary(op, operands),
-        1 + height.max(right_height),
-        rest,
-    ))
+    let (height, rest) = inside;
+    let rest = ending(opening, rest)?;
+    around(stack, opening)?;
+    Ok((1 + height, rest))
 }
 
 /// The operator that comes next, where it is of this level or tighter.
@@ -246,6 +235,21 @@ fn lone_number(least: u32, lexemes: Cursor<'_>) -> Option<(u32, bool)>
             None => Some((value, unsigned)),
         },
         _ => None,
+    }
+}
+
+/// Whether a name is the whole expression of this level or tighter that comes next.
+#[inline(always)]
+fn is_lone_name(least: u32, lexemes: Cursor<'_>) -> bool
+    ensures { IsTrue result → (room : ℕ) → expr_at room least (views lexemes.entry) ≡ variable_at (views lexemes.entry) }
+{
+    match lexemes.shape() {
+        Shape::Name => {
+            let rest = lexemes.skip();
+            !rest.starts_with(Fixed::Mark(Mark::OpenBracket))
+                && operator_within(least, rest).is_none()
+        }
+        _ => false,
     }
 }
 
@@ -352,38 +356,43 @@ fn level_inside(opening: Opening<'_>) -> u32
     }
 }
 
-/// An expression of this level or tighter, no higher than there is room.
+/// Pushes an expression of this level or tighter, no higher than there is room.
 #[cycle(expressions)]
-pub fn expression(
-    alloc: Global,
+fn push_expression<'t>(
+    stack: &mut ExprStack,
     room: u32,
     least: u32,
-    lexemes: Cursor<'_>,
-) -> Result<ReadExpr<'_>, ParseError>
+    lexemes: Cursor<'t>,
+) -> Result<Pushed<'t>, ParseError>
     requires { room ≤ 32 }
-    ensures low { IfOk result (λ x. x.1 ≤ room) }
-    ensures gives { Gives (λ x. (expr_tree x.0, x.1, views x.2)) result (expr_at room least (views lexemes.entry)) }
+    ensures pushed { OnOk result (stacked stack.new ≡ top (stacked stack.new) ∷ stacked stack.old) }
+    ensures low { IfOk result (λ x. x.0 ≤ room) }
+    ensures gives { Gives (λ x. (top (stacked stack.new), x.0, views x.1)) result (expr_at room least (views lexemes.entry)) }
 {
-    let mut read = operand(alloc, room, lexemes)?;
-    while let Some(op) = operator_within(least, read.2) {
-        let right = right_operand(alloc, room, read.1, op, read.2);
-        read = joined(alloc, op, read, right)?;
+    let (mut height, mut rest) = operand(stack, room, lexemes)?;
+    while let Some(op) = operator_within(least, rest) {
+        let start = stack.len();
+        let (right_height, after) = right_operand(stack, room, height, op, rest)?;
+        stack.binary(op, start)?;
+        height = 1 + height.max(right_height);
+        rest = after;
     }
-    Ok(read)
+    Ok((height, rest))
 }
 
-/// The right operand of an operator whose left one has this height.
+/// Pushes the right operand of an operator whose left one has this height.
 #[cycle(expressions)]
-fn right_operand(
-    alloc: Global,
+fn right_operand<'t>(
+    stack: &mut ExprStack,
     room: u32,
     height: u32,
     op: BinaryOp,
-    lexemes: Cursor<'_>,
-) -> Result<ReadExpr<'_>, ParseError>
+    lexemes: Cursor<'t>,
+) -> Result<Pushed<'t>, ParseError>
     requires { room ≤ 32 }
-    ensures low { IfOk result (λ x. (x.1 < room) × (height < room)) }
-    ensures gives { Gives (λ x. (expr_tree x.0, x.1, views x.2)) result (right_by (deeper room) room height (binary_tree op) (views lexemes.entry)) }
+    ensures pushed { OnOk result (stacked stack.new ≡ top (stacked stack.new) ∷ stacked stack.old) }
+    ensures low { IfOk result (λ x. (x.0 < room) × (height < room)) }
+    ensures gives { Gives (λ x. (top (stacked stack.new), x.0, views x.1)) result (right_by (deeper room) room height (binary_tree op) (views lexemes.entry)) }
 {
     if height >= room {
         return Err(lexemes.fault(ParseRule::TooHigh));
@@ -391,49 +400,88 @@ fn right_operand(
     let operand = lexemes.skip();
     // Most right operands are numbers, which no call is needed for.
     if let Some((value, unsigned)) = lone_number(level(op) + 1, operand) {
-        return Ok((Expr::Number { value, unsigned }, 0, operand.skip()));
+        stack.number(value, unsigned)?;
+        return Ok((0, operand.skip()));
     }
-    expression(alloc, room - 1, level(op) + 1, operand)
+    push_expression(stack, room - 1, level(op) + 1, operand)
 }
 
-/// A prefix with its operand, parentheses, an element, or a primary expression. Most are numbers, and are told at once.
+/// Pushes a prefix with its operand, parentheses, an element, or a primary expression. Most are numbers, and are told at once.
 #[cycle(expressions)]
-fn operand(alloc: Global, room: u32, lexemes: Cursor<'_>) -> Result<ReadExpr<'_>, ParseError>
+fn operand<'t>(
+    stack: &mut ExprStack,
+    room: u32,
+    lexemes: Cursor<'t>,
+) -> Result<Pushed<'t>, ParseError>
     requires { room ≤ 32 }
-    ensures low { IfOk result (λ x. x.1 ≤ room) }
-    ensures gives { Gives (λ x. (expr_tree x.0, x.1, views x.2)) result (operand_at room (views lexemes.entry)) }
+    ensures pushed { OnOk result (stacked stack.new ≡ top (stacked stack.new) ∷ stacked stack.old) }
+    ensures low { IfOk result (λ x. x.0 ≤ room) }
+    ensures gives { Gives (λ x. (top (stacked stack.new), x.0, views x.1)) result (operand_at room (views lexemes.entry)) }
 {
     match lexemes.shape() {
         Shape::Number { value, unsigned } => {
-            Ok((Expr::Number { value, unsigned }, 0, lexemes.skip()))
+            stack.number(value, unsigned)?;
+            Ok((0, lexemes.skip()))
         }
-        _ => other_operand(alloc, room, lexemes),
+        _ => other_operand(stack, room, lexemes),
     }
 }
 
-/// An operand, whatever it begins with.
+/// Pushes an operand, whatever it begins with.
 #[cycle(expressions)]
-fn other_operand(alloc: Global, room: u32, lexemes: Cursor<'_>) -> Result<ReadExpr<'_>, ParseError>
+fn other_operand<'t>(
+    stack: &mut ExprStack,
+    room: u32,
+    lexemes: Cursor<'t>,
+) -> Result<Pushed<'t>, ParseError>
     requires { room ≤ 32 }
-    ensures low { IfOk result (λ x. x.1 ≤ room) }
-    ensures gives { Gives (λ x. (expr_tree x.0, x.1, views x.2)) result (operand_at room (views lexemes.entry)) }
+    ensures pushed { OnOk result (stacked stack.new ≡ top (stacked stack.new) ∷ stacked stack.old) }
+    ensures low { IfOk result (λ x. x.0 ≤ room) }
+    ensures gives { Gives (λ x. (top (stacked stack.new), x.0, views x.1)) result (operand_at room (views lexemes.entry)) }
 {
     let Some((opening, rest)) = operand_opening(room, lexemes)? else {
-        return primary(alloc, lexemes);
+        return primary(stack, lexemes);
     };
-    let inside = expression(alloc, room - 1, level_inside(opening), rest)?;
-    operand_of(alloc, opening, inside)
+    let inside = push_expression(stack, room - 1, level_inside(opening), rest)?;
+    operand_of(stack, opening, inside)
+}
+
+/// An expression of this level or tighter, no higher than there is room. It is read on the stack, which has afterwards what it had before, unless there is a fault.
+pub fn expression<'t>(
+    stack: &mut ExprStack,
+    room: u32,
+    least: u32,
+    lexemes: Cursor<'t>,
+) -> Result<ReadExpr<'t>, ParseError>
+    requires { room ≤ 32 }
+    ensures low { IfOk result (λ x. x.1 ≤ room) }
+    ensures gives { Gives (λ x. (expr_tree x.0, x.1, views x.2)) result (expr_at room least (views lexemes.entry)) }
+{
+    let start = stack.len();
+    // Most expressions are names, which no call is needed for.
+    if is_lone_name(least, lexemes) {
+        let (height, rest) = variable(stack, lexemes)?;
+        return Ok((stack.take(start)?, height, rest));
+    }
+    let (height, rest) = push_expression(stack, room, least, lexemes)?;
+    Ok((stack.take(start)?, height, rest))
 }
 
 /// An index in its brackets, which counts one of the height.
-pub fn index(alloc: Global, room: u32, lexemes: Cursor<'_>) -> Result<ReadExpr<'_>, ParseError>
+pub fn index<'t>(
+    stack: &mut ExprStack,
+    room: u32,
+    lexemes: Cursor<'t>,
+) -> Result<ReadExpr<'t>, ParseError>
     requires { room ≤ 32 }
     ensures low { IfOk result (λ x. x.1 < room) }
     ensures gives { Gives (λ x. (expr_tree x.0, x.1, views x.2)) result (index_at room (views lexemes.entry)) }
 {
     let rest = bracket(room, lexemes)?;
-    let index = expression(alloc, room - 1, 0, rest)?;
-    ended(Fixed::Mark(Mark::CloseBracket), index)
+    let start = stack.len();
+    let (height, rest) = push_expression(stack, room - 1, 0, rest)?;
+    let rest = rest.expect(Fixed::Mark(Mark::CloseBracket))?;
+    Ok((stack.take(start)?, height, rest))
 }
 
 /// Whether a number, a named constant or a name comes next.
@@ -464,11 +512,11 @@ fn starts_inside(lexemes: Cursor<'_>) -> bool
 /// The expression of a right side. Where no height is left, its parenthesis may still be that of a
 /// call: the token after it is the first that can't be there.
 #[tactic(auto, unfolding(crate::specs::Reading::right_expr_at))]
-pub(crate) fn right_expression(
-    alloc: Global,
+pub(crate) fn right_expression<'t>(
+    stack: &mut ExprStack,
     room: u32,
-    lexemes: Cursor<'_>,
-) -> Result<ReadExpr<'_>, ParseError>
+    lexemes: Cursor<'t>,
+) -> Result<ReadExpr<'t>, ParseError>
     requires { room ≤ 32 }
     ensures { Gives (λ x. (expr_tree x.0, x.1, views x.2)) result (right_expr_at room (views lexemes.entry)) }
 {
@@ -479,5 +527,5 @@ pub(crate) fn right_expression(
         }
         return Err(rest.unexpected());
     }
-    expression(alloc, room, 0, lexemes)
+    expression(stack, room, 0, lexemes)
 }
