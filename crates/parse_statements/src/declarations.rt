@@ -12,7 +12,7 @@ use parse_expressions::setting;
 use parse_lexemes::{Cursor, Fixed, ParseError};
 use scan::{Mark, Word};
 use std::alloc::Global;
-use syntax::{ElementType, Form, Name, Stmt, VariableType};
+use syntax::{ElementType, ExprStack, Form, Name, Stmt, VariableType};
 
 /// What comes after the zeros of a local array.
 #[tactic(auto, unfolding(crate::specs::Reading::zeros_at))]
@@ -58,81 +58,81 @@ fn is_array(element: ElementType, lexemes: Cursor<'_>) -> bool
 
 /// A declaration whose first word, of an element's type, is read.
 #[tactic(auto, unfolding(crate::specs::Reading::after_element, crate::specs::Reading::after_variable))]
-fn after_element(
-    alloc: Global,
+fn after_element<'t>(
+    stack: &mut ExprStack,
     room: u32,
     line: usize,
     element: ElementType,
-    lexemes: Cursor<'_>,
-) -> Result<(Stmt, Cursor<'_>), ParseError>
+    lexemes: Cursor<'t>,
+) -> Result<(Stmt, Cursor<'t>), ParseError>
     requires { room ≤ 32 }
     ensures { Gives (λ x. (stmt_tree x.0, views x.1)) result (after_element room line (element_value element) (views lexemes.entry)) }
 {
     if lexemes.starts_with(Fixed::Mark(Mark::Star)) {
-        let (name, right, rest) = setting(alloc, room, lexemes.skip())?;
+        let (name, right, rest) = setting(stack, room, lexemes.skip())?;
         let form = Form::DeclareBuffer(element, name, right);
         return Ok((Stmt { line, form }, rest));
     }
     if is_array(element, lexemes) {
-        return array(alloc, line, element, lexemes);
+        return array(stack.alloc(), line, element, lexemes);
     }
-    after_variable(alloc, room, line, VariableType::Jint, lexemes)
+    after_variable(stack, room, line, VariableType::Jint, lexemes)
 }
 
 /// A declaration of a variable whose type is read.
 #[tactic(auto, unfolding(crate::specs::Reading::after_variable))]
-fn after_variable(
-    alloc: Global,
+fn after_variable<'t>(
+    stack: &mut ExprStack,
     room: u32,
     line: usize,
     kind: VariableType,
-    lexemes: Cursor<'_>,
-) -> Result<(Stmt, Cursor<'_>), ParseError>
+    lexemes: Cursor<'t>,
+) -> Result<(Stmt, Cursor<'t>), ParseError>
     requires { room ≤ 32 }
     ensures { Gives (λ x. (stmt_tree x.0, views x.1)) result (after_variable room line (variable_type_tree kind) (views lexemes.entry)) }
 {
-    let (name, right, rest) = setting(alloc, room, lexemes)?;
+    let (name, right, rest) = setting(stack, room, lexemes)?;
     let form = Form::Declare(kind, name, right);
     Ok((Stmt { line, form }, rest))
 }
 
 /// A declaration whose `const` is read.
 #[tactic(auto, unfolding(crate::specs::Reading::after_const))]
-fn after_const(
-    alloc: Global,
+fn after_const<'t>(
+    stack: &mut ExprStack,
     room: u32,
     line: usize,
-    lexemes: Cursor<'_>,
-) -> Result<(Stmt, Cursor<'_>), ParseError>
+    lexemes: Cursor<'t>,
+) -> Result<(Stmt, Cursor<'t>), ParseError>
     requires { room ≤ 32 }
     ensures { Gives (λ x. (stmt_tree x.0, views x.1)) result (after_const room line (views lexemes.entry)) }
 {
     let rest = lexemes
         .expect(Fixed::Word(Word::Jchar))?
         .expect(Fixed::Mark(Mark::Star))?;
-    let (name, right, rest) = setting(alloc, room, rest)?;
+    let (name, right, rest) = setting(stack, room, rest)?;
     let form = Form::DeclareChars(name, right);
     Ok((Stmt { line, form }, rest))
 }
 
 /// A declaration.
 #[tactic(auto, unfolding(crate::specs::Reading::declared_at))]
-pub(crate) fn declared(
-    alloc: Global,
+pub(crate) fn declared<'t>(
+    stack: &mut ExprStack,
     room: u32,
-    lexemes: Cursor<'_>,
-) -> Result<(Stmt, Cursor<'_>), ParseError>
+    lexemes: Cursor<'t>,
+) -> Result<(Stmt, Cursor<'t>), ParseError>
     requires { room ≤ 32 }
     ensures { Gives (λ x. (stmt_tree x.0, views x.1)) result (declared_at room (views lexemes.entry)) }
 {
     let line = lexemes.line();
     if let Some(element) = lexemes.element_type() {
-        return after_element(alloc, room, line, element, lexemes.skip());
+        return after_element(stack, room, line, element, lexemes.skip());
     }
     if let Some(kind) = lexemes.variable_type() {
-        return after_variable(alloc, room, line, kind, lexemes.skip());
+        return after_variable(stack, room, line, kind, lexemes.skip());
     }
-    after_const(alloc, room, line, lexemes.skip())
+    after_const(stack, room, line, lexemes.skip())
 }
 
 /// Whether a declaration comes next.

@@ -14,8 +14,7 @@ use crate::plain::plain;
 use parse_expressions::{expression, test};
 use parse_lexemes::{Cursor, Fixed, ParseError, ParseRule};
 use scan::{Mark, Word};
-use std::alloc::Global;
-use syntax::{Block, Expr, Form, Stmt, Test};
+use syntax::{Block, Expr, ExprStack, Form, Stmt, Test};
 
 /// A statement, how many more names may be declared after it, and what comes after it.
 type ReadStmt<'t> = (Stmt, usize, Cursor<'t>);
@@ -38,12 +37,12 @@ enum Head {
 
 /// A statement without a block, where `free` more names may be declared.
 #[tactic(auto, unfolding(crate::specs::Reading::simple_at))]
-fn simple(
-    alloc: Global,
+fn simple<'t>(
+    stack: &mut ExprStack,
     room: u32,
     free: usize,
-    lexemes: Cursor<'_>,
-) -> Result<ReadStmt<'_>, ParseError>
+    lexemes: Cursor<'t>,
+) -> Result<ReadStmt<'t>, ParseError>
     requires { room ≤ 32 }
     ensures { Gives (λ x. (stmt_tree x.0, x.1, views x.2)) result (simple_at room free (views lexemes.entry)) }
 {
@@ -51,10 +50,10 @@ fn simple(
         if free == 0 {
             return Err(lexemes.fault(ParseRule::TooMany));
         }
-        let (stmt, rest) = declared(alloc, room, lexemes)?;
+        let (stmt, rest) = declared(stack, room, lexemes)?;
         return Ok((stmt, free - 1, rest));
     }
-    let (stmt, rest) = plain(alloc, room, lexemes)?;
+    let (stmt, rest) = plain(stack, room, lexemes)?;
     Ok((stmt, free, rest))
 }
 
@@ -67,12 +66,16 @@ fn is_return(stmt: &Stmt) -> bool
 
 /// What an `if` tests, in its parentheses, and what comes after the brace of its block.
 #[tactic(auto, unfolding(crate::specs::Reading::if_test_at))]
-fn if_test(alloc: Global, room: u32, lexemes: Cursor<'_>) -> Result<(Test, Cursor<'_>), ParseError>
+fn if_test<'t>(
+    stack: &mut ExprStack,
+    room: u32,
+    lexemes: Cursor<'t>,
+) -> Result<(Test, Cursor<'t>), ParseError>
     requires { room ≤ 32 }
     ensures { Gives (λ x. (test_tree x.0, views x.1)) result (if_test_at room (views lexemes.entry)) }
 {
     let rest = lexemes.expect(Fixed::Mark(Mark::OpenParen))?;
-    let (test, rest) = test(alloc, room, rest)?;
+    let (test, rest) = test(stack, room, rest)?;
     let rest = rest
         .expect(Fixed::Mark(Mark::CloseParen))?
         .expect(Fixed::Mark(Mark::OpenBrace))?;
@@ -81,16 +84,16 @@ fn if_test(alloc: Global, room: u32, lexemes: Cursor<'_>) -> Result<(Test, Curso
 
 /// What a `while` tests, in its parentheses, and what comes after the brace of its block.
 #[tactic(auto, unfolding(crate::specs::Reading::while_test_at))]
-fn while_test(
-    alloc: Global,
+fn while_test<'t>(
+    stack: &mut ExprStack,
     room: u32,
-    lexemes: Cursor<'_>,
-) -> Result<(Expr, Cursor<'_>), ParseError>
+    lexemes: Cursor<'t>,
+) -> Result<(Expr, Cursor<'t>), ParseError>
     requires { room ≤ 32 }
     ensures { Gives (λ x. (expr_tree x.0, views x.1)) result (while_test_at room (views lexemes.entry)) }
 {
     let rest = lexemes.expect(Fixed::Mark(Mark::OpenParen))?;
-    let (operand, _, rest) = expression(alloc, room, 0, rest)?;
+    let (operand, _, rest) = expression(stack, room, 0, rest)?;
     let rest = rest
         .expect(Fixed::Mark(Mark::CloseParen))?
         .expect(Fixed::Mark(Mark::OpenBrace))?;
@@ -99,11 +102,11 @@ fn while_test(
 
 /// How a statement with blocks begins, up to the brace of the first, where there is room for blocks, and what comes after that.
 #[tactic(auto, unfolding(crate::specs::Steps::nested_head_at))]
-fn nested_head(
-    alloc: Global,
+fn nested_head<'t>(
+    stack: &mut ExprStack,
     room: u32,
-    lexemes: Cursor<'_>,
-) -> Result<Option<(Head, Cursor<'_>)>, ParseError>
+    lexemes: Cursor<'t>,
+) -> Result<Option<(Head, Cursor<'t>)>, ParseError>
     requires { room ≤ 32 }
     ensures some { IfOk result (λ x. IfSome x (λ _. 1 ≤ room)) }
     ensures gives { Gives (option_map (λ x. (head_view x.0, views x.1))) result (nested_head_at room (views lexemes.entry)) }
@@ -112,11 +115,11 @@ fn nested_head(
         return Err(lexemes.fault(ParseRule::TooHigh));
     }
     if lexemes.starts_with(Fixed::Word(Word::If)) {
-        let (test, rest) = if_test(alloc, room, lexemes.skip())?;
+        let (test, rest) = if_test(stack, room, lexemes.skip())?;
         return Ok(Some((Head::If(test), rest)));
     }
     if lexemes.starts_with(Fixed::Word(Word::While)) {
-        let (test, rest) = while_test(alloc, room, lexemes.skip())?;
+        let (test, rest) = while_test(stack, room, lexemes.skip())?;
         return Ok(Some((Head::While(test), rest)));
     }
     Ok(None)
@@ -185,19 +188,19 @@ fn both<'t>(
 
 /// The blocks of a statement, of which `otherwise` says whether there may be a second one.
 #[cycle(blocks)]
-fn branches(
-    alloc: Global,
+fn branches<'t>(
+    stack: &mut ExprStack,
     room: u32,
     free: usize,
     otherwise: bool,
-    lexemes: Cursor<'_>,
-) -> Result<ReadBranches<'_>, ParseError>
+    lexemes: Cursor<'t>,
+) -> Result<ReadBranches<'t>, ParseError>
     requires some { 1 ≤ room }
     requires bound { room ≤ 32 }
     ensures { Gives (λ x. (block_tree x.0, option_map block_tree x.1, x.2, views x.3)) result (branches_at (inner room) free otherwise (views lexemes.entry)) }
 {
-    let (body, left, rest) = block(alloc, room - 1, free, lexemes)?;
-    let other = other_block(alloc, room, left, otherwise, rest);
+    let (body, left, rest) = block(stack, room - 1, free, lexemes)?;
+    let other = other_block(stack, room, left, otherwise, rest);
     both(body, other)
 }
 
@@ -214,13 +217,13 @@ fn second(read: Result<ReadBlock<'_>, ParseError>) -> Result<ReadOther<'_>, Pars
 /// The second block, where there may be one and `else` comes next.
 #[cycle(blocks)]
 #[tactic(auto, unfolding(crate::specs::Steps::other_at))]
-fn other_block(
-    alloc: Global,
+fn other_block<'t>(
+    stack: &mut ExprStack,
     room: u32,
     free: usize,
     otherwise: bool,
-    lexemes: Cursor<'_>,
-) -> Result<ReadOther<'_>, ParseError>
+    lexemes: Cursor<'t>,
+) -> Result<ReadOther<'t>, ParseError>
     requires some { 1 ≤ room }
     requires bound { room ≤ 32 }
     ensures { Gives (λ x. (option_map block_tree x.0, x.1, views x.2)) result (other_at (inner room) free otherwise (views lexemes.entry)) }
@@ -229,39 +232,39 @@ fn other_block(
         return Ok((None, free, lexemes));
     }
     let rest = lexemes.skip().expect(Fixed::Mark(Mark::OpenBrace))?;
-    second(block(alloc, room - 1, free, rest))
+    second(block(stack, room - 1, free, rest))
 }
 
 /// A statement, where `free` more names may be declared.
 #[cycle(blocks)]
-fn statement(
-    alloc: Global,
+fn statement<'t>(
+    stack: &mut ExprStack,
     room: u32,
     free: usize,
-    lexemes: Cursor<'_>,
-) -> Result<ReadStmt<'_>, ParseError>
+    lexemes: Cursor<'t>,
+) -> Result<ReadStmt<'t>, ParseError>
     requires { room ≤ 32 }
     ensures { Gives (λ x. (stmt_tree x.0, x.1, views x.2)) result (statement_at room free (views lexemes.entry)) }
 {
-    let Some((head, rest)) = nested_head(alloc, room, lexemes)? else {
-        return simple(alloc, room, free, lexemes);
+    let Some((head, rest)) = nested_head(stack, room, lexemes)? else {
+        return simple(stack, room, free, lexemes);
     };
-    let branches = branches(alloc, room, free, takes_other(&head), rest);
+    let branches = branches(stack, room, free, takes_other(&head), rest);
     nested(lexemes.line(), head, branches)
 }
 
 /// Statements up to the closing brace, where `names` more names may be declared.
 #[cycle(blocks)]
-pub fn block(
-    alloc: Global,
+pub fn block<'t>(
+    stack: &mut ExprStack,
     room: u32,
     names: usize,
-    lexemes: Cursor<'_>,
-) -> Result<ReadBlock<'_>, ParseError>
+    lexemes: Cursor<'t>,
+) -> Result<ReadBlock<'t>, ParseError>
     requires { room ≤ 32 }
     ensures { Gives (λ x. (block_tree x.0, x.1, views x.2)) result (block_at room names (views lexemes.entry)) }
 {
-    let mut statements = Vec::new(alloc);
+    let mut statements = Vec::new(stack.alloc());
     let mut rest = lexemes;
     let mut free = names;
     let mut returned = false;
@@ -269,7 +272,7 @@ pub fn block(
         if returned {
             return Err(rest.missing(Fixed::Mark(Mark::CloseBrace)));
         }
-        let (stmt, left, after) = statement(alloc, room, free, rest)?;
+        let (stmt, left, after) = statement(stack, room, free, rest)?;
         returned = is_return(&stmt);
         free = left;
         statements.push(stmt)?;
