@@ -3,8 +3,9 @@
 ghost use Rattle.std.specs.Prelude.{◌≡◌, IfOk, IfSome, IsTrue, None};
 ghost use Rattle.syntax.specs.Limits.{numbers_in_range};
 ghost use Rattle.syntax.specs.Parts.{null_tested};
+ghost use Rattle.syntax.specs.Shapes.{ref_tree};
 ghost use Rattle.syntax.specs.Tree.{Binary};
-ghost use Rattle.syntax.specs.Views.{expr_tree, binary_tree};
+ghost use Rattle.syntax.specs.Views.{binary_tree};
 ghost use Rattle.semantics.specs.Term.{term_of, binary_term};
 ghost use Rattle.replay_terms.specs.declared.term.Term.TheVariants as term;
 ghost use Rattle.replay_terms.specs.declared.term.Part.TheVariants as part;
@@ -13,7 +14,7 @@ ghost use Rattle.replay_terms.specs.Views.{term_view, part_view, NumbersInRange,
 use crate::value::Value;
 use std::alloc::{AllocError, Global};
 use std::mem;
-use syntax::{BinaryOp, Constant, Expr, Name, PrefixOp};
+use syntax::{BinaryOp, Constant, ExprRef, Name, PrefixOp, Shape};
 
 /// An expression of which some parts have their values; parentheses are dropped.
 #[cycle(term)]
@@ -88,9 +89,9 @@ pub(crate) fn put_part_value(place: &mut Part<'_>, value: Value)
 
 /// The term that an expression begins as, on the heap.
 #[cycle(term_of)]
-fn boxed_term_of(alloc: Global, e: &Expr) -> Result<Box<Term<'_>>, AllocError>
-    requires { IsTrue (numbers_in_range (expr_tree e.now)) }
-    ensures view { IfOk result (λ t. term_view t.value ≡ term_of (expr_tree e.now)) }
+fn boxed_term_of(alloc: Global, e: ExprRef<'_>) -> Result<Box<Term<'_>>, AllocError>
+    requires { IsTrue (numbers_in_range (ref_tree e)) }
+    ensures view { IfOk result (λ t. term_view t.value ≡ term_of (ref_tree e.entry)) }
     ensures numbers { IfOk result (λ t. NumbersInRange t.value) }
 {
     let term = term_of(alloc, e)?;
@@ -99,17 +100,14 @@ fn boxed_term_of(alloc: Global, e: &Expr) -> Result<Box<Term<'_>>, AllocError>
 
 /// The part that a name or a number begins as, which has no parts; none for another expression.
 #[inline(always)]
-fn small_part_of(e: &Expr) -> Option<Part<'_>>
-    requires { IsTrue (numbers_in_range (expr_tree e.now)) }
-    ensures view { IfSome result (λ t. part_view t ≡ term_of (expr_tree e.now)) }
+fn small_part_of(e: ExprRef<'_>) -> Option<Part<'_>>
+    requires { IsTrue (numbers_in_range (ref_tree e)) }
+    ensures view { IfSome result (λ t. part_view t ≡ term_of (ref_tree e.entry)) }
     ensures numbers { IfSome result PartInRange }
 {
-    match e {
-        Expr::Variable(name) => Some(Part::Read(name)),
-        Expr::Number { value, unsigned } => Some(Part::Number {
-            value: *value,
-            unsigned: *unsigned,
-        }),
+    match e.shape() {
+        Shape::Variable(name) => Some(Part::Read(name)),
+        Shape::Number { value, unsigned } => Some(Part::Number { value, unsigned }),
         _ => None,
     }
 }
@@ -117,9 +115,9 @@ fn small_part_of(e: &Expr) -> Option<Part<'_>>
 /// The part that an expression begins as. Most are a name or a number, and lie in their term.
 #[inline(always)]
 #[cycle(term_of)]
-fn part_of(alloc: Global, e: &Expr) -> Result<Part<'_>, AllocError>
-    requires { IsTrue (numbers_in_range (expr_tree e.now)) }
-    ensures view { IfOk result (λ t. part_view t ≡ term_of (expr_tree e.now)) }
+fn part_of(alloc: Global, e: ExprRef<'_>) -> Result<Part<'_>, AllocError>
+    requires { IsTrue (numbers_in_range (ref_tree e)) }
+    ensures view { IfOk result (λ t. part_view t ≡ term_of (ref_tree e.entry)) }
     ensures numbers { IfOk result PartInRange }
 {
     match small_part_of(e) {
@@ -130,14 +128,14 @@ fn part_of(alloc: Global, e: &Expr) -> Result<Part<'_>, AllocError>
 
 /// The same of another expression.
 #[cycle(term_of)]
-fn whole_part_of(alloc: Global, e: &Expr) -> Result<Part<'_>, AllocError>
-    requires { IsTrue (numbers_in_range (expr_tree e.now)) }
-    ensures view { IfOk result (λ t. part_view t ≡ term_of (expr_tree e.now)) }
+fn whole_part_of(alloc: Global, e: ExprRef<'_>) -> Result<Part<'_>, AllocError>
+    requires { IsTrue (numbers_in_range (ref_tree e)) }
+    ensures view { IfOk result (λ t. part_view t ≡ term_of (ref_tree e.entry)) }
     ensures numbers { IfOk result PartInRange }
 {
-    match e {
-        Expr::Paren(a) => part_of(alloc, a),
-        e => Ok(Part::Whole(boxed_term_of(alloc, e)?)),
+    match e.shape() {
+        Shape::Paren(a) => part_of(alloc, a),
+        _ => Ok(Part::Whole(boxed_term_of(alloc, e)?)),
     }
 }
 
@@ -146,15 +144,15 @@ fn whole_part_of(alloc: Global, e: &Expr) -> Result<Part<'_>, AllocError>
 fn operation_of<'a>(
     alloc: Global,
     op: BinaryOp,
-    operands: &'a (Expr, Expr),
+    left: ExprRef<'a>,
+    right: ExprRef<'a>,
 ) -> Result<Term<'a>, AllocError>
-    requires left { IsTrue (numbers_in_range (expr_tree operands.now.0)) }
-    requires right { IsTrue (numbers_in_range (expr_tree operands.now.1)) }
-    requires untested { null_tested (Binary (binary_tree op) (expr_tree operands.now.0) (expr_tree operands.now.1)) ≡ None }
-    ensures view { IfOk result (λ t. term_view t ≡ term_of (Binary (binary_tree op) (expr_tree operands.entry.now.0) (expr_tree operands.entry.now.1))) }
+    requires left { IsTrue (numbers_in_range (ref_tree left)) }
+    requires right { IsTrue (numbers_in_range (ref_tree right)) }
+    requires untested { null_tested (Binary (binary_tree op) (ref_tree left) (ref_tree right)) ≡ None }
+    ensures view { IfOk result (λ t. term_view t ≡ term_of (Binary (binary_tree op) (ref_tree left.entry) (ref_tree right.entry))) }
     ensures numbers { IfOk result NumbersInRange }
 {
-    let (left, right) = (&operands.0, &operands.1);
     match op {
         BinaryOp::LogicalAnd => {
             let left = boxed_term_of(alloc, left)?;
@@ -176,30 +174,27 @@ fn operation_of<'a>(
 
 /// The term that an expression begins as. Its names are those of the tree.
 #[cycle(term_of)]
-pub fn term_of(alloc: Global, e: &Expr) -> Result<Term<'_>, AllocError>
-    requires { IsTrue (numbers_in_range (expr_tree e.now)) }
-    ensures view { IfOk result (λ t. term_view t ≡ term_of (expr_tree e.now)) }
+pub fn term_of(alloc: Global, e: ExprRef<'_>) -> Result<Term<'_>, AllocError>
+    requires { IsTrue (numbers_in_range (ref_tree e)) }
+    ensures view { IfOk result (λ t. term_view t ≡ term_of (ref_tree e.entry)) }
     ensures numbers { IfOk result NumbersInRange }
 {
-    match e {
-        Expr::Number { value, unsigned } => Ok(Term::Number {
-            value: *value,
-            unsigned: *unsigned,
-        }),
-        Expr::Named(c) => Ok(Term::Named(*c)),
-        Expr::Variable(name) => Ok(Term::Read(name)),
-        Expr::Element(name, i) => {
+    match e.shape() {
+        Shape::Number { value, unsigned } => Ok(Term::Number { value, unsigned }),
+        Shape::Named(c) => Ok(Term::Named(c)),
+        Shape::Variable(name) => Ok(Term::Read(name)),
+        Shape::Element(name, i) => {
             let index = part_of(alloc, i)?;
             Ok(Term::Element(name, index))
         }
-        Expr::Prefix(op, a) => {
+        Shape::Prefix(op, a) => {
             let operand = part_of(alloc, a)?;
-            Ok(Term::Prefix(*op, operand))
+            Ok(Term::Prefix(op, operand))
         }
-        Expr::Binary(op, operands) => match e.null_test() {
+        Shape::Binary(op, left, right) => match e.null_test() {
             Some(test) => Ok(Term::IsNull(test.equal, test.name)),
-            None => operation_of(alloc, *op, operands),
+            None => operation_of(alloc, op, left, right),
         },
-        Expr::Paren(a) => term_of(alloc, a),
+        Shape::Paren(a) => term_of(alloc, a),
     }
 }
