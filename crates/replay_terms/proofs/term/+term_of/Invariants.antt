@@ -1,5 +1,5 @@
 use Rattle.std.proofs.Common.{◌+◌, ◌*◌, max}
-use Rattle.syntax.specs.Limits.{size}
+use Rattle.syntax.specs.Nodes.{size}
 use Rattle.syntax.specs.Shapes.{ref_tree}
 use Rattle.replay_terms.proofs.term.+term_of.Given as goal
 
