@@ -248,20 +248,53 @@ impl<'a> Variables<'a> {
 /// How many variables are compared with a name before it is looked up by its hash.
 const COMPARED: usize = 8;
 
-/// The place of the variable of this name. The first few are compared with the name at once, since most calls have no more.
+/// How many bytes a name has at most that is compared byte by byte; a longer one is looked up by its hash.
+const SHORT: usize = 16;
+
+/// Whether two names are the same, byte by byte.
+#[inline(always)]
+fn is_same(name: &[u8], other: &[u8]) -> bool
+    ensures { result ≡ bytes_eq name.now other.now }
+{
+    if name.len() != other.len() {
+        return false;
+    }
+    for place in 0..name.len() {
+        if name[place] != other[place] {
+            return false;
+        }
+    }
+    true
+}
+
+/// The place of the variable of this name. The first few are compared with a short name at once, since most calls have no more.
 fn place_of(contents: &IndexMap<&[u8], Content<'_>>, name: &[u8]) -> Option<usize>
     ensures index { result ≡ index_of_by (λ k. bytes_eq name.now k.now) contents.now }
     ensures found { is_some result ≡ is_some (get_by (λ k. bytes_eq name.now k.now) contents.now) }
     ensures within { IfSome result (λ i. i < index_map_len contents.now) }
     ensures value { IfSome result (λ i. slice_get (values contents.now) i ≡ get_by (λ k. bytes_eq name.now k.now) contents.now) }
 {
+    if name.len() > SHORT {
+        return place_by_hash(contents, name);
+    }
     for place in 0..contents.len().min(COMPARED) {
         if let Some((other, _)) = contents.get_index(place) {
-            if name == *other {
+            if is_same(name, other) {
                 return Some(place);
             }
         }
     }
+    place_by_hash(contents, name)
+}
+
+/// The same, by its hash. A function of its own, so that nothing is kept over a call while names are compared.
+#[inline(never)]
+fn place_by_hash(contents: &IndexMap<&[u8], Content<'_>>, name: &[u8]) -> Option<usize>
+    ensures index { result ≡ index_of_by (λ k. bytes_eq name.now k.now) contents.now }
+    ensures found { is_some result ≡ is_some (get_by (λ k. bytes_eq name.now k.now) contents.now) }
+    ensures within { IfSome result (λ i. i < index_map_len contents.now) }
+    ensures value { IfSome result (λ i. slice_get (values contents.now) i ≡ get_by (λ k. bytes_eq name.now k.now) contents.now) }
+{
     contents.get_index_of(name)
 }
 
