@@ -130,6 +130,11 @@ module _ (old new : Contents) (u : BuffersInUse) (takes : Takes old u) where
     few = few;
   }
 
+  -- a variable is set that took as much
+  pub takes_assigned : (x : Identifier) (v w : Variable) → lookup x before ≡ Some w → TakesAsMuch v w → variables_view new ≡ assign x v before → Takes new u
+  takes_assigned x v w there as_much is =
+      takes_same (ap (total copied_length) is ∙ as_before copied_length x v w before there as_much.copied) (ap (total count_viewed) is ∙ as_before count_viewed x v w before there as_much.viewed)
+
   -- a local array is begun
   pub takes_begun : (x : Identifier) (zs : List ℤ) → variables_view new ≡ change x (begun_with zs) before → Takes new u
   takes_begun x zs is =
@@ -138,10 +143,7 @@ module _ (old new : Contents) (u : BuffersInUse) (takes : Takes old u) where
 
   -- an element is written
   pub takes_written : (x : Identifier) (i : ℕ) (z : ℤ) (b : Written) → WritesElement before x i z b (variables_view new) → Takes new u
-  takes_written x i z outcome.Done w =
-      let as_much = written_takes i z w.before w.after w.is in
-      takes_same (ap (total copied_length) w.set ∙ as_before copied_length x w.after w.before before w.there as_much.copied)
-      (ap (total count_viewed) w.set ∙ as_before count_viewed x w.after w.before before w.there as_much.viewed)
+  takes_written x i z outcome.Done w = takes_assigned x w.after w.before w.there (written_takes i z w.before w.after w.is) w.set
   takes_written x i z (outcome.Object n y) w = takes_same (ap (total copied_length) w.same) (ap (total count_viewed) w.same)
   takes_written x i z outcome.Nothing w = takes_same (ap (total copied_length) w.1) (ap (total count_viewed) w.1)
 

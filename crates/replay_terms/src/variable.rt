@@ -1,6 +1,6 @@
 //! The variables of a call in progress.
 
-ghost use Rattle.std.specs.Prelude.{◌≡◌, ◌≤◌, ◌<◌, ◌++◌, [], IfOk, IfSome, Some, is_some, slice_get, drop, flat_map, length, map, pos, replicate, slice_set};
+ghost use Rattle.std.specs.Prelude.{◌≡◌, ◌≤◌, ◌<◌, ◌++◌, [], true, false, IfOk, IfSome, Some, is_some, slice_get, drop, flat_map, length, map, pos, replicate, slice_set};
 ghost use Rattle.std.specs.Option.{option_map};
 ghost use Rattle.base.specs.Bytes.{lookup};
 ghost use Rattle.std.specs.Str.{bytes_eq};
@@ -10,9 +10,10 @@ ghost use Rattle.semantics.specs.CallEffects.{begun_with, copied_elements, freed
 ghost use Rattle.semantics.specs.CallStep.{element_type};
 ghost use Rattle.semantics.specs.Heap.{number_in};
 ghost use Rattle.semantics.specs.Value.{convert};
-ghost use Rattle.semantics.specs.Variable.{assign, change, copied_length, viewed};
+ghost use Rattle.semantics.specs.Variable.{Scalar, assign, change, copied_length, viewed};
 ghost use Rattle.semantics.specs.Views.{names_of, object_value_view};
-ghost use Rattle.replay_terms.specs.Views.{Takes, WritesContent, WritesElement, content_view, count_viewed, had, held_number, variables_view, viewed_by};
+ghost use Rattle.replay_terms.specs.declared.variable.Content.TheVariants as content;
+ghost use Rattle.replay_terms.specs.Views.{value_view, Takes, WritesContent, WritesElement, content_view, count_viewed, had, held_number, variables_view, viewed_by};
 
 use crate::buffers::{BuffersInUse, NOTHING, exchanged, taken};
 use crate::method::MethodId;
@@ -127,6 +128,20 @@ impl<'a> Variables<'a> {
         ensures { IfOk result (λ _. variables_view self.new ≡ assign name.now (content_view content.entry) (variables_view self.old)) }
     {
         self.set_named(name.as_bytes(), content)
+    }
+
+    /// The same with a number. Most variables that are set hold one, and go on taking nothing.
+    pub fn set_number(&mut self, name: &'a Name, value: Value) -> Result<(), AllocError>
+        ensures { IfOk result (λ _. variables_view self.new ≡ assign name.now (Scalar (value_view value)) (variables_view self.old)) }
+    {
+        let name = name.as_bytes();
+        let Some(place) = place_of(&self.contents, name) else {
+            return self.insert(name, Content::Number(value));
+        };
+        if put_number(&mut self.contents[place], value) {
+            return Ok(());
+        }
+        self.set_named(name, Content::Number(value))
     }
 
     /// Sets the variable of this name, which may be none of the unit's names. It is as with `set`.
@@ -296,6 +311,22 @@ fn place_by_hash(contents: &IndexMap<&[u8], Content<'_>>, name: &[u8]) -> Option
     ensures value { IfSome result (λ i. slice_get (values contents.now) i ≡ get_by (λ k. bytes_eq name.now k.now) contents.now) }
 {
     contents.get_index_of(name)
+}
+
+/// Puts a number in the place of another; false where there is none.
+#[inline]
+fn put_number(place: &mut Content<'_>, value: Value) -> bool
+    ensures done { (result ≡ true) → place.new ≡ content.Number value }
+    ensures taken { (result ≡ true) → (old : Value) × (place.old ≡ content.Number old) }
+    ensures other { (result ≡ false) → place.new ≡ place.old }
+{
+    match place {
+        Content::Number(old) => {
+            *old = value;
+            true
+        }
+        _ => false,
+    }
 }
 
 /// Puts what a variable holds in the place of what it held.
