@@ -17,7 +17,9 @@ use parse_lexemes::{Cursor, Fixed, ParseError, ParseRule, Source};
 use parse_statements::block;
 use scan::{Mark, Token, Word, one_spelling};
 use std::alloc::{AllocError, Global};
-use syntax::{Block, Function, Item, Name, Parameter, ReferenceType, ResultType, Static, Unit};
+use syntax::{
+    Block, ExprStack, Function, Item, Name, Parameter, ReferenceType, ResultType, Static, Unit,
+};
 
 /// How high the trees in a function's block may be, which counts one itself.
 const ROOM: u32 = 31;
@@ -38,13 +40,17 @@ fn head(lexemes: Cursor<'_>) -> Result<Cursor<'_>, ParseError>
 
 /// A function's block, with what closes its parameters, where `free` more names may be declared.
 #[tactic(auto, unfolding(crate::specs::Reading::body_at))]
-fn body(alloc: Global, free: usize, lexemes: Cursor<'_>) -> Result<(Block, Cursor<'_>), ParseError>
+fn body<'t>(
+    stack: &mut ExprStack,
+    free: usize,
+    lexemes: Cursor<'t>,
+) -> Result<(Block, Cursor<'t>), ParseError>
     ensures { Gives (λ x. (block_tree x.0, views x.1)) result (body_at free (views lexemes.entry)) }
 {
     let rest = lexemes
         .expect(Fixed::Mark(Mark::CloseParen))?
         .expect(Fixed::Mark(Mark::OpenBrace))?;
-    let (body, _, rest) = block(alloc, ROOM, free, rest)?;
+    let (body, _, rest) = block(stack, ROOM, free, rest)?;
     Ok((body, rest))
 }
 
@@ -65,14 +71,25 @@ fn signature(lexemes: Cursor<'_>) -> Result<(ResultType, &[u8], &[u8], Cursor<'_
 
 /// A function (JNI Specification, chapter 2, "Native Method Arguments").
 #[tactic(auto, unfolding(crate::specs::Reading::function_at))]
-fn function(alloc: Global, lexemes: Cursor<'_>) -> Result<(Function, Cursor<'_>), ParseError>
+fn function<'t>(
+    stack: &mut ExprStack,
+    lexemes: Cursor<'t>,
+) -> Result<(Function, Cursor<'t>), ParseError>
     ensures { Gives (λ x. (function_tree x.0, views x.1)) result (function_at (views lexemes.entry)) }
 {
     let line = lexemes.line();
     let (result, name, class_name, rest) = signature(lexemes)?;
-    let (parameters, rest) = parameters(alloc, rest)?;
-    let (body, rest) = body(alloc, NAMES - parameters.len(), rest)?;
-    let function = made(alloc, line, result, name, class_name, parameters, body)?;
+    let (parameters, rest) = parameters(stack.alloc(), rest)?;
+    let (body, rest) = body(stack, NAMES - parameters.len(), rest)?;
+    let function = made(
+        stack.alloc(),
+        line,
+        result,
+        name,
+        class_name,
+        parameters,
+        body,
+    )?;
     Ok((function, rest))
 }
 
@@ -133,18 +150,18 @@ type ReadItem<'t> = (Item, usize, usize, Cursor<'t>);
 /// A function, where there may be this many more functions and statics.
 #[inline]
 #[tactic(auto, unfolding(crate::specs::Steps::function_item_at))]
-fn function_item(
-    alloc: Global,
+fn function_item<'t>(
+    stack: &mut ExprStack,
     functions: usize,
     statics: usize,
-    lexemes: Cursor<'_>,
-) -> Result<ReadItem<'_>, ParseError>
+    lexemes: Cursor<'t>,
+) -> Result<ReadItem<'t>, ParseError>
     ensures { Gives (λ x. (item_tree x.0, x.1, x.2, views x.3)) result (function_item_at functions statics (views lexemes.entry)) }
 {
     if functions == 0 {
         return Err(lexemes.fault(ParseRule::TooMany));
     }
-    let (function, rest) = function(alloc, lexemes)?;
+    let (function, rest) = function(stack, lexemes)?;
     Ok((Item::Function(function), functions - 1, statics, rest))
 }
 
@@ -168,19 +185,19 @@ fn static_item(
 
 /// An item, where there may be this many more functions and statics.
 #[tactic(auto, unfolding(crate::specs::Reading::item_at, crate::specs::Steps::function_item_at, crate::specs::Steps::static_item_at))]
-fn item(
-    alloc: Global,
+fn item<'t>(
+    stack: &mut ExprStack,
     functions: usize,
     statics: usize,
-    lexemes: Cursor<'_>,
-) -> Result<ReadItem<'_>, ParseError>
+    lexemes: Cursor<'t>,
+) -> Result<ReadItem<'t>, ParseError>
     ensures { Gives (λ x. (item_tree x.0, x.1, x.2, views x.3)) result (item_at functions statics (views lexemes.entry)) }
 {
     if lexemes.starts_with(Fixed::Word(Word::JniExport)) {
-        return function_item(alloc, functions, statics, lexemes);
+        return function_item(stack, functions, statics, lexemes);
     }
     if lexemes.starts_with(Fixed::Word(Word::Static)) {
-        return static_item(alloc, functions, statics, lexemes);
+        return static_item(stack.alloc(), functions, statics, lexemes);
     }
     Err(lexemes.unexpected())
 }
@@ -189,12 +206,15 @@ fn item(
 fn items(alloc: Global, lexemes: Cursor<'_>) -> Result<Vec<Item>, ParseError>
     ensures { Gives (λ v. map item_tree v.items) result (items_at (length (views lexemes.entry) + 1) most_functions most_statics (views lexemes.entry)) }
 {
+    let mut stack = ExprStack::new(alloc);
     let mut items = Vec::new(alloc);
     let mut rest = lexemes;
     let mut functions = MOST_FUNCTIONS;
     let mut statics = MOST_STATICS;
     'items: while !rest.starts_with(Fixed::End) {
-        let (item, functions_left, statics_left, after) = item(alloc, functions, statics, rest)?;
+        let (item, functions_left, statics_left, after) = item(
+            &mut stack, functions, statics, rest,
+        )?;
         items.push(item)?;
         functions = functions_left;
         statics = statics_left;
