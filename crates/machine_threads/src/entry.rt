@@ -1,6 +1,6 @@
 //! What a call is given, and its slots at its entry.
 
-ghost use Rattle.std.specs.Prelude.{◌≡◌, ℕ, true, ◌-◌, ◌<◌, ◌≤◌, [], length, map, filter_map, slice_get, IfOk, OnOk, OnErr, IsTrue, ◌+◌, None, replicate, vec_capacity};
+ghost use Rattle.std.specs.Prelude.{◌≡◌, ℕ, true, ◌++◌, ◌-◌, ◌<◌, ◌≤◌, [], length, map, filter_map, slice_get, IfOk, OnOk, OnErr, IsTrue, ◌+◌, None, replicate, vec_capacity};
 ghost use Rattle.std.specs.List.{list_all};
 ghost use Rattle.base.specs.Limits.{most_names, most_references};
 ghost use Rattle.world_values.specs.Views.{object_value_view};
@@ -78,11 +78,10 @@ pub fn begin(
     let mut buffers = Vec::new(alloc);
     buffers.resize(slots.buffers as usize, Buffer::Null)?;
     let mut numbers = Vec::with_capacity(alloc, slots.numbers as usize)?;
-    fill_numbers(&mut numbers, &next.arguments, slots.numbers as usize);
+    let given = fill_numbers(&mut numbers, &next.arguments, slots.numbers as usize);
     let mut references = Vec::with_capacity(alloc, slots.references as usize)?;
     let mut locals = Locals::new(alloc)?;
-    let given = 1 + count_references(&next.arguments);
-    push_first(&mut locals, given + MORE_LOCALS)?;
+    push_first(&mut locals, 1 + given + MORE_LOCALS)?;
     fill_references(
         &mut locals,
         &mut references,
@@ -131,21 +130,17 @@ pub fn begin_again(ended: &mut Activation, code: &Code, loaded: &[Addr], next: &
     ended.function = next.function;
     ended.place = 0;
     ended.stack.clear();
-    fill_numbers(
-        &mut ended.slots.numbers,
-        &next.arguments,
-        slots.numbers as usize,
-    );
+    let arguments: &[Value] = &next.arguments;
+    let given = fill_numbers(&mut ended.slots.numbers, arguments, slots.numbers as usize);
     empty_fields(&mut ended.slots.fields, slots.field_ids as usize);
     empty_buffers(&mut ended.slots.buffers, slots.buffers as usize);
-    let given = 1 + count_references(&next.arguments);
-    ended.locals.restart(given + MORE_LOCALS);
+    ended.locals.restart(1 + given + MORE_LOCALS);
     fill_references(
         &mut ended.locals,
         &mut ended.slots.references,
         loaded,
         next.class,
-        &next.arguments,
+        arguments,
         slots.references as usize,
     );
 }
@@ -196,40 +191,50 @@ fn fill_buffers(slots: &mut Vec<Buffer>, count: usize)
     slots.resize(count, Buffer::Null).unwrap();
 }
 
-/// `count` number slots, of which the first hold the numbers that the call is given.
+/// `count` number slots, of which the first hold the numbers that the call is given. The answer is how many of its arguments are references
+/// but NULL: so one walk over them serves for both.
 #[inline(always)]
-fn fill_numbers(slots: &mut Vec<u32>, arguments: &[Value], count: usize)
+fn fill_numbers(slots: &mut Vec<u32>, arguments: &[Value], count: usize) -> u32
     requires given { length (filter_map given_word arguments.now) ≤ count }
     requires room { count ≤ vec_capacity slots.old }
-    ensures { IsNumbersOf count arguments.now slots.new.items }
+    requires few { length arguments.now ≤ most_names }
+    ensures numbers { IsNumbersOf count arguments.now slots.new.items }
+    ensures references { result ≡ length (references_in (filter_map given_address arguments.now)) }
+    ensures few { result ≤ most_names }
 {
     slots.clear();
+    let mut references = 0;
     for argument in arguments {
         match argument {
             Value::Number(number) => slots.push_reserved(*number),
             Value::Null => {}
-            Value::Block(_) => {}
+            Value::Block(_) => references += 1,
         }
     }
-    slots.resize(count, 0).unwrap();
+    add_zeros(slots, count);
+    references
 }
 
-/// How many of the arguments are references but NULL.
+/// `count` number slots in all, of which the further ones hold 0.
 #[inline(always)]
-fn count_references(arguments: &[Value]) -> u32
-    requires { length arguments.now ≤ most_names }
-    ensures count { result ≡ length (references_in (filter_map given_address arguments.now)) }
-    ensures few { result ≤ most_names }
+fn add_zeros(slots: &mut Vec<u32>, count: usize)
+    requires given { length slots.old.items ≤ count }
+    requires room { count ≤ vec_capacity slots.old }
+    ensures { slots.new.items ≡ slots.old.items ++ replicate (count - length slots.old.items) 0 }
 {
-    let mut count = 0;
-    for argument in arguments {
-        match argument {
-            Value::Number(_) => {}
-            Value::Null => {}
-            Value::Block(_) => count += 1,
-        }
+    if slots.len() < count {
+        fill_zeros(slots, count);
     }
-    count
+}
+
+/// The same of a function that has more number slots than it is given numbers. It stands apart from the entry of all others.
+#[inline(never)]
+fn fill_zeros(slots: &mut Vec<u32>, count: usize)
+    requires given { length slots.old.items ≤ count }
+    requires room { count ≤ vec_capacity slots.old }
+    ensures { slots.new.items ≡ slots.old.items ++ replicate (count - length slots.old.items) 0 }
+{
+    slots.resize(count, 0).unwrap();
 }
 
 /// Makes references to the class and to what the call is given but NULL, in the first frame, which has none yet. The first of
@@ -263,6 +268,28 @@ fn fill_references(
             }
         }
     }
+    add_nulls(keys, count);
+}
+
+/// `count` slots of references in all, of which the further ones are NULL.
+#[inline(always)]
+fn add_nulls(keys: &mut Vec<Option<Local>>, count: usize)
+    requires given { length keys.old.items ≤ count }
+    requires room { count ≤ vec_capacity keys.old }
+    ensures { keys.new.items ≡ keys.old.items ++ replicate (count - length keys.old.items) None }
+{
+    if keys.len() < count {
+        fill_nulls(keys, count);
+    }
+}
+
+/// The same of a function that has more slots of references than it is given references, apart likewise.
+#[inline(never)]
+fn fill_nulls(keys: &mut Vec<Option<Local>>, count: usize)
+    requires given { length keys.old.items ≤ count }
+    requires room { count ≤ vec_capacity keys.old }
+    ensures { keys.new.items ≡ keys.old.items ++ replicate (count - length keys.old.items) None }
+{
     keys.resize(count, None).unwrap();
 }
 
