@@ -1,20 +1,16 @@
 //! A call of a method, which leaves the call in progress to the callers (JNI Specification, chapter 4, "Calling Static
 //! Methods").
 
-ghost use Rattle.std.specs.Prelude.{◌≡◌, ℕ, ◌<◌, ◌≤◌, Some, IsSome, drop, length, reverse, IfOk, OnOk, OnErr, vec_len, vec_capacity};
+ghost use Rattle.std.specs.Prelude.{◌≡◌, ℕ, ◌<◌, ◌≤◌, Some, IsSome, length, OnOk, OnErr, vec_len, vec_capacity};
 ghost use Rattle.code_meaning.specs.Lowered.{IsLowered};
-ghost use Rattle.machine_answers.specs.Asked.{references_of};
-ghost use Rattle.machine_answers.specs.Passed.{passed_in};
 ghost use Rattle.machine_steps.specs.Pushed.{MakesCall, Pushes, PushesMethod};
 
-use code::instr::{Call, Instr};
+use code::instr::{Call, Instr, Operand};
 use code_meaning::Program;
 use heap::Value;
 use machine_answers::passed::pass;
-use machine_scenes::activation::Activation;
 use machine_scenes::handle::MethodHandle;
 use machine_scenes::operands::{method_in, operand_of};
-use machine_scenes::references::References;
 use machine_scenes::store::Store;
 use machine_threads::boxed_activation::BoxedActivation;
 use machine_threads::thread::{Entering, Thread};
@@ -61,8 +57,8 @@ pub(crate) fn push(
     }
 }
 
-/// Leaves the call in progress to the callers, and has this method as the one to be entered next, with what this call passes to it. That
-/// is worked out before anything changes.
+/// Leaves the call in progress to the callers, and has this method as the one to be entered next, with what this call passes to it. Host memory
+/// is taken before anything changes.
 #[inline(always)]
 pub(crate) fn push_method(
     store: &Store,
@@ -77,19 +73,17 @@ pub(crate) fn push_method(
     ensures err { OnErr result (thread.new ≡ thread.old) }
 {
     let alloc = *thread.calls.allocator();
-    let arguments = match &thread.call {
-        Some(activation) => arguments_passed(
-            alloc,
-            store,
-            activation.get(),
-            call,
-            &mut thread.spare_arguments,
-            &mut thread.callers,
-        )?,
-        None => unreachable!(),
-    };
+    let operands: &[Operand] = &call.operands;
+    have_memory(
+        alloc,
+        operands.len(),
+        &mut thread.spare_arguments,
+        &mut thread.callers,
+    )?;
     match thread.call.take() {
         Some(caller) => {
+            let spare = mem::replace(&mut thread.spare_arguments, Vec::new(alloc));
+            let arguments = pass(spare, store, caller.get(), operands);
             thread.callers.push_reserved(caller);
             thread.entering = Some(Entering {
                 function: method.function,
@@ -102,67 +96,52 @@ pub(crate) fn push_method(
     }
 }
 
-/// What a call of a method passes to it, and room for one caller more.
+/// Room for this many arguments in the spare vector, and for one caller more; mostly it is there.
 #[inline(always)]
-fn arguments_passed(
+fn have_memory(
     alloc: Global,
-    store: &Store,
-    activation: &Activation,
-    call: &Call,
+    count: usize,
     spare: &mut Vec<Value>,
     callers: &mut Vec<BoxedActivation>,
-) -> Result<Vec<Value>, AllocError>
+) -> Result<(), AllocError>
     requires few { length callers.old.items < 63 }
-    ensures passed { IfOk result (λ arguments. arguments.items ≡ passed_in (references_of store.now activation.now)
-        (drop 2 call.now.operands.items) (reverse activation.now.stack)) }
+    ensures arguments { OnOk result (count ≤ vec_capacity spare.new) }
     ensures items { callers.new.items ≡ callers.old.items }
     ensures room { OnOk result (vec_len callers.new < vec_capacity callers.new) }
     ensures callers { OnErr result (callers.new ≡ callers.old) }
     ensures spare { OnErr result (spare.new ≡ spare.old) }
 {
-    let mut arguments = memory_for(alloc, call.operands.len(), spare, callers)?;
-    let references = References::new(
-        &activation.slots.references,
-        &activation.locals,
-        &store.statics,
-        &store.globals,
-        &store.weaks,
-    );
-    pass(
-        &mut arguments,
-        &references,
-        &call.operands,
-        &activation.stack,
-    );
-    Ok(arguments)
+    if count <= spare.capacity() && callers.len() < callers.capacity() {
+        return Ok(());
+    }
+    take_memory(alloc, count, spare, callers)
 }
 
-/// A vector with room for this many arguments, which is the spare one where that has it, and room for one caller more.
-#[inline(always)]
-fn memory_for(
+/// The same where host memory is to be taken for one of them. It stands apart from calls that need none.
+#[inline(never)]
+fn take_memory(
     alloc: Global,
     count: usize,
     spare: &mut Vec<Value>,
     callers: &mut Vec<BoxedActivation>,
-) -> Result<Vec<Value>, AllocError>
+) -> Result<(), AllocError>
     requires few { length callers.old.items < 63 }
-    ensures arguments { IfOk result (λ arguments. count ≤ vec_capacity arguments) }
+    ensures arguments { OnOk result (count ≤ vec_capacity spare.new) }
     ensures items { callers.new.items ≡ callers.old.items }
     ensures room { OnOk result (vec_len callers.new < vec_capacity callers.new) }
     ensures callers { OnErr result (callers.new ≡ callers.old) }
     ensures spare { OnErr result (spare.new ≡ spare.old) }
 {
     if count <= spare.capacity() {
-        make_room(alloc, callers)?;
-        return Ok(mem::replace(spare, Vec::new(alloc)));
+        return make_room(alloc, callers);
     }
     let arguments = Vec::with_capacity(alloc, count)?;
     make_room(alloc, callers)?;
-    Ok(arguments)
+    *spare = arguments;
+    Ok(())
 }
 
 /// Room for one caller more. Where there is none, the callers move to where there is; an error leaves them where they are.
-#[inline(always)]
 fn make_room(alloc: Global, callers: &mut Vec<BoxedActivation>) -> Result<(), AllocError>
     requires few { length callers.old.items < 63 }
     ensures items { callers.new.items ≡ callers.old.items }
