@@ -23,7 +23,7 @@ use crate::fault::StepFault;
 use crate::invoke::call_at_once;
 use crate::monitor::is_of_methods;
 use crate::push::push;
-use crate::receive::receive;
+use crate::receive::{receive, receive_word};
 use code::code::Code;
 use code::instr::Instr;
 use code_meaning::Program;
@@ -217,15 +217,22 @@ pub(crate) fn resume(
             match code.instr_at(caller.place) {
                 Instr::Call(boxed) => {
                     let call = boxed.call();
-                    let given = given_back(thread.pending, call.result, value);
-                    receive(
-                        caller,
-                        &mut store.statics,
-                        call.target,
-                        call.result,
-                        None,
-                        &given,
-                    );
+                    match (thread.pending, call.result, value) {
+                        (None, ResultKind::GivesInt, ReturnValue::Number(word)) => {
+                            receive_word(caller, &call.target, word)
+                        }
+                        _ => {
+                            let given = given_back(thread.pending, call.result, value);
+                            receive(
+                                caller,
+                                &mut store.statics,
+                                call.target,
+                                call.result,
+                                None,
+                                &given,
+                            )
+                        }
+                    }
                 }
                 _ => unreachable!(),
             }

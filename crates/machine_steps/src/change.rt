@@ -131,7 +131,12 @@ pub fn return_to_caller(
             let code = program.code_at(activation.function);
             let instr = code.instr_at(activation.place);
             match instr {
-                Instr::Return | Instr::ReturnJint | Instr::ReturnReference(_) => {
+                Instr::ReturnJint => {
+                    let value = given_by(instr, activation);
+                    resume(program, store, thread, value);
+                    true
+                }
+                Instr::Return | Instr::ReturnReference(_) => {
                     let value = given_by(instr, activation);
                     resume(program, store, thread, value);
                     true

@@ -61,7 +61,9 @@ fn enter_anew(program: &Program<'_>, loaded: &[Addr], thread: &mut Thread) -> Re
     match &thread.entering {
         Some(entering) => {
             let activation = begin_call(alloc, program, loaded, entering)?;
-            keep_arguments(&mut thread.entering, &mut thread.spare_arguments);
+            if let Some(entering) = thread.entering.take() {
+                thread.spare_arguments = arguments_of(entering);
+            }
             thread.call = Some(activation);
             Ok(())
         }
@@ -88,34 +90,32 @@ pub(crate) fn enter_again(program: &Program<'_>, loaded: &[Addr], thread: &mut T
     ensures ending { thread.new.ending ≡ thread.old.ending }
     ensures kept { result ≡ false → thread.new ≡ thread.old }
 {
-    match &thread.entering {
+    match thread.entering.take() {
         Some(entering) => {
-            if !begin_in_spare(program, loaded, &mut thread.spare, entering) {
-                return false;
+            if begin_in_spare(program, loaded, &mut thread.spare, &entering) {
+                thread.spare_arguments = arguments_of(entering);
+                mem::swap(&mut thread.call, &mut thread.spare);
+                true
+            } else {
+                thread.entering = Some(entering);
+                false
             }
-            keep_arguments(&mut thread.entering, &mut thread.spare_arguments);
-            mem::swap(&mut thread.call, &mut thread.spare);
-            true
         }
         None => false,
     }
 }
 
-/// No call is to be entered any more. What it was given is kept, for its memory.
+/// What a call is given.
 #[inline(always)]
-fn keep_arguments(entering: &mut Option<Entering>, spare: &mut Vec<Value>)
-    ensures { entering.new ≡ None }
+fn arguments_of(entering: Entering) -> Vec<Value>
+    ensures { result ≡ entering.arguments }
 {
-    if let Some(
-        Entering {
-            function: _,
-            class: _,
-            arguments,
-        },
-    ) = entering.take()
-    {
-        *spare = arguments;
-    }
+    let Entering {
+        function: _,
+        class: _,
+        arguments,
+    } = entering;
+    arguments
 }
 
 /// Makes the call that has ended one before its first instruction, if there is one whose memory serves.

@@ -73,6 +73,24 @@ pub fn receive_number(activation: &mut Activation, target: &Target, word: u32)
     }
 }
 
+/// The same, faster where the number goes into a slot, as that of a method mostly does.
+#[inline(always)]
+pub(crate) fn receive_word(activation: &mut Activation, target: &Target, word: u32)
+    requires place { activation.old.place + 1 < 2 ^ 64 }
+    requires target { HasTarget target.now activation.old }
+    ensures { (kind : SourceKind) (told : Option ℕ)
+        → Receives target.now kind told (Given.Number word) activation.old activation.new }
+{
+    match *target {
+        Target::Number(slot) => {
+            activation.stack.clear();
+            activation.place += 1;
+            activation.slots.numbers[slot as usize] = word;
+        }
+        _ => keep_number(activation, target, word),
+    }
+}
+
 /// The same, also where the number isn't dropped, as it mostly is. It stands apart from calls of monitors, which are faster
 /// without its variables.
 #[inline(never)]
