@@ -140,6 +140,17 @@ loop-argument-init c =
       capacity = omega (arith, c.clear.ensures.capacity, c.push_reserved.ensures.capacity, c.requires.room);
     }
 
+pub add_nulls-requires-clause-given : goal.add_nulls-requires-clause-given
+add_nulls-requires-clause-given c =
+    let xs = c.args.arguments.now in
+    let given : List (Option ℕ) = filter_map given_address xs in
+    let object : Option ℕ = slice_get c.args.loaded.now (c.args.class.number - 1) in
+    let whole : take c.loop-argument.argument-index xs ≡ xs = take_all c.loop-argument.argument-index xs c.loop-argument-test.false in
+    let keys : c.loop-argument.keys.items ≡ keys_from 0 (object ∷ given) = c.loop-argument.invariant.keys ∙ ap (λ (l : List Value). keys_from 0 (object ∷ filter_map given_address l)) whole in
+    let counted : length c.loop-argument.keys.items ≡ length (object ∷ given) = ap length keys ∙ keys_counted 0 (object ∷ given) in
+    let few : length given < c.args.count = c.requires.given in
+    omega (arith, counted, few)
+
 pub returns : goal.returns
 returns c =
     let xs = c.args.arguments.now in
@@ -152,13 +163,10 @@ returns c =
     let all : List (Option ℕ) = object ∷ given in
     let keys : c.loop-argument.keys.items ≡ keys_from 0 all = c.loop-argument.invariant.keys ∙ ap (λ (l : List Value). keys_from 0 (object ∷ filter_map given_address l)) whole in
     let table : c.loop-argument.locals ≡ one_frame capacity (references_in all) = c.loop-argument.invariant.table ∙ ap (λ (l : List Value). one_frame capacity (references_in (object ∷ filter_map given_address l))) whole in
-    let counted : vec_len c.loop-argument.keys ≡ length c.loop-argument.keys.items = grind (arith, common_steps) in
     let longer : length c.loop-argument.keys.items ≡ length all = ap length keys ∙ keys_counted 0 all in
     let few : length given < c.args.count = c.requires.given in
-    let more : ℕ = c.args.count - vec_len c.loop-argument.keys in
+    let more : ℕ = c.args.count - length c.loop-argument.keys.items in
     let missing : List (Option ℕ) = replicate more None in
-    let items : c.resize.new.self.items ≡ take c.args.count c.loop-argument.keys.items ++ missing = grind (arith, common_steps) in
-    let short : length c.loop-argument.keys.items ≤ c.args.count = omega (arith, longer, few) in
     let one_more : capacity ≡ suc (length (references_in given)) + 16 = omega arith in
     let room : capacity ≡ length (references_in all) + 16 = one_more ∙ ap (λ (o : Option ℕ). length (references_in (o ∷ given)) + 16) (sym is) in
     let nulls : references_in (all ++ missing) ≡ references_in all = references_of_nulls all more in
@@ -167,10 +175,10 @@ returns c =
     record {
       addresses = all ++ missing;
       given = record {
-        counted = omega (arith, together, others, longer, counted, few);
+        counted = omega (arith, together, others, longer, few);
         more = more;
         given = refl;
       };
       made = table ∙ ap (λ (n : ℕ). one_frame n (references_in all)) room ∙ ap (λ (l : List ℕ). one_frame (length l + 16) l) (sym nulls);
-      held = items ∙ ap (λ (l : List (Option ℕ)). l ++ missing) (take_all c.args.count c.loop-argument.keys.items short ∙ keys) ∙ sym (keys_of_nulls 0 all more);
+      held = c.add_nulls.ensures ∙ ap (λ (l : List (Option ℕ)). l ++ missing) keys ∙ sym (keys_of_nulls 0 all more);
     }
