@@ -3,7 +3,8 @@
 ghost use Rattle.std.specs.Prelude.{◌≡◌, ◌++◌, IfOk, drop, map, slice_get, zip};
 ghost use Rattle.std.specs.Option.{option_map};
 ghost use Rattle.base.specs.Bytes.{lookup};
-ghost use Rattle.syntax.specs.Views.{argument_tree, expr_tree};
+ghost use Rattle.syntax.specs.Shapes.{ref_tree};
+ghost use Rattle.syntax.specs.Views.{argument_tree};
 ghost use Rattle.classes.specs.FieldViews.{field_id_view};
 ghost use Rattle.jni.specs.Prototype.{ParameterKind as Kind, Passed};
 ghost use Rattle.jni.specs.Table.{function_value, parameter_value};
@@ -28,7 +29,7 @@ use replay_terms::{
 };
 use semantics::{Level, NO_OBJECT, ObjectId, ObjectValue};
 use std::alloc::{AllocError, Global};
-use syntax::{Argument, Constant, Expr, Name};
+use syntax::{Argument, Constant, ExprRef, Name, Shape};
 
 /// An argument of a call, looked up.
 #[derive(Clone, Copy)]
@@ -156,7 +157,7 @@ fn given_argument<'a>(
     match argument {
         Argument::Text(bytes) => Actual::Text(bytes),
         Argument::AddressOf(name) => Actual::Variable(Some(name)),
-        Argument::Value(e) => look_up_expression(shared, variables, parameter, e),
+        Argument::Value(e) => look_up_expression(shared, variables, parameter, e.whole()),
     }
 }
 
@@ -165,9 +166,9 @@ fn look_up_expression<'a>(
     shared: &Shared<'_>,
     variables: &Variables<'a>,
     parameter: ParameterKind,
-    e: &'a Expr,
+    e: ExprRef<'a>,
 ) -> Actual<'a>
-    ensures { actual_view result ≡ look_up_expression (sight_in (shared_view shared.now) variables.now) (parameter_value parameter) (expr_tree e.now) }
+    ensures { actual_view result ≡ look_up_expression (sight_in (shared_view shared.now) variables.now) (parameter_value parameter) (ref_tree e.entry) }
 {
     match parameter {
         ParameterKind::FieldID => field_argument(variables, e),
@@ -181,32 +182,32 @@ fn look_up_expression<'a>(
 }
 
 /// The variable that is named.
-fn named_variable(e: &Expr) -> Option<&Name>
-    ensures { name_view result ≡ named_variable (expr_tree e.now) }
+fn named_variable(e: ExprRef<'_>) -> Option<&Name>
+    ensures { name_view result ≡ named_variable (ref_tree e.entry) }
 {
-    match e {
-        Expr::Variable(name) => Some(name),
+    match e.shape() {
+        Shape::Variable(name) => Some(name),
         _ => None,
     }
 }
 
 /// The mode that stands for `JNI_COMMIT`, `JNI_ABORT` or 0.
-fn mode_of(e: &Expr) -> ReleaseMode
-    ensures { mode_view result ≡ mode_of (expr_tree e.now) }
+fn mode_of(e: ExprRef<'_>) -> ReleaseMode
+    ensures { mode_view result ≡ mode_of (ref_tree e.entry) }
 {
-    match e {
-        Expr::Named(Constant::Commit) => ReleaseMode::CopyBack,
-        Expr::Named(Constant::Abort) => ReleaseMode::FreeUncopied,
+    match e.shape() {
+        Shape::Named(Constant::Commit) => ReleaseMode::CopyBack,
+        Shape::Named(Constant::Abort) => ReleaseMode::FreeUncopied,
         _ => ReleaseMode::CopyBackAndFree,
     }
 }
 
 /// A name or NULL where a field ID is asked for.
-fn field_argument<'a>(variables: &Variables<'a>, e: &'a Expr) -> Actual<'a>
-    ensures { (shared : SharedOfThreads) → actual_view result ≡ field_argument (sight_in shared variables.now) (expr_tree e.now) }
+fn field_argument<'a>(variables: &Variables<'a>, e: ExprRef<'a>) -> Actual<'a>
+    ensures { (shared : SharedOfThreads) → actual_view result ≡ field_argument (sight_in shared variables.now) (ref_tree e.entry) }
 {
-    match e {
-        Expr::Variable(name) => Actual::Field(field_of(variables, name)),
+    match e.shape() {
+        Shape::Variable(name) => Actual::Field(field_of(variables, name)),
         _ => Actual::Field(None),
     }
 }
@@ -227,11 +228,11 @@ fn field_of<'a>(variables: &Variables<'a>, name: &Name) -> Option<FieldId<'a>>
 }
 
 /// A name or NULL where a method ID is asked for.
-fn method_argument<'a>(variables: &Variables<'a>, e: &'a Expr) -> Actual<'a>
-    ensures { (shared : SharedOfThreads) → actual_view result ≡ method_argument (sight_in shared variables.now) (expr_tree e.now) }
+fn method_argument<'a>(variables: &Variables<'a>, e: ExprRef<'a>) -> Actual<'a>
+    ensures { (shared : SharedOfThreads) → actual_view result ≡ method_argument (sight_in shared variables.now) (ref_tree e.entry) }
 {
-    match e {
-        Expr::Variable(name) => Actual::Method(method_of(variables, name)),
+    match e.shape() {
+        Shape::Variable(name) => Actual::Method(method_of(variables, name)),
         _ => Actual::Method(None),
     }
 }
@@ -260,11 +261,15 @@ fn named_reference<'a>(shared: &Shared<'_>, variables: &Variables<'a>, name: &'a
 }
 
 /// A name or NULL where a reference is asked for.
-fn reference_argument<'a>(shared: &Shared<'_>, variables: &Variables<'a>, e: &'a Expr) -> Actual<'a>
-    ensures { actual_view result ≡ reference_argument (sight_in (shared_view shared.now) variables.now) (expr_tree e.now) }
+fn reference_argument<'a>(
+    shared: &Shared<'_>,
+    variables: &Variables<'a>,
+    e: ExprRef<'a>,
+) -> Actual<'a>
+    ensures { actual_view result ≡ reference_argument (sight_in (shared_view shared.now) variables.now) (ref_tree e.entry) }
 {
-    match e {
-        Expr::Variable(name) => named_reference(shared, variables, name),
+    match e.shape() {
+        Shape::Variable(name) => named_reference(shared, variables, name),
         _ => Actual::Reference(None, StaticReference::Empty),
     }
 }

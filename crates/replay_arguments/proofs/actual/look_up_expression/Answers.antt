@@ -1,6 +1,6 @@
 use Rattle.std.proofs.Common.{◌≡◌, refl, sym, ◌∙◌}
 use Rattle.syntax.specs.Tree.{Expr}
-use Rattle.syntax.specs.Views.{expr_tree}
+use Rattle.syntax.specs.Shapes.{ref_tree}
 use Rattle.base.specs.declared.element.ElementType.{ElementType}
 use Rattle.jni.specs.declared.access.Access.{Access}
 use Rattle.jni.specs.declared.kinds.ParameterKind.{ParameterKind}
@@ -44,4 +44,4 @@ returns-in-MethodID c = rw c.in-MethodID.is (c.method_argument.ensures (shared_v
 pub returns-in_default : goal.returns-in_default
 returns-in_default c =
     c.reference_argument.ensures
-    ∙ sym (by_default (sight_in (shared_view c.args.shared.now) c.args.variables.now) (expr_tree c.args.e.now) c.args.parameter c.in_default.not-FieldID c.in_default.not-MethodID c.in_default.not-ArrayVariable c.in_default.not-BufferVariable c.in_default.not-Mode c.in_default.not-IsCopy)
+    ∙ sym (by_default (sight_in (shared_view c.args.shared.now) c.args.variables.now) (ref_tree c.args.e) c.args.parameter c.in_default.not-FieldID c.in_default.not-MethodID c.in_default.not-ArrayVariable c.in_default.not-BufferVariable c.in_default.not-Mode c.in_default.not-IsCopy)
