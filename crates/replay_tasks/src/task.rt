@@ -8,6 +8,7 @@ ghost use Rattle.jni.specs.Table.{function_value, parameter_value};
 ghost use Rattle.syntax.specs.Views.{argument_tree, call_tree, stmt_tree, expr_tree, right_side_tree, test_tree, block_tree};
 ghost use Rattle.syntax.specs.Limits.{numbers_in_range};
 ghost use Rattle.syntax.specs.Parts.{argument_expressions};
+ghost use Rattle.syntax.specs.Shapes.{ref_tree};
 ghost use Rattle.syntax.specs.Tree.{Value};
 ghost use Rattle.semantics.specs.Task.{Declared, Loop, Print, ReturnValue, SetElement, set_task, right_side_task, if_task, task_of, call_task, operand, passed_operand};
 ghost use Rattle.semantics.specs.Term.{term_of};
@@ -20,7 +21,8 @@ use jni::{JniFunction, ParameterKind, function_named};
 use replay_terms::{Operand, Term, passed, term_of};
 use std::alloc::{AllocError, Global};
 use syntax::{
-    Argument, Block, Call, Constant, ElementType, Expr, Form, Name, RightSide, Stmt, Test,
+    Argument, Block, Call, Constant, ElementType, Expr, ExprRef, Form, Name, RightSide, Shape,
+    Stmt, Test,
 };
 
 /// A call that is to do.
@@ -110,13 +112,13 @@ fn value_task<'a>(
     line: usize,
     target: Target<'a>,
     name: &'a Name,
-    e: &'a Expr,
+    e: ExprRef<'a>,
 ) -> Result<(), AllocError>
-    requires { ExprInRange (expr_tree e.now) }
-    ensures view { IfOk result (λ _. Begins (set_task line (target_view target.entry) name.entry.now (expr_tree e.entry.now)) place.new) }
+    requires { ExprInRange (ref_tree e) }
+    ensures view { IfOk result (λ _. Begins (set_task line (target_view target.entry) name.entry.now (ref_tree e.entry)) place.new) }
     ensures range { IfOk result (λ _. BegunInRange place.new) }
 {
-    if let Expr::Named(Constant::Null) = e {
+    if let Shape::Named(Constant::Null) = e.shape() {
         *place = Some(Task::SetNull(target));
         return Ok(());
     }
@@ -222,17 +224,17 @@ fn push_passed<'a>(
 fn passed_operand<'a>(
     alloc: Global,
     argument: &'a Argument,
-    e: &'a Expr,
+    e: ExprRef<'a>,
 ) -> Result<Operand<'a>, AllocError>
-    requires numbers { ExprInRange (expr_tree e.now) }
-    requires value { argument_tree argument.now ≡ Value (expr_tree e.now) }
-    ensures view { IfOk result (λ o. operand_view o ≡ passed_operand (expr_tree e.entry.now)) }
+    requires numbers { ExprInRange (ref_tree e) }
+    requires value { argument_tree argument.now ≡ Value (ref_tree e) }
+    ensures view { IfOk result (λ o. operand_view o ≡ passed_operand (ref_tree e.entry)) }
     ensures range { IfOk result OperandInRange }
 {
-    match e {
-        Expr::Named(Constant::Null) => Ok(Operand::Given(argument)),
-        Expr::Variable(name) => Ok(Operand::Passed(name)),
-        e => Ok(Operand::Number(term_of(alloc, e)?)),
+    match e.shape() {
+        Shape::Named(Constant::Null) => Ok(Operand::Given(argument)),
+        Shape::Variable(name) => Ok(Operand::Passed(name)),
+        _ => Ok(Operand::Number(term_of(alloc, e)?)),
     }
 }
 
@@ -248,11 +250,11 @@ fn operand_of<'a>(
 {
     match parameter {
         ParameterKind::IntNumber => match argument {
-            Argument::Value(e) => Ok(Operand::Number(term_of(alloc, e)?)),
+            Argument::Value(e) => Ok(Operand::Number(term_of(alloc, e.whole())?)),
             Argument::Text(_) | Argument::AddressOf(_) => Ok(Operand::Given(argument)),
         },
         ParameterKind::Passed => match argument {
-            Argument::Value(e) => passed_operand(alloc, argument, e),
+            Argument::Value(e) => passed_operand(alloc, argument, e.whole()),
             Argument::Text(_) | Argument::AddressOf(_) => Ok(Operand::Given(argument)),
         },
         _ => Ok(Operand::Given(argument)),
@@ -273,7 +275,7 @@ fn set_task<'a>(
     ensures range { IfOk result (λ _. BegunInRange place.new) }
 {
     match right {
-        RightSide::Expr(e) => value_task(alloc, place, line, target, name, e),
+        RightSide::Expr(e) => value_task(alloc, place, line, target, name, e.whole()),
         RightSide::Call(call) => call_task(alloc, place, line, Purpose::Put(target), call),
     }
 }
@@ -295,7 +297,7 @@ fn if_task<'a>(
 {
     match test {
         Test::Expr(e) => {
-            let test = term_of(alloc, e)?;
+            let test = term_of(alloc, e.whole())?;
             *place = Some(Task::Branch(Choice {
                 line,
                 test,
@@ -346,8 +348,8 @@ fn element_task<'a>(
     ensures view { IfOk result (λ _. Begins (SetElement line name.entry.now (term_of (expr_tree index.entry.now)) (term_of (expr_tree e.entry.now))) place.new) }
     ensures range { IfOk result (λ _. BegunInRange place.new) }
 {
-    let index = term_of(alloc, index)?;
-    let number = term_of(alloc, e)?;
+    let index = term_of(alloc, index.whole())?;
+    let number = term_of(alloc, e.whole())?;
     *place = Some(Task::SetElement(ElementAssignment {
         line,
         name,
@@ -368,7 +370,7 @@ fn print_task<'a>(
     ensures view { IfOk result (λ _. Begins (Print line (term_of (expr_tree e.entry.now))) place.new) }
     ensures range { IfOk result (λ _. BegunInRange place.new) }
 {
-    let term = term_of(alloc, e)?;
+    let term = term_of(alloc, e.whole())?;
     *place = Some(Task::Print(Evaluation { line, term }));
     Ok(())
 }
@@ -386,7 +388,7 @@ pub fn loop_task<'a>(
     ensures view { IfOk result (λ _. Begins (Loop line (expr_tree test.entry.now) (term_of (expr_tree test.entry.now)) (block_tree body.entry.now)) place.new) }
     ensures range { IfOk result (λ _. BegunInRange place.new) }
 {
-    let term = term_of(alloc, test)?;
+    let term = term_of(alloc, test.whole())?;
     *place = Some(Task::Loop(Iteration {
         line,
         test,
@@ -407,7 +409,7 @@ fn return_task<'a>(
     ensures view { IfOk result (λ _. Begins (ReturnValue line (term_of (expr_tree e.entry.now))) place.new) }
     ensures range { IfOk result (λ _. BegunInRange place.new) }
 {
-    let term = term_of(alloc, e)?;
+    let term = term_of(alloc, e.whole())?;
     *place = Some(Task::ReturnValue(Evaluation { line, term }));
     Ok(())
 }
