@@ -7,7 +7,7 @@ use replay_arguments::{Locals, Shared};
 use replay_tasks::{Invocation, Purpose, Target, Task};
 use replay_terms::{Content, Operand, Statics, Term, Value, Variables};
 use std::alloc::AllocError;
-use syntax::{Argument, Expr, Function, Name, Parameter};
+use syntax::{Argument, ExprRef, Function, Name, Parameter, Shape};
 
 /// Whether a number of a call is to be worked out before it is made.
 fn is_unready(variables: &Variables<'_>, operand: &Operand<'_>) -> bool {
@@ -60,14 +60,14 @@ fn put_expression(
     objects: Objects<'_>,
     statics: &Statics<'_>,
     variables: &Variables<'_>,
-    e: &Expr,
+    e: ExprRef<'_>,
 ) -> Result<(), AllocError> {
-    match e {
-        Expr::Variable(name) => put_variable(line, objects, statics, variables, name),
-        Expr::Named(constant) => line.text(constant_of(*constant)),
-        Expr::Number { value, .. } => line.number(*value),
-        Expr::Paren(inner) => put_expression(line, objects, statics, variables, inner),
-        Expr::Element(_, _) | Expr::Prefix(_, _) | Expr::Binary(_, _) => line.text(b".."),
+    match e.shape() {
+        Shape::Variable(name) => put_variable(line, objects, statics, variables, name),
+        Shape::Named(constant) => line.text(constant_of(constant)),
+        Shape::Number { value, .. } => line.number(value),
+        Shape::Paren(inner) => put_expression(line, objects, statics, variables, inner),
+        Shape::Element(..) | Shape::Prefix(..) | Shape::Binary(..) => line.text(b".."),
     }
 }
 
@@ -80,7 +80,7 @@ fn put_given(
     argument: &Argument,
 ) -> Result<(), AllocError> {
     match argument {
-        Argument::Value(e) => put_expression(line, objects, statics, variables, e),
+        Argument::Value(e) => put_expression(line, objects, statics, variables, e.whole()),
         Argument::Text(bytes) => {
             line.text(b"\"")?;
             line.text(bytes)?;
