@@ -3,19 +3,18 @@
 use Rattle.std.proofs.Crossing.{crosses, Vec-sync, Vec-send, Box-send}
 use Rattle.std.proofs.MapsCrossing as maps
 use Rattle.std.proofs.vec.Vec.TheSendSync as vec
-use Rattle.std.proofs.boxed.Box.TheSendSync as boxed
 use denote.Param.Send.{IsSend, IsSync, view_sync, struct_sync, recorded_sync, sendable, view_send, struct_send, recorded_send, shr_send}
 use denote.Struct.Declared.{shape}
 use Rattle.base.proofs.element.ElementType.TheSendSync as element
 use Rattle.syntax.proofs.declared_type.VariableType.TheSendSync as variable-type
-use Rattle.syntax.proofs.expr.BinaryOp.TheSendSync as binary
-use Rattle.syntax.proofs.expr.Constant.TheSendSync as constant
-use Rattle.syntax.proofs.expr.PrefixOp.TheSendSync as prefix
 use Rattle.syntax.proofs.name.Name.TheSendSync as name
 use Rattle.syntax.proofs.unit.Parameter.TheSendSync as parameter
 use Rattle.syntax.proofs.unit.ResultType.TheSendSync as result-type
 use Rattle.syntax.proofs.unit.Static.TheSendSync as static
-use Rattle.syntax.proofs.expr.Expr.TheLaws.TheKnot as expr
+use Rattle.syntax.proofs.expr.Expr.TheSendSync as expr
+use Rattle.syntax.proofs.call.Call.TheSendSync as syntax-call
+use Rattle.syntax.proofs.call.RightSide.TheSendSync as right-side
+use Rattle.syntax.proofs.call.Test.TheSendSync as test
 use Rattle.syntax.proofs.stmt.Form.TheLaws.TheKnot as form
 use Rattle.syntax.specs.contracts.unit.Unit as unit
 use Rattle.syntax.specs.contracts.unit.Unit.TheInside as unit-inside
@@ -47,7 +46,7 @@ use Rattle.type_rules.specs.contracts.typed.Typed.TheInside as inside
 -- ---- what a machine borrows
 
 item_sync : IsSync item.the_row
-item_sync = search (element.the_field_sync, variable-type.the_field_sync, binary.the_field_sync, constant.the_field_sync, prefix.the_field_sync, name.the_sync, parameter.the_sync, result-type.the_field_sync, static.the_field_sync, vec.the_sync, boxed.the_sync, crosses, expr.crosses, form.crosses, sendable) depth 60 fits 20000
+item_sync = search (element.the_field_sync, variable-type.the_field_sync, name.the_sync, parameter.the_sync, result-type.the_field_sync, static.the_field_sync, vec.the_sync, crosses, expr.the_sync, expr.the_field_sync, syntax-call.the_field_sync, right-side.the_field_sync, test.the_field_sync, form.crosses, sendable) depth 60 fits 20000
 
 unit_sync : IsSync unit.the_row
 unit_sync = view_sync unit-inside.the_row _ _ _ _ (recorded_sync (unit-inside.the_field).row _ _ unit-inside.the_type.to_one (struct_sync (shape unit-inside.the_type) (Vec-sync item.the_row item_sync, tt)))
