@@ -3,6 +3,7 @@
 
 ghost use Rattle.std.specs.Prelude.{◌≡◌, ℕ, ◌<◌, ◌≤◌, Some, IsSome, length, OnOk, OnErr, vec_len, vec_capacity};
 ghost use Rattle.code_meaning.specs.Lowered.{IsLowered};
+ghost use Rattle.machine_scenes.specs.declared.activation.Activation.{Activation};
 ghost use Rattle.machine_steps.specs.Pushed.{MakesCall, Pushes, PushesMethod};
 
 use code::instr::{Call, Instr, Operand};

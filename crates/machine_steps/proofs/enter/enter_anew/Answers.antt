@@ -4,8 +4,10 @@ use Rattle.std.specs.Option.{IsSome, MatchOption}
 use Rattle.machine_threads.specs.Entry.{IsEnteringOf}
 use Rattle.machine_threads.specs.declared.thread.Entering.{Entering}
 use Rattle.machine_threads.specs.declared.thread.PendingCall.{PendingCall}
+use Rattle.machine_threads.specs.declared.thread.Thread.{Thread}
 use Rattle.machine_steps.specs.Pushed.{IsNext}
 use Rattle.machine_steps.proofs.CallsThere.{of_caller}
+use Rattle.machine_steps.proofs.enter.enter_anew.Goals.{in-Some-take, in_default}
 use Rattle.machine_steps.proofs.enter.enter_anew.Goals as goal
 
 -- what is in front
@@ -27,14 +29,23 @@ is_there items (Some x) some h = refl
 pub begin_call-requires : goal.begin_call-requires
 begin_call-requires c = c.requires.ready c.args.thread.now.calls.items c.in-Some.entering (of_caller c.args.loaded.now c.args.thread.now.entering c.in-Some.entering c.args.thread.now.calls.items c.in-Some.is)
 
-pub returns-in_ok-activation-in-Some-clause-calls : goal.returns-in_ok-activation-in-Some-clause-calls
-returns-in_ok-activation-in-Some-clause-calls c = record {
-  entering = c.in-Some.entering;
-  next = of_caller c.args.loaded.now c.args.thread.now.entering c.in-Some.entering c.args.thread.now.calls.items c.in-Some.is;
-  activation = c.in_ok-activation-in-Some.activation;
-  active = refl;
-  begins = c.in_ok-activation-in-Some.ensures;
-}
+pub returns-after-take-clause-calls : goal.returns-after-take-clause-calls
+returns-after-take-clause-calls c =
+    let t = c.args.thread.now in
+    let loaded = c.args.loaded.now in
+    let entering = c.in-Some.entering in
+    let rest : c.match-take.thread.calls.items ≡ t.calls.items =
+    elim c.match-take.branch as (λ w. c.match-take.thread.calls.items ≡ t.calls.items) [
+      | in-Some-take w ↦ ap (λ (x : Thread). x.calls.items) w.thread-is
+      | in_default w ↦ ap (λ (x : Thread). x.calls.items) w.thread-is
+    ] in
+    record {
+      entering = entering;
+      next = subst (λ (l : List PendingCall). IsNext loaded t.entering t.calls.items l entering) (sym rest) (of_caller loaded t.entering entering t.calls.items c.in-Some.is);
+      activation = c.in_ok-activation-in-Some.activation;
+      active = refl;
+      begins = c.in_ok-activation-in-Some.ensures;
+    }
 
 pub unwrap-next-requires : goal.unwrap-next-requires
 unwrap-next-requires c = is_there c.args.thread.now.calls.items c.front.result (c.requires.some c.in-None.is) c.front.ensures.item.3
