@@ -79,11 +79,15 @@ begun_as t None begins range = absurd begins
 begun_as t (Some task) begins range = record { task = task; is = refl; begins = begins; range = range }
 
 -- a statement that is begun is the task that it was to begin as
-pub begun_first : (old new : Work) (first : Stmt) (after : List Stmt) → old.task ≡ None → old.rest ≡ first ∷ after → HasBegun first new.task → new.rest ≡ after → new.outer.items ≡ old.outer.items → tasks_left new ≡ tasks_left old
-begun_first old new first after none rest begun left outer =
+pub begun_next : (old new : Work) (first : Stmt) (after : List Stmt) → old.rest ≡ first ∷ after → HasBegun first new.task → new.rest ≡ after → new.outer.items ≡ old.outer.items → tasks_left new ≡ tasks_after old.rest old.outer.items
+begun_next old new first after rest begun left outer =
     left_is new (Some begun.task) after old.outer.items begun.is left outer
     ∙ ap (λ (u : Task). u ∷ tasks_after after old.outer.items) begun.begins
-    ∙ sym (left_is old None (first ∷ after) old.outer.items none rest refl)
+    ∙ ap (λ (b : List Stmt). tasks_after b old.outer.items) (sym rest)
+
+-- where none is left, the block is done
+pub none_begun : (old new : Work) → new.task ≡ None → new.rest ≡ old.rest → new.outer.items ≡ old.outer.items → tasks_left new ≡ tasks_after old.rest old.outer.items
+none_begun old new none left outer = left_is new None old.rest old.outer.items none left outer
 
 -- and is in range as it was
 pub begun_range : (old new : Work) (first : Stmt) (after : List Stmt) → old.rest ≡ first ∷ after → IsInRange old → HasBegun first new.task → new.rest ≡ after → new.outer.items ≡ old.outer.items → IsInRange new
@@ -94,6 +98,13 @@ begun_range old new first after rest known begun left outer =
       rest = subst StatementsInRange (sym left) parts.1;
       outer = subst OuterInRange (sym outer) known.outer;
     }
+
+pub none_range : (old new : Work) → IsInRange old → new.task ≡ None → new.rest ≡ old.rest → new.outer.items ≡ old.outer.items → IsInRange new
+none_range old new known none left outer = record {
+  begun = subst BegunInRange (sym none) tt;
+  rest = subst StatementsInRange (sym left) known.rest;
+  outer = subst OuterInRange (sym outer) known.outer;
+}
 
 -- a step leaves the same before it
 pub begun_after : (refused : Bool) (before : Scene) (old : Work) (took : Outcome) (after : Scene) (left begun : Work) → tasks_left begun ≡ tasks_left left → Advances refused before old took after left → Advances refused before old took after begun

@@ -3,7 +3,7 @@
 ghost use Rattle.std.specs.Prelude.{◌≡◌, IfOk, IfSome, IsSome, Some, None, [], false};
 ghost use Rattle.class_rules.specs.Grown.{IsGrown};
 ghost use Rattle.semantics.specs.Task.{tasks_of};
-ghost use Rattle.replay_steps.specs.Activations.{tasks_left, IsAtStatement, IsInRange, IsSettled, AreSet, IsApplied, HasBegun, HasTurned, Leaves, StepsTask, Advances, AdvancesAt};
+ghost use Rattle.replay_steps.specs.Activations.{tasks_after, tasks_left, IsAtStatement, IsInRange, IsSettled, AreSet, IsApplied, HasBegun, HasTurned, Leaves, StepsTask, Advances, AdvancesAt};
 ghost use Rattle.semantics.specs.Thread.{Shared as SharedOfThreads};
 ghost use Rattle.replay_steps.specs.Attempts.{AdvancesAnywhere, AttemptsCall};
 ghost use Rattle.replay_arguments.specs.Shares.{shared_view};
@@ -19,7 +19,7 @@ use crate::step::step;
 use replay_arguments::{Locals, Shared, Turn};
 use replay_objects::Store;
 use replay_tasks::{Choice, End, Outcome, Statements, Task, loop_task, set_variables, task_of};
-use replay_terms::{Content, Statics, Term, Value};
+use replay_terms::{Statics, Term, Value};
 use semantics::ObjectId;
 use std::alloc::{AllocError, Global};
 use std::mem;
@@ -86,16 +86,15 @@ fn begin_statement<'a>(
     Ok(())
 }
 
-/// Begins the block's next statement, there being none that is begun.
+/// Begins the block's next statement in the place of the task that is begun, which is over.
 #[inline(never)]
-fn begin_first<'a>(alloc: Global, work: &mut Work<'a>) -> Result<(), AllocError>
-    requires range { IsInRange work.old }
-    requires task { work.old.task ≡ None }
-    ensures tasks { IfOk result (λ _. tasks_left work.new ≡ tasks_left work.old) }
-    ensures range { IfOk result (λ _. IsInRange work.new) }
-    ensures next { IfOk result (λ _. work.new.task ≡ None → work.new.rest ≡ []) }
+pub(crate) fn begin_next<'a>(alloc: Global, work: &mut Work<'a>) -> Result<(), AllocError>
+    requires { IsInRange work.old }
+    ensures tasks { IfOk result (λ _. tasks_left work.new ≡ tasks_after work.old.rest work.old.outer.items) }
+    ensures range { IfOk result (λ _. IsAtStatement work.new) }
 {
     let Some(first) = work.rest.first() else {
+        put_task(&mut work.task, None);
         return Ok(());
     };
     begin_statement(alloc, &mut work.task, first)?;
@@ -114,7 +113,7 @@ pub(crate) fn begin<'a>(alloc: Global, work: &mut Work<'a>) -> Result<(), AllocE
     if work.task.is_some() {
         return Ok(());
     }
-    begin_first(alloc, work)
+    begin_next(alloc, work)
 }
 
 /// What is to do of a call of a function with this body, whose first statement is begun.
@@ -369,12 +368,8 @@ fn finish_set<'a>(
     ensures step { IfOk result (λ _. (s : SharedOfThreads) → AdvancesAnywhere s activation.old outcome.Stays activation.new) }
     ensures range { IfOk result (λ _. IsAtStatement activation.new.work) }
 {
-    activation
-        .locals
-        .variables
-        .set(name, Content::Number(value))?;
-    put_task(&mut activation.work.task, None);
-    begin(alloc, &mut activation.work)
+    activation.locals.variables.set_number(name, value)?;
+    begin_next(alloc, &mut activation.work)
 }
 
 /// Begins the block that the test of the task that is begun has chosen, and its first statement.
@@ -403,8 +398,7 @@ fn finish_loop<'a>(alloc: Global, work: &mut Work<'a>) -> Result<(), AllocError>
     ensures step { IfOk result (λ _. (scene : Scene) → Advances false scene work.old outcome.Stays scene work.new) }
     ensures range { IfOk result (λ _. IsAtStatement work.new) }
 {
-    put_task(&mut work.task, None);
-    begin(alloc, work)
+    begin_next(alloc, work)
 }
 
 /// Goes on after a block whose statements are all done, and begins what comes next.
