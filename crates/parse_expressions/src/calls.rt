@@ -61,6 +61,22 @@ fn argument<'t>(
     }
 }
 
+/// For how many arguments memory is taken at most before they are read.
+const MOST_AHEAD: usize = 16;
+
+/// For how many arguments, each with the comma before it, memory is taken before they are read: all where each is one token,
+/// and otherwise up to the first that is more.
+fn arguments_ahead(lexemes: Cursor<'_>) -> usize {
+    let mut rest = lexemes;
+    for count in 0..MOST_AHEAD {
+        if !rest.starts_with(Fixed::Mark(Mark::Comma)) {
+            return count;
+        }
+        rest = rest.skip().skip();
+    }
+    MOST_AHEAD
+}
+
 /// Arguments, each with the comma before it.
 fn arguments<'t>(
     stack: &mut ExprStack,
@@ -70,7 +86,7 @@ fn arguments<'t>(
     requires { room ≤ 32 }
     ensures { Gives (λ x. (map argument_tree x.0.items, views x.1)) result (arguments_at room (length (views lexemes.entry) + 1) (views lexemes.entry)) }
 {
-    let mut arguments = Vec::new(stack.alloc());
+    let mut arguments = Vec::with_capacity(stack.alloc(), arguments_ahead(lexemes))?;
     let mut rest = lexemes;
     'arguments: while rest.starts_with(Fixed::Mark(Mark::Comma)) {
         let (argument, after) = argument(stack, room, rest.skip())?;

@@ -12,11 +12,11 @@ use Rattle.parse_expressions.proofs.Commas.{arguments_done, arguments_fail, argu
 use Rattle.parse_expressions.proofs.calls.arguments.Goals as goal
 
 pub arguments-init : goal.arguments-init
-arguments-init c = rw c.new-arguments.ensures.items (arguments_start c.args.room (views c.args.lexemes))
+arguments-init c = rw c.in_ok-arguments.ensures.items (arguments_start c.args.room (views c.args.lexemes))
 
 pub returns-in_err-argument : goal.returns-in_err-argument
 returns-in_err-argument c =
-    let p = err_from_is_err_and c.from_residual.result c.from_residual.ensures.1 in
+    let p = err_from_is_err_and c.from_residual-in_err-argument.result c.from_residual-in_err-argument.ensures.1 in
     let h : Fails c.in_err-argument.field-0.0 (argument_at c.args.room (rest_of (views c.arguments.rest))) = rw (sym c.skip.ensures) c.in_err-argument.ensures in
     rw (p.1, p.2) (arguments_fail c.args.room (map argument_tree c.arguments.arguments.items) (views c.arguments.rest) (arguments_at c.args.room (length (views c.args.lexemes) + 1) (views c.args.lexemes)) c.arguments.invariant c.in_err-argument.field-0.0 (sym c.starts_with.ensures ∙ c.arguments-test.true) h)
 
