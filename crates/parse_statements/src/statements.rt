@@ -264,7 +264,8 @@ pub fn block<'t>(
     requires { room ≤ 32 }
     ensures { Gives (λ x. (block_tree x.0, x.1, views x.2)) result (block_at room names (views lexemes.entry)) }
 {
-    let mut statements = Vec::new(stack.alloc());
+    // Many blocks have one statement.
+    let mut statements = Vec::with_capacity(stack.alloc(), 1)?;
     let mut rest = lexemes;
     let mut free = names;
     let mut returned = false;
@@ -278,6 +279,8 @@ pub fn block<'t>(
         statements.push(stmt)?;
         rest = after;
     }
+    // The tree keeps memory for its statements alone, where the allocator can take back the rest.
+    statements.shrink_to_fit();
     let end_line = rest.line();
     let block = Block {
         statements,

@@ -11,7 +11,7 @@ use Rattle.parse_statements.proofs.Blocks.{fills_start, fills_done, fills_refuse
 use Rattle.parse_statements.proofs.statements.+blocks.Goals as goal
 
 pub block-statements-init : goal.block-statements-init
-block-statements-init t c = rw c.new-statements.ensures.items (fills_start c.args.room c.args.names (views c.args.lexemes))
+block-statements-init t c = rw c.in_ok-statements.ensures.items (fills_start c.args.room c.args.names (views c.args.lexemes))
 
 pub block-returns-then-returned : goal.block-returns-then-returned
 block-returns-then-returned t c =
@@ -19,7 +19,7 @@ block-returns-then-returned t c =
 
 pub block-returns-in_err-stmt : goal.block-returns-in_err-stmt
 block-returns-in_err-stmt t c =
-    let p = err_from_is_err_and c.from_residual.result c.from_residual.ensures.1 in
+    let p = err_from_is_err_and c.from_residual-in_err-stmt.result c.from_residual-in_err-stmt.ensures.1 in
     rw (p.1, p.2) (fills_fails c.args.room c.statements.free c.statements.statements.items c.statements.returned (views c.statements.rest) (block_at c.args.room c.args.names (views c.args.lexemes)) c.statements.invariant c.in_err-stmt.field-0.0 (sym c.starts_with.ensures ∙ c.statements-test.true) c.if-returned.false c.in_err-stmt.ensures)
 
 pub block-statements-smaller : goal.block-statements-smaller
@@ -31,7 +31,7 @@ block-statements-preserved t c =
 
 pub block-returns : goal.block-returns
 block-returns t c =
-    rw (c.line-end_line.ensures, c.skip.ensures, block_made (record { statements = c.statements.statements; end_line = line_at (views c.statements.rest) })) (fills_done c.args.room c.statements.free c.statements.statements.items c.statements.returned (views c.statements.rest) (block_at c.args.room c.args.names (views c.args.lexemes)) c.statements.invariant (sym c.starts_with.ensures ∙ c.statements-test.false))
+    rw (c.line-end_line.ensures, c.skip.ensures, block_made (record { statements = c.shrink_to_fit.new.self; end_line = line_at (views c.statements.rest) }), c.shrink_to_fit.ensures.items) (fills_done c.args.room c.statements.free c.statements.statements.items c.statements.returned (views c.statements.rest) (block_at c.args.room c.args.names (views c.args.lexemes)) c.statements.invariant (sym c.starts_with.ensures ∙ c.statements-test.false))
 
 pub statement-returns-in_err-head : goal.statement-returns-in_err-head
 statement-returns-in_err-head t c =
