@@ -1,5 +1,5 @@
 -- What calls of functions of buffers do.
-use Rattle.std.proofs.Common.{◌≡◌, ℕ, true, false, List, [], ◌∷◌, length, Option, Some, None, refl, sym, ap, ◌∙◌, subst}
+use Rattle.std.proofs.Common.{◌≡◌, ℕ, true, false, List, [], ◌∷◌, length, Option, Some, refl, sym, ap, ◌∙◌, subst}
 use Rattle.std.specs.Prelude.{unwrap_or}
 use Rattle.std.specs.List.{AllZip}
 use Rattle.code.specs.declared.instr.Operand.TheVariants as operand
@@ -8,7 +8,6 @@ use Rattle.jni.specs.Access.{Access, ElementsCopy, ArrayView, CharsCopy, CharsVi
 use Rattle.jni.specs.JniFunction.{GetBuffer, ReleaseBuffer, JniFunction, parameters_for}
 use Rattle.jni.specs.Prototype.{owner, BufferVariable, IsCopy, Mode, NumberArray, StringObject, ParameterKind, NonNull, GivesNothing}
 use Rattle.semantics.specs.Arguments.{ReleaseMode, FreeUncopied, mode_given, variable_given, object_given}
-use Rattle.semantics.specs.CallStep.{trap_of_call}
 use Rattle.semantics.specs.AnswerTable as table
 use Rattle.semantics.specs.AnswerTable.{call_answer}
 use Rattle.semantics.specs.Heap.{values_of}
@@ -33,7 +32,7 @@ use Rattle.machine_answers.specs.Answers.{IsAnswer, IsCopyAcquired}
 use Rattle.machine_answers.specs.Answers as row
 use Rattle.machine_answers.specs.WorkedOut.{acquires, releases}
 use Rattle.machine_answers.proofs.CallOperands.{GivenObject}
-use Rattle.machine_answers.proofs.TwoCalls.{TwoCalls, unit, references, fields, all, brought, Asked, Works, Does, object_given_at, object_there}
+use Rattle.machine_answers.proofs.TwoCalls.{TwoCalls, Passes, unit, references, fields, all, brought, Asked, Works, Does, object_given_at, object_there}
 
 module _ (both : TwoCalls) where
   open both use {p, w, store, pending, activation, call, others, k, shared, s, target, sound, args}
@@ -63,7 +62,7 @@ module _ (both : TwoCalls) where
             coded = refl;
           })
 
-  pub answers_get_buffer : (access : Access) → Asked both (GetBuffer access) → trap_of_call w.classes shared s target (GetBuffer access) args ≡ None → (answer : Answer) → Works both (GetBuffer access) answer → Does both (GetBuffer access) answer
+  pub answers_get_buffer : (access : Access) → Asked both (GetBuffer access) → Passes both → (answer : Answer) → Works both (GetBuffer access) answer → Does both (GetBuffer access) answer
   unfolding call_answer
   answers_get_buffer (ElementsCopy T) h free answer is =
       let g = object_given_at both (GetBuffer (ElementsCopy T)) [] (NumberArray T) (IsCopy ∷ []) tt refl refl h free in
@@ -94,7 +93,7 @@ module _ (both : TwoCalls) where
   buffer_given : (access : Access) (more : List ParameterKind) → parameters_for (ReleaseBuffer access) (length args) ≡ owner access ∷ BufferVariable access ∷ more → Asked both (ReleaseBuffer access) → GivenBuffer store.heap (brought both).buffers s.variables call.operands args
   buffer_given access more are h = given_buffer store.heap (brought both).buffers s.variables access (owner access) more call.operands args (subst (λ (l : List ParameterKind). AllZip OperandFits l call.operands) are h.kinds) h.buffers
 
-  pub answers_release : (access : Access) → Asked both (ReleaseBuffer access) → trap_of_call w.classes shared s target (ReleaseBuffer access) args ≡ None → (answer : Answer) → Works both (ReleaseBuffer access) answer → Does both (ReleaseBuffer access) answer
+  pub answers_release : (access : Access) → Asked both (ReleaseBuffer access) → Passes both → (answer : Answer) → Works both (ReleaseBuffer access) answer → Does both (ReleaseBuffer access) answer
   unfolding call_answer
   answers_release (ElementsCopy T) h free answer is =
       let f = ReleaseBuffer (ElementsCopy T) in

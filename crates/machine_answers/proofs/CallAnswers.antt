@@ -1,6 +1,6 @@
 -- What the machine works out of calls is what the source's calls do: a row for each function.
-use Rattle.std.proofs.Common.{◌≡◌, ℕ, ℤ, pos, ◌<◌, ◌≤◌, true, false, not, List, [], ◌∷◌, length, Option, None, slice_get, refl, sym, ap, ◌∙◌, subst, arith}
-use Rattle.std.specs.Prelude.{◌==◌, unwrap_or}
+use Rattle.std.proofs.Common.{◌≡◌, ℕ, ℤ, pos, ◌<◌, ◌≤◌, true, false, not, List, [], ◌∷◌, length, Option, Some, None, slice_get, refl, sym, ap, ◌∙◌, subst, arith}
+use Rattle.std.specs.Prelude.{◌==◌, IfSome, unwrap_or}
 use Rattle.std.specs.Option.{option_map_or}
 use Rattle.std.proofs.lemmas.Bool.{and_parts}
 use Rattle.base.specs.Element.{ElementType, JInt, JShort, JByte, JChar}
@@ -14,7 +14,7 @@ use Rattle.code.specs.Call.{Call}
 use Rattle.code.specs.Effect.{truth_word}
 use Rattle.code.specs.declared.instr.Operand.{Operand}
 use Rattle.heap.specs.declared.value.Value.TheVariants as cell
-use Rattle.jni.specs.JniFunction.{GetBuffer, ReleaseBuffer, JniFunction, prototype, FindClass, AllocObject, NewLocalRef, NewGlobalRef, NewWeakGlobalRef, DeleteLocalRef, DeleteGlobalRef, DeleteWeakGlobalRef, IsSameObject, EnsureLocalCapacity, PushLocalFrame, PopLocalFrame, GetFieldID, GetStaticFieldID, GetArrayLength, NewArray, NewObjectArray, GetObjectArrayElement, SetObjectArrayElement, NewStringUTF, GetStringLength, Throw, ThrowNew, ExceptionOccurred, ExceptionCheck, ExceptionClear, FatalError, GetSuperclass, GetObjectClass, IsInstanceOf, IsAssignableFrom, GetField, SetField, GetObjectField, SetObjectField, GetStaticField, SetStaticField, GetStaticObjectField, SetStaticObjectField, MonitorEnter, MonitorExit, GetArrayRegion, SetArrayRegion, GetStringRegion, GetStaticMethodID, CallStaticVoidMethod, CallStaticIntMethod, CallStaticObjectMethod}
+use Rattle.jni.specs.JniFunction.{GetBuffer, ReleaseBuffer, JniFunction, calls_method, prototype, FindClass, AllocObject, NewLocalRef, NewGlobalRef, NewWeakGlobalRef, DeleteLocalRef, DeleteGlobalRef, DeleteWeakGlobalRef, IsSameObject, EnsureLocalCapacity, PushLocalFrame, PopLocalFrame, GetFieldID, GetStaticFieldID, GetArrayLength, NewArray, NewObjectArray, GetObjectArrayElement, SetObjectArrayElement, NewStringUTF, GetStringLength, Throw, ThrowNew, ExceptionOccurred, ExceptionCheck, ExceptionClear, FatalError, GetSuperclass, GetObjectClass, IsInstanceOf, IsAssignableFrom, GetField, SetField, GetObjectField, SetObjectField, GetStaticField, SetStaticField, GetStaticObjectField, SetStaticObjectField, MonitorEnter, MonitorExit, GetArrayRegion, SetArrayRegion, GetStringRegion, GetStaticMethodID, CallStaticVoidMethod, CallStaticIntMethod, CallStaticObjectMethod}
 use Rattle.jni.specs.Prototype.{ClassObject, FieldID, IntNumber, NonNull, Nullable, NumberArray, ObjectArray, StringObject, TextBytes, GivesNothing}
 use Rattle.semantics.specs.AnswerTable as table
 use Rattle.semantics.specs.AnswerTable.{call_answer}
@@ -30,24 +30,27 @@ use Rattle.code_meaning.specs.Lowered.{Lowered}
 use Rattle.machine_scenes.specs.Buffers.{Acquired}
 use Rattle.machine_scenes.specs.Given.{class_of_given, field_at, field_there, fits_there, key_at, name_there, operand_of}
 use Rattle.machine_scenes.specs.NewObjects.{IsMakeable}
+use Rattle.machine_scenes.specs.Scenes.{Scene}
 use Rattle.machine_scenes.specs.Statics.{static_at}
 use Rattle.machine_scenes.specs.declared.new_object.New.TheVariants.{Fresh}
 use Rattle.machine_scenes.specs.declared.store.Store.{Store}
 use Rattle.machine_scenes.specs.declared.activation.Activation.{Activation}
 use Rattle.machine_answers.specs.declared.answer.Answer.{Answer}
-use Rattle.machine_answers.specs.declared.answer.Answer.TheVariants.{Gives, Makes, Raises}
+use Rattle.machine_answers.specs.declared.answer.Answer.TheVariants.{Calls, Gives, Makes, Raises, Deletes}
 use Rattle.machine_answers.specs.declared.answer.Given.TheVariants as given
 use Rattle.machine_answers.specs.Answers as row
-use Rattle.machine_answers.specs.Sights.{class_object_seen, deleted_seen, name_seen}
-use Rattle.machine_answers.specs.WorkedOut.{IsFoundField, IsFoundMethod, address_in, class_object, deletes_global, deletes_weak, element_there, frame_for, held_reference, index_there, new_array, room_for, stores_there, value_there, word_in, writes_there}
-use Rattle.machine_answers.specs.WorkedOut as worked
+use Rattle.machine_answers.specs.Sights.{class_object_seen, deleted_seen, name_seen, trap_seen}
+use Rattle.machine_answers.specs.WorkedOut.{IsFoundField, IsFoundMethod, address_in, class_object, deletes, deletes_global, deletes_weak, element_there, frame_for, held_reference, index_there, new_array, room_for, stores_there, value_there, word_in, writes_there}
+use Rattle.machine_answers.specs.Answered.{IsAnswerTo, SourceCall}
+use Rattle.machine_answers.proofs.WorkedOut as worked
+use Rattle.machine_answers.proofs.WorkedOut.{IsWorkedOut}
 use Rattle.machine_answers.proofs.CallOperands.{own_making, super_known}
 use Rattle.machine_answers.proofs.CallTraps.{has_passed, same_pending}
 use Rattle.machine_answers.proofs.LongTables.{class_is_no_throwable, class_is_plain}
 use Rattle.machine_answers.proofs.SightParts.{name_is}
 use Rattle.machine_answers.proofs.TrapsSeen.{fits_one}
-use Rattle.machine_answers.proofs.TwoCalls.{TwoCalls, Asked, Works, Does, at, built_in_class, class_given, fields, method_error, object_given_at, references, table_of, unit}
-use Rattle.machine_answers.proofs.KindAnswers.{HasKey, IsHeld, Passes, Stands, array_made, back, class_agrees, class_found, class_of_first, counted, does, element_read, element_written, ensured, field_found, first_name, global_deleted, held_agrees, holder, index_is, local_deleted, method_found, named, number_read, own_key, pending_named, place_is, pushed, reference_read, same_names, scene, sight, stands, static_named, stored, there, top_number, weak_deleted, written}
+use Rattle.machine_answers.proofs.TwoCalls.{TwoCalls, Asked, Passes, Works, Does, at, built_in_class, class_given, fields, method_error, object_given_at, references, table_of, unit}
+use Rattle.machine_answers.proofs.KindAnswers.{Stands, array_made, back, class_agrees, class_found, class_of_first, counted, does, element_read, element_written, ensured, field_found, first_name, global_deleted, held_agrees, holder, index_is, local_deleted, method_found, named, of_call, number_read, own_key, pending_named, place_is, pushed, reference_read, same_names, scene, sight, stands, static_named, stored, there, top_number, weak_deleted, written}
 use Rattle.machine_answers.proofs.RegionAnswers.{numbers_are, region_given, region_read, region_written}
 use Rattle.machine_answers.proofs.BufferAnswers.{answers_get_buffer, answers_release}
 use Rattle.machine_answers.proofs.MethodAnswers.{method_called}
@@ -76,12 +79,12 @@ module _ (p : Lowered) (w : World) (store : Store) (pending : Option ℕ) (activ
   makeable : (c : ℕ) → (0 < c) × (c ≤ length w.classes) → (c ≡ class_class → ⊥) → IsMakeable w.classes c
   makeable c within never = record { low = within.0; high = within.1; no_class = never }
 
-  makes_object : (h : Asked both AllocObject) → Passes both AllocObject → IsMakeable w.classes (name_or_zero (name_seen store.heap (at both 0)))
+  makes_object : (h : Asked both AllocObject) → Passes both → IsMakeable w.classes (name_or_zero (name_seen store.heap (at both 0)))
   makes_object h free =
       makeable _ (class_given both AllocObject [] [] refl h free)
       (own_making w.classes _ (ap (λ (n : ℕ). not (has_own_making w.classes n)) (sym (name 0)) ∙ has_passed p w store pending activation call others k owner shared s target AllocObject args h free))
 
-  makes_throwable : (h : Asked both ThrowNew) → Passes both ThrowNew → IsMakeable w.classes (name_or_zero (name_seen store.heap (at both 0)))
+  makes_throwable : (h : Asked both ThrowNew) → Passes both → IsMakeable w.classes (name_or_zero (name_seen store.heap (at both 0)))
   makes_throwable h free =
       makeable _ (class_given both ThrowNew [] (TextBytes ∷ []) refl h free)
       (λ e. absurd (let clash : false ≡ true = sym (class_is_no_throwable w.classes sound.grown) ∙ ap (λ (c : ℕ). assignable w.classes c throwable_class) (sym e ∙ sym (name 0))
@@ -97,7 +100,7 @@ module _ (p : Lowered) (w : World) (store : Store) (pending : Option ℕ) (activ
   abbrev array_class : ℕ
   array_class = option_map_or (λ (c : ℕ). c) (array_class_of w.classes (name_or_zero (name_seen store.heap (at both 1)))) 0
 
-  makes_references : (h : Asked both NewObjectArray) → Passes both NewObjectArray
+  makes_references : (h : Asked both NewObjectArray) → Passes both
       → IsMakeable w.classes array_class × (unwrap_or (array_class_of w.classes (name_there store.heap (at both 1))) 0 ≡ array_class)
   makes_references h free =
       let n = name_or_zero (name_seen store.heap (at both 1)) in
@@ -114,132 +117,196 @@ module _ (p : Lowered) (w : World) (store : Store) (pending : Option ℕ) (activ
       )
 
   -- what is worked out stands for what the table says of what the call sees
-  seen : (f : JniFunction) → Asked both f → Passes both f → (answer : Answer) → Works both f answer → HasKey both f → IsHeld both f → Stands both answer (prototype f).result (call_answer (unit both) w.classes k (sight both f) f)
+  seen : (f : JniFunction) → Asked both f → Passes both → (answer : Answer) → Works both f answer → Stands both answer (prototype f).result (call_answer (unit both) w.classes k (sight both f) f)
   unfolding call_answer
-  seen FindClass h free answer is keyed held = stands both is (class_found both FindClass h _ (class_within w.classes (text 0)))
-  seen GetSuperclass h free answer is keyed held =
+  seen FindClass h free answer is = stands both is (class_found both FindClass h _ (class_within w.classes (text 0)))
+  seen GetSuperclass h free answer is =
       stands both (is ∙ ap (λ (c : ℕ). Gives (given.Reference (class_object store.loaded.items (superclass w.classes c)))) (name 0))
       (row.gives (row.reference (class_agrees both GetSuperclass h _ (super_known w.classes (grown_is_ordered w.classes sound.grown) _))))
-  seen GetObjectClass h free answer is keyed held =
+  seen GetObjectClass h free answer is =
       let class = class_of_first both GetObjectClass h (object_given_at both GetObjectClass [] NonNull [] tt refl refl h free) in
       stands both is (row.gives (row.reference (table_of both GetObjectClass h _ class.0 class.1)))
-  seen IsInstanceOf h free answer is keyed held =
+  seen IsInstanceOf h free answer is =
       stands both (is ∙ ap (λ (c : ℕ). Gives (given.Number (truth_word (fits_there w.classes store.heap (at both 0) c)))) (name 1))
       (row.gives (row.flag (ap truth_word (fits_one (scene both) (at both 0) _ (there both IsInstanceOf h 0)))))
-  seen IsAssignableFrom h free answer is keyed held =
+  seen IsAssignableFrom h free answer is =
       stands both (is ∙ (λ i. Gives (given.Number (truth_word (assignable w.classes (name 0 i) (name 1 i)))))) (row.gives (row.flag refl))
-  seen AllocObject h free answer is keyed held =
+  seen AllocObject h free answer is =
       stands both (is ∙ ap (λ (c : ℕ). Makes (Fresh (class_id c))) (name 0)) (row.makes (record { object = refl; makeable = makes_object h free }))
-  seen NewLocalRef h free answer is keyed held = stands both is (row.gives (row.reference (named both NewLocalRef h 0)))
-  seen NewGlobalRef h free answer is keyed held = stands both is (row.makes_global _ (named both NewGlobalRef h 0))
-  seen NewWeakGlobalRef h free answer is keyed held = stands both is (row.makes_weak _ (named both NewWeakGlobalRef h 0))
-  seen DeleteLocalRef h free answer is keyed held =
-      stands both is (local_deleted both (key_at (references both) (operand_of call.operands 0)) _ (own_key both DeleteLocalRef h keyed refl))
-  seen DeleteGlobalRef h free answer is keyed held =
-      let static = static_named both DeleteGlobalRef h refl held in
+  seen NewLocalRef h free answer is = stands both is (row.gives (row.reference (named both NewLocalRef h 0)))
+  seen NewGlobalRef h free answer is = stands both is (row.makes_global _ (named both NewGlobalRef h 0))
+  seen NewWeakGlobalRef h free answer is = stands both is (row.makes_weak _ (named both NewWeakGlobalRef h 0))
+  seen DeleteLocalRef h free answer is =
+      stands both is (local_deleted both (key_at (references both) (operand_of call.operands 0)) _ (own_key both DeleteLocalRef h refl))
+  seen DeleteGlobalRef h free answer is =
+      let static = static_named both DeleteGlobalRef h refl in
       stands both is
       (subst (λ (o : Operand). Stands both (deletes_global (references both) o) GivesNothing (table.global_deleted (deleted_seen (scene both) DeleteGlobalRef o))) (sym static.1) (global_deleted both static.0 (static_at (references both) static.0) static.2))
-  seen DeleteWeakGlobalRef h free answer is keyed held =
-      let static = static_named both DeleteWeakGlobalRef h refl held in
+  seen DeleteWeakGlobalRef h free answer is =
+      let static = static_named both DeleteWeakGlobalRef h refl in
       stands both is
       (subst (λ (o : Operand). Stands both (deletes_weak (references both) o) GivesNothing (table.weak_deleted (deleted_seen (scene both) DeleteWeakGlobalRef o))) (sym static.1) (weak_deleted both static.0 (static_at (references both) static.0) static.2))
-  seen IsSameObject h free answer is keyed held =
+  seen IsSameObject h free answer is =
       stands both (is ∙ (λ i. Gives (given.Number (truth_word (name 0 i == name 1 i)))))
       (row.gives (row.flag (ap truth_word (same_names both (at both 0) (at both 1) _ _ h.store_agrees.heap (named both IsSameObject h 0) (named both IsSameObject h 1)))))
-  seen EnsureLocalCapacity h free answer is keyed held = stands both (is ∙ ap room_for (top_number both activation.stack)) (ensured both _)
-  seen PushLocalFrame h free answer is keyed held = stands both (is ∙ ap frame_for (top_number both activation.stack)) (pushed both _)
-  seen PopLocalFrame h free answer is keyed held = stands both is (row.pops _ (named both PopLocalFrame h 0))
-  seen GetFieldID h free answer is keyed held =
+  seen EnsureLocalCapacity h free answer is = stands both (is ∙ ap room_for (top_number both activation.stack)) (ensured both _)
+  seen PushLocalFrame h free answer is = stands both (is ∙ ap frame_for (top_number both activation.stack)) (pushed both _)
+  seen PopLocalFrame h free answer is = stands both is (row.pops _ (named both PopLocalFrame h 0))
+  seen GetFieldID h free answer is =
       field_found both _ answer (subst (λ (c : ℕ). IsFoundField w.classes (find_field w.classes c (text 0) (text 1)) answer) (name 0) is)
-  seen GetStaticFieldID h free answer is keyed held =
+  seen GetStaticFieldID h free answer is =
       field_found both _ answer (subst (λ (c : ℕ). IsFoundField w.classes (find_static w.classes c (text 0) (text 1)) answer) (name 0) is)
-  seen GetStaticMethodID h free answer is keyed held =
+  seen GetStaticMethodID h free answer is =
       method_found both _ answer (method_error both (h.methods refl))
       (subst (λ (c : ℕ). IsFoundMethod (unit both) w.classes (find_method (unit both) w.classes c (text 0) (text 1)) answer) (name 0) is)
-  seen (GetField T) h free answer is keyed held =
+  seen (GetField T) h free answer is =
       let f = GetField T in
       stands both (is ∙ ap (λ (i : ℕ). Gives (given.Number (word_in (value_there store.heap (at both 0) i)))) (place_is both f NonNull [] refl refl h free _))
       (row.gives (number_read both (at both 0) _ (named both f h 0) h.store_agrees _))
-  seen (SetField T) h free answer is keyed held =
+  seen (SetField T) h free answer is =
       let f = SetField T in
       let first = object_given_at both f [] NonNull (FieldID ∷ IntNumber ∷ []) tt refl refl h free in
       stands both (is ∙ ap (λ (i : ℕ). writes_there store.heap (at both 0) i (worked.stored (scene both) call T)) (place_is both f NonNull (IntNumber ∷ []) refl refl h free _))
       (written both (at both 0) first.address _ _ _ _ first.at (first_name both first) (stored both f 2 T refl refl h) h.store_agrees)
-  seen GetObjectField h free answer is keyed held =
+  seen GetObjectField h free answer is =
       stands both (is ∙ ap (λ (i : ℕ). Gives (given.Reference (address_in (value_there store.heap (at both 0) i)))) (place_is both GetObjectField NonNull [] refl refl h free _))
       (row.gives (row.reference (reference_read both (at both 0) _ (named both GetObjectField h 0) h.store_agrees _)))
-  seen SetObjectField h free answer is keyed held =
+  seen SetObjectField h free answer is =
       let first = object_given_at both SetObjectField [] NonNull (FieldID ∷ Nullable ∷ []) tt refl refl h free in
       stands both (is ∙ ap (λ (i : ℕ). writes_there store.heap (at both 0) i (held_reference (at both 2))) (place_is both SetObjectField NonNull (Nullable ∷ []) refl refl h free _))
       (written both (at both 0) first.address _ _ _ _ first.at (first_name both first) (held_agrees both (at both 2) _ (named both SetObjectField h 2)) h.store_agrees)
-  seen (GetStaticField T) h free answer is keyed held =
+  seen (GetStaticField T) h free answer is =
       let f = GetStaticField T in
       let it = holder both f [] refl h free in
       let place = place_is both f ClassObject [] refl refl h free (own_statics w.classes (field_there w.classes handle).class) in
       stands both (is ∙ (λ i. Gives (given.Number (word_in (value_there store.heap (it.same i) (place i)))))) (row.gives (number_read both declaring _ it.agrees h.store_agrees _))
-  seen (SetStaticField T) h free answer is keyed held =
+  seen (SetStaticField T) h free answer is =
       let f = SetStaticField T in
       let it = holder both f (IntNumber ∷ []) refl h free in
       let place = place_is both f ClassObject (IntNumber ∷ []) refl refl h free (own_statics w.classes (field_there w.classes handle).class) in
       stands both (is ∙ (λ i. writes_there store.heap (it.same i) (place i) (worked.stored (scene both) call T)))
       (written both declaring it.address _ _ _ _ it.is it.named (stored both f 2 T refl refl h) h.store_agrees)
-  seen GetStaticObjectField h free answer is keyed held =
+  seen GetStaticObjectField h free answer is =
       let it = holder both GetStaticObjectField [] refl h free in
       let place = place_is both GetStaticObjectField ClassObject [] refl refl h free (own_statics w.classes (field_there w.classes handle).class) in
       stands both (is ∙ (λ i. Gives (given.Reference (address_in (value_there store.heap (it.same i) (place i))))))
       (row.gives (row.reference (reference_read both declaring _ it.agrees h.store_agrees _)))
-  seen SetStaticObjectField h free answer is keyed held =
+  seen SetStaticObjectField h free answer is =
       let it = holder both SetStaticObjectField (Nullable ∷ []) refl h free in
       let place = place_is both SetStaticObjectField ClassObject (Nullable ∷ []) refl refl h free (own_statics w.classes (field_there w.classes handle).class) in
       stands both (is ∙ (λ i. writes_there store.heap (it.same i) (place i) (held_reference (at both 2))))
       (written both declaring it.address _ _ _ _ it.is it.named (held_agrees both (at both 2) _ (named both SetStaticObjectField h 2)) h.store_agrees)
-  seen GetArrayLength h free answer is keyed held = stands both is (row.gives (counted both h.store_agrees (at both 0)))
-  seen GetStringLength h free answer is keyed held = stands both is (row.gives (counted both h.store_agrees (at both 0)))
-  seen (NewArray T) h free answer is keyed held =
+  seen GetArrayLength h free answer is = stands both is (row.gives (counted both h.store_agrees (at both 0)))
+  seen GetStringLength h free answer is = stands both is (row.gives (counted both h.store_agrees (at both 0)))
+  seen (NewArray T) h free answer is =
       stands both (is ∙ ap (λ (z : ℤ). new_array (number_array T) z (cell.Number 0)) (top_number both activation.stack))
       (array_made both (number_array T) (cell.Number 0) (Number (pos 0)) (makes_numbers T) (record { sfits = omega arith }, refl) _)
-  seen NewObjectArray h free answer is keyed held =
+  seen NewObjectArray h free answer is =
       let class = makes_references h free in
       stands both (is ∙ (λ i. new_array (class.1 i) (top_number both activation.stack i) (held_reference (at both 2))))
       (array_made both array_class _ _ class.0 (held_agrees both (at both 2) _ (named both NewObjectArray h 2)) _)
-  seen GetObjectArrayElement h free answer is keyed held =
+  seen GetObjectArrayElement h free answer is =
       stands both (is ∙ ap (element_there store.heap (at both 0)) (ap (index_there store.heap (at both 0)) (top_number both activation.stack) ∙ index_is both (at both 0) _))
       (element_read both (at both 0) _ (named both GetObjectArrayElement h 0) h.store_agrees _)
-  seen SetObjectArrayElement h free answer is keyed held =
+  seen SetObjectArrayElement h free answer is =
       let first = object_given_at both SetObjectArrayElement [] ObjectArray (IntNumber ∷ Nullable ∷ []) tt refl refl h free in
       let fits = fits_one (scene both) (at both 2) (element_class (class_kind w.classes (class_of_given store.heap (at both 0)))) (there both SetObjectArrayElement h 2) in
       let index = ap (index_there store.heap (at both 0)) (top_number both activation.stack) ∙ index_is both (at both 0) _ in
       stands both (is ∙ (λ i. stores_there store.heap (at both 0) (fits i) (index i) (held_reference (at both 2))))
       (element_written both (at both 0) first.address _ _ _ first.at (first_name both first) (held_agrees both (at both 2) _ (named both SetObjectArrayElement h 2)) h.store_agrees _ _)
-  seen NewStringUTF h free answer is keyed held =
+  seen NewStringUTF h free answer is =
       stands both is (row.makes (record { object = refl; makeable = built_in_class both string_class (omega arith) (omega arith) }))
-  seen Throw h free answer is keyed held = stands both is (row.pends _ (named both Throw h 0) (row.int refl (record { sfits = omega arith })))
-  seen ThrowNew h free answer is keyed held =
+  seen Throw h free answer is = stands both is (row.pends _ (named both Throw h 0) (row.int refl (record { sfits = omega arith })))
+  seen ThrowNew h free answer is =
       stands both (is ∙ ap (λ (c : ℕ). Raises (class_id c) 0) (name 0)) (row.raises (built_in_class both string_class (omega arith) (omega arith)) (makes_throwable h free))
-  seen ExceptionOccurred h free answer is keyed held = stands both is (row.gives (row.reference (pending_named both ExceptionOccurred h)))
-  seen ExceptionCheck h free answer is keyed held =
+  seen ExceptionOccurred h free answer is = stands both is (row.gives (row.reference (pending_named both ExceptionOccurred h)))
+  seen ExceptionCheck h free answer is =
       stands both is (row.gives (row.flag (ap truth_word (same_pending store.heap pending _ (pending_named both ExceptionCheck h)))))
-  seen ExceptionClear h free answer is keyed held = stands both is (row.pends None tt row.nothing)
-  seen FatalError h free answer is keyed held = stands both is row.halts
-  seen (GetArrayRegion T) h free answer is keyed held =
+  seen ExceptionClear h free answer is = stands both is (row.pends None tt row.nothing)
+  seen FatalError h free answer is = stands both is row.halts
+  seen (GetArrayRegion T) h free answer is =
       let f = GetArrayRegion T in
       let g = region_given both f (NumberArray T) T tt refl refl h free in
       stands both is (region_read both g f h array_index_out_of_bounds (omega arith) (omega arith))
-  seen (SetArrayRegion T) h free answer is keyed held =
+  seen (SetArrayRegion T) h free answer is =
       let f = SetArrayRegion T in
       let g = region_given both f (NumberArray T) T tt refl refl h free in
       stands both is (region_written both g f h array_index_out_of_bounds (omega arith) (omega arith) (numbers_are both g f h T refl free))
-  seen GetStringRegion h free answer is keyed held =
+  seen GetStringRegion h free answer is =
       let g = region_given both GetStringRegion StringObject JChar tt refl refl h free in
       stands both is (region_read both g GetStringRegion h string_index_out_of_bounds (omega arith) (omega arith))
-  seen (GetBuffer access) h free answer is keyed held = back both (GetBuffer access) h held (answers_get_buffer both access h free answer is)
-  seen (ReleaseBuffer access) h free answer is keyed held = back both (ReleaseBuffer access) h held (answers_release both access h free answer is)
-  seen MonitorEnter h free answer is keyed held = back both MonitorEnter h held (answers_enter both h free answer is)
-  seen MonitorExit h free answer is keyed held = back both MonitorExit h held (answers_exit both h free answer is)
-  seen CallStaticVoidMethod h free answer is keyed held = stands both is (back both CallStaticVoidMethod h held (method_called both CallStaticVoidMethod refl h free))
-  seen CallStaticIntMethod h free answer is keyed held = stands both is (back both CallStaticIntMethod h held (method_called both CallStaticIntMethod refl h free))
-  seen CallStaticObjectMethod h free answer is keyed held = stands both is (back both CallStaticObjectMethod h held (method_called both CallStaticObjectMethod refl h free))
+  seen (GetBuffer access) h free answer is = back both (GetBuffer access) h (answers_get_buffer both access h free answer is)
+  seen (ReleaseBuffer access) h free answer is = back both (ReleaseBuffer access) h (answers_release both access h free answer is)
+  seen MonitorEnter h free answer is = back both MonitorEnter h (answers_enter both h free answer is)
+  seen MonitorExit h free answer is = back both MonitorExit h (answers_exit both h free answer is)
+  seen CallStaticVoidMethod h free answer is = stands both is (back both CallStaticVoidMethod h (method_called both CallStaticVoidMethod refl h free))
+  seen CallStaticIntMethod h free answer is = stands both is (back both CallStaticIntMethod h (method_called both CallStaticIntMethod refl h free))
+  seen CallStaticObjectMethod h free answer is = stands both is (back both CallStaticObjectMethod h (method_called both CallStaticObjectMethod refl h free))
 
   -- so it is what the call does
-  pub answers : (f : JniFunction) → Asked both f → Passes both f → (answer : Answer) → Works both f answer → HasKey both f → IsHeld both f → Does both f answer
-  answers f h free answer is keyed held = does both f h held (seen f h free answer is keyed held)
+  stands_for : (f : JniFunction) → Asked both f → Passes both → (answer : Answer) → Works both f answer → Does both f answer
+  stands_for f h free answer is = does both f h (seen f h free answer is)
+
+-- the key that is deleted
+key_deleted : (o : Option ℕ) (answer : Answer) → answer ≡ deletes o → (key : ℕ) → answer ≡ Deletes key → o ≡ Some key
+key_deleted None answer is key same = absurd (let clash : Gives given.Nothing ≡ Deletes key = sym is ∙ same in cc)
+key_deleted (Some k) answer is key same = let e : Deletes k ≡ Deletes key = sym is ∙ same in cc
+
+-- a function that calls a method does so
+method_called_so : (scene : Scene) (call : Call) (f : JniFunction) (answer : Answer) → calls_method f ≡ true → IsWorkedOut scene call f answer → answer ≡ Calls
+method_called_so scene call CallStaticVoidMethod answer calls is = is
+method_called_so scene call CallStaticIntMethod answer calls is = is
+method_called_so scene call CallStaticObjectMethod answer calls is = is
+method_called_so scene call f answer calls is = absurd (cc)
+
+-- what is worked out is the answer to a call
+pub answers : (scene : Scene) (call : Call) (answer : Answer) → IsWorkedOut scene call call.function answer → IsAnswerTo scene call answer
+unfolding IsAnswerTo
+answers scene call answer is = record {
+  stands = λ (it : SourceCall scene call).
+      stands_for it.p it.w it.store it.pending it.activation call it.others it.k it.owner it.shared it.s it.target it.sound it.args call.function it.asked
+      (subst (λ (x : Scene). trap_seen x it.activation.locals call ≡ None) it.seen it.passes) answer
+      (subst (λ (x : Scene). IsWorkedOut x call call.function answer) it.seen is);
+  ends = λ one. key_deleted _ answer (subst (λ (f : JniFunction). IsWorkedOut scene call f answer) one is);
+  calls = λ calls. method_called_so scene call call.function answer calls is;
+}
+
+-- the same of an answer that there may be
+pub answers_if : {A : Type 0} (answer : A → Answer) (sees : Scene) (call : Call) (o : Option A) → IfSome o (λ x. IsWorkedOut sees call call.function (answer x)) → IfSome o (λ x. IsAnswerTo sees call (answer x))
+answers_if answer sees call None is = is
+answers_if answer sees call (Some x) is = answers sees call (answer x) is
+
+-- what the answer to a call stands for
+module _ (both : TwoCalls) (f : JniFunction) (h : Asked both f) (answer : Answer) (given : IsAnswerTo (scene both) both.call answer) where
+  pub answered : Passes both → Does both f answer
+  unfolding IsAnswerTo
+  answered free =
+      subst (λ (g : JniFunction). Does both g answer) h.same_function
+      (given.stands (record {
+        p = both.p;
+        w = both.w;
+        store = both.store;
+        pending = both.pending;
+        activation = both.activation;
+        others = both.others;
+        k = both.k;
+        owner = both.owner;
+        shared = both.shared;
+        s = both.s;
+        target = both.target;
+        args = both.args;
+        sound = both.sound;
+        seen = refl;
+        asked = of_call both f h;
+        passes = free;
+      }))
+
+  -- the key that it deletes
+  pub ended : f ≡ DeleteLocalRef → (key : ℕ) → answer ≡ Deletes key → key_at (references both) (operand_of both.call.operands 0) ≡ Some key
+  unfolding IsAnswerTo
+  ended one = given.ends (h.same_function ∙ one)
+
+  -- it calls a method
+  pub called : calls_method f ≡ true → answer ≡ Calls
+  unfolding IsAnswerTo
+  called calls = given.calls (ap calls_method h.same_function ∙ calls)

@@ -176,9 +176,6 @@ module _ (p : Lowered) (w : World) (store : Store) (pending : Option ℕ) (activ
       (deep_is_last scene activation.locals (length s.callers) call
       ∙ same_trap p w store pending activation call others k owner shared s target args of_call)
 
-  found_is : with_depth (is_too_deep f (length s.callers)) found_trap ≡ trap_of_call w.classes shared s target f args
-  found_is = ap (with_depth (is_too_deep f (length s.callers))) found_as_seen ∙ seen_is
-
   module _ (none : found_trap ≡ None) where
     passed : Passed (is_some pending && not (is_allowed_pending f)) (list_any (gives_deleted (references_of store activation)) call.operands) (some_missing (references_of store activation) activation.slots.fields.items (prototype f).parameters call.operands)
         (some_misfit w.classes store.heap (references_of store activation) (prototype f).parameters call.operands || not (fit_together (unit_tree p.unit) w.classes store.heap (references_of store activation) activation.slots.fields.items call.operands (element_wanted call.target) f)) (puts_local (prototype f).result && not (has_room (locals_after f activation.locals)))
@@ -191,13 +188,17 @@ module _ (p : Lowered) (w : World) (store : Store) (pending : Option ℕ) (activ
     pub fits_where_none : fit_together (unit_tree p.unit) w.classes store.heap (references_of store activation) activation.slots.fields.items call.operands (element_wanted call.target) f ≡ true
     fits_where_none = fitting.1
 
-  module _ (free : trap_of_call w.classes shared s target f args ≡ None) where
+  -- where the source's call is stopped by no check, nothing is seen
+  pub free_seen : trap_of_call w.classes shared s target f args ≡ None → trap_seen scene activation.locals call ≡ None
+  free_seen free = none_of (trap_seen scene activation.locals call) (seen_is ∙ free)
+    where
+      none_of : (o : Option Trap) → with_depth (is_too_deep f (length s.callers)) o ≡ None → o ≡ None
+      none_of (Some t) e = absurd (cc)
+      none_of None e = refl
+
+  module _ (free : trap_seen scene activation.locals call ≡ None) where
     found_none : found_trap ≡ None
-    found_none = none_of found_trap (found_is ∙ free)
-      where
-        none_of : (o : Option Trap) → with_depth (is_too_deep f (length s.callers)) o ≡ None → o ≡ None
-        none_of (Some t) e = absurd (cc)
-        none_of None e = refl
+    found_none = found_as_seen ∙ free
 
     -- the arguments go together
     pub has_passed : fit_together (unit_tree p.unit) w.classes store.heap (references_of store activation) activation.slots.fields.items call.operands (element_wanted call.target) f ≡ true

@@ -28,7 +28,6 @@ use Rattle.semantics.specs.CallSight.{CallSight}
 use Rattle.semantics.specs.Arguments.{Actual, name_or_zero, reference_given, variable_given}
 use Rattle.semantics.specs.CallEffects.{ScalarResult, same_reference, level_of}
 use Rattle.semantics.specs.CallSight as seen
-use Rattle.semantics.specs.CallStep.{trap_of_call}
 use Rattle.semantics.specs.Heap.{number_in, place_in, reference_in}
 use Rattle.semantics.specs.Method.{MethodId}
 use Rattle.semantics.specs.Object.{Object, ObjectValue, Number, Reference, Refers}
@@ -48,14 +47,13 @@ use Rattle.machine_scenes.specs.Statics.{static_at}
 use Rattle.machine_scenes.specs.StoreAgrees.{StoreAgrees}
 use Rattle.machine_scenes.proofs.BlocksOfNames.{name_within}
 use Rattle.machine_scenes.proofs.Handles.{class_of_field, class_within}
-use Rattle.machine_scenes.proofs.KeyLaws.{OwnKey}
 use Rattle.machine_scenes.proofs.OperandsThere.{address_of, handle_of}
 use Rattle.machine_answers.specs.declared.answer.Answer.{Answer}
 use Rattle.machine_answers.specs.declared.answer.Answer.TheVariants as replies
 use Rattle.machine_answers.specs.declared.answer.Given.TheVariants as given
 use Rattle.machine_answers.specs.Answers.{GivenAgrees, IsAnswer}
 use Rattle.machine_answers.specs.Answers as row
-use Rattle.machine_answers.specs.Asked.{scene_of}
+use Rattle.machine_answers.specs.Asked.{IsKeyGiven, deletes_static, scene_of}
 use Rattle.machine_answers.specs.Checked.{may_be_null, some_missing}
 use Rattle.machine_answers.specs.Sights.{call_seen, class_object_seen, held_seen, name_seen, number_at, object_seen, values_seen, words_of}
 use Rattle.machine_answers.specs.WorkedOut.{IsFoundField, IsFoundMethod, address_in, class_object, count_there, deletes, deletes_held, deletes_held_weakly, element_there, found_class, frame_for, held_reference, index_there, new_array, place_there, room_for, stack_number, stores_there, top_word, value_there, word_in, writes_there}
@@ -64,8 +62,8 @@ use Rattle.machine_answers.proofs.CallTraps.{handles_there, none_lacking, object
 use Rattle.machine_answers.proofs.FieldValues.{reference_there, word_there, writes}
 use Rattle.machine_answers.proofs.SightParts.{name_seen_is, object_there_is}
 use Rattle.machine_answers.proofs.SightPlaces.{word_there as number_word}
-use Rattle.machine_answers.proofs.SightsAgree.{HeldStatic, Place, There, Past, deletes_static, held_is, place_at, sights_agree, static_given}
-use Rattle.machine_answers.proofs.TwoCalls.{TwoCalls, Asked, Does, agrees, all, at, brought, built_in_class, fields, object_of, references, table_of, unit}
+use Rattle.machine_answers.proofs.SightsAgree.{Place, There, Past, held_is, place_at, sights_agree, static_given}
+use Rattle.machine_answers.proofs.TwoCalls.{TwoCalls, Asked, Passes, Does, agrees, all, at, brought, built_in_class, fields, object_of, references, table_of, unit}
 
 module _ (both : TwoCalls) where
   open both use {p, w, store, pending, activation, call, others, k, owner, shared, s, target, sound, args}
@@ -85,37 +83,25 @@ module _ (both : TwoCalls) where
   pub stands : {x answer : Answer} {kind : ResultKind} {a : source.Answer} → answer ≡ x → Stands x kind a → Stands answer kind a
   stands {kind = kind} {a = a} is h = subst (λ (y : Answer). Stands y kind a) (sym is) h
 
-  -- no check stops the call
-  abbrev pub Passes : JniFunction → Type 0
-  Passes f = trap_of_call w.classes shared s target f args ≡ None
-
   -- ---- what a call sees is what the source's call sees
 
-  -- what is known of the key of a reference that is deleted
-  abbrev pub HasKey : JniFunction → Type 0
-  HasKey f = f ≡ DeleteLocalRef → OwnKey store.heap activation.locals (key_at (references both) (operand_of call.operands 0)) (reference_given args 0) (level_of (lookup (variable_given args 0) s.variables))
-
-  -- what is known of the static whose reference ends
-  abbrev pub IsHeld : JniFunction → Type 0
-  IsHeld f = deletes_static f ≡ true → (i : ℕ) → operand_of call.operands 0 ≡ operand.Static i → HeldStatic store.heap (references both) shared (variable_given args 0) i
-
-  of_call : (f : JniFunction) → Asked both f → Asked both call.function
+  pub of_call : (f : JniFunction) → Asked both f → Asked both call.function
   of_call f h = subst (λ (g : JniFunction). Asked both g) (sym h.same_function) h
 
-  same_sight : (f : JniFunction) → Asked both f → IsHeld f → sight f ≡ seen.sight_of_call shared s f args
-  same_sight f h held =
+  same_sight : (f : JniFunction) → Asked both f → sight f ≡ seen.sight_of_call shared s f args
+  same_sight f h =
       subst (λ (g : JniFunction). sight g ≡ seen.sight_of_call shared s g args) h.same_function
-      (sights_agree p w store pending activation call others k owner shared s target args (of_call f h) (λ ends. held (ap deletes_static (sym h.same_function) ∙ ends)))
+      (sights_agree p w store pending activation call others k owner shared s target args (of_call f h))
 
   -- an answer that stands for what the table says of the call is what the source's call does
-  pub does : (f : JniFunction) → Asked both f → IsHeld f → {answer : Answer} → Stands answer (prototype f).result (call_answer (unit both) w.classes k (sight f) f) → Does both f answer
-  does f h held {answer} it =
-      subst (λ (x : CallSight). Stands answer (prototype f).result (call_answer (unit both) w.classes k x f)) (same_sight f h held) it
+  pub does : (f : JniFunction) → Asked both f → {answer : Answer} → Stands answer (prototype f).result (call_answer (unit both) w.classes k (sight f) f) → Does both f answer
+  does f h {answer} it =
+      subst (λ (x : CallSight). Stands answer (prototype f).result (call_answer (unit both) w.classes k x f)) (same_sight f h) it
 
   -- and the other way round
-  pub back : (f : JniFunction) → Asked both f → IsHeld f → {answer : Answer} → Does both f answer → Stands answer (prototype f).result (call_answer (unit both) w.classes k (sight f) f)
-  back f h held {answer} it =
-      subst (λ (x : CallSight). Stands answer (prototype f).result (call_answer (unit both) w.classes k x f)) (sym (same_sight f h held)) it
+  pub back : (f : JniFunction) → Asked both f → {answer : Answer} → Does both f answer → Stands answer (prototype f).result (call_answer (unit both) w.classes k (sight f) f)
+  back f h {answer} it =
+      subst (λ (x : CallSight). Stands answer (prototype f).result (call_answer (unit both) w.classes k x f)) (sym (same_sight f h)) it
 
   -- ---- arguments
 
@@ -273,28 +259,28 @@ module _ (both : TwoCalls) where
   pushed (pos n) = row.pushes
   pushed (negsuc n) = row.refuses
 
-  pub local_deleted : (key : Option ℕ) (r : Reference) → OwnKey store.heap activation.locals key r (level_of (lookup (variable_given args 0) s.variables)) → Stands (deletes key) GivesNothing (table.local_deleted r)
+  pub local_deleted : (key : Option ℕ) (r : Reference) → IsKeyGiven store.heap activation.locals key r (level_of (lookup (variable_given args 0) s.variables)) → Stands (deletes key) GivesNothing (table.local_deleted r)
   local_deleted None None own = row.gives row.nothing
   local_deleted (Some key) (Some n) own = row.deletes n 0 own
   local_deleted key r own = absurd own
 
   -- the key of a reference that is deleted, by the name by which it is seen
-  pub own_key : (f : JniFunction) → Asked both f → HasKey f → f ≡ DeleteLocalRef
-      → OwnKey store.heap activation.locals (key_at (references both) (operand_of call.operands 0)) (name_seen store.heap (at both 0)) (level_of (lookup (variable_given args 0) s.variables))
-  own_key f h keyed is =
-      subst (λ (r : Reference). OwnKey store.heap activation.locals (key_at (references both) (operand_of call.operands 0)) r (level_of (lookup (variable_given args 0) s.variables)))
-      (sym (name_seen_is store.heap (at both 0) (reference_given args 0) (agrees both f h 0))) (keyed is)
+  pub own_key : (f : JniFunction) → Asked both f → f ≡ DeleteLocalRef
+      → IsKeyGiven store.heap activation.locals (key_at (references both) (operand_of call.operands 0)) (name_seen store.heap (at both 0)) (level_of (lookup (variable_given args 0) s.variables))
+  own_key f h is =
+      subst (λ (r : Reference). IsKeyGiven store.heap activation.locals (key_at (references both) (operand_of call.operands 0)) r (level_of (lookup (variable_given args 0) s.variables)))
+      (sym (name_seen_is store.heap (at both 0) (reference_given args 0) (agrees both f h 0))) (h.key is)
 
   -- a static that holds this, which is named by the first argument
   pub record IsStatic (i : ℕ) (x : Held) : Type 0 where
     pub place : static_index (variable_given args 0) shared.statics ≡ Some i
     pub there : lookup (variable_given args 0) shared.statics ≡ Some (held_seen store.heap x)
 
-  pub static_named : (f : JniFunction) → Asked both f → deletes_static f ≡ true → IsHeld f
+  pub static_named : (f : JniFunction) → Asked both f → deletes_static f ≡ true
       → (i : ℕ) × (operand_of call.operands 0 ≡ operand.Static i) × IsStatic i (static_at (references both) i)
-  static_named f h ends held =
+  static_named f h ends =
       let static = static_given p w store pending activation call others k owner shared s target args (of_call f h) (ap deletes_static h.same_function ∙ ends) in
-      let found = held ends static.0 static.1 in
+      let found = h.held ends static.0 static.1 in
       (static.0, static.1, record { place = found.place; there = found.there ∙ ap (λ (r : StaticReference). Some r) (sym (held_is store.heap (static_at (references both) static.0) found.reference found.agrees)) })
 
   pub global_deleted : (i : ℕ) (x : Held) → IsStatic i x → Stands (deletes_held i x) GivesNothing (table.global_deleted (Some (held_seen store.heap x)))
@@ -340,14 +326,14 @@ module _ (both : TwoCalls) where
   -- ---- fields and statics
 
   -- the field ID of argument 1 isn't NULL
-  handle_given : (f : JniFunction) (q : ParameterKind) (parameters : List ParameterKind) → may_be_null q ≡ false → parameters_for f (length args) ≡ q ∷ FieldID ∷ parameters → Asked both f → Passes f
+  handle_given : (f : JniFunction) (q : ParameterKind) (parameters : List ParameterKind) → may_be_null q ≡ false → parameters_for f (length args) ≡ q ∷ FieldID ∷ parameters → Asked both f → Passes both
       → (x : FieldHandle) × (field_at (fields both) (operand_of call.operands 1) ≡ Some x)
   handle_given f q parameters never are h free =
       second_field (unit both) w.classes store.heap (references both) (fields both) q parameters call.operands never (subst (λ (l : List ParameterKind). AllZip OperandFits l call.operands) are h.kinds)
       (subst (λ (l : List ParameterKind). some_missing (references both) (fields both) l call.operands ≡ false) are (none_lacking p w store pending activation call others k owner shared s target f args h free))
 
   -- the place of the field of argument 1 among these
-  pub place_is : (f : JniFunction) (q : ParameterKind) (parameters : List ParameterKind) → may_be_null q ≡ false → parameters_for f (length args) ≡ q ∷ FieldID ∷ parameters → Asked both f → Passes f → (among : List FieldId)
+  pub place_is : (f : JniFunction) (q : ParameterKind) (parameters : List ParameterKind) → may_be_null q ≡ false → parameters_for f (length args) ≡ q ∷ FieldID ∷ parameters → Asked both f → Passes both → (among : List FieldId)
       → place_there w.classes (field_at (fields both) (operand_of call.operands 1)) among ≡ place_in (field_there w.classes (field_at (fields both) (operand_of call.operands 1))) among
   place_is f q parameters never are h free among =
       let handle = handle_given f q parameters never are h free in
@@ -361,7 +347,7 @@ module _ (both : TwoCalls) where
     pub agrees : ReferenceAgrees store.heap (class_object_seen store.loaded.items (field_there w.classes handle).class) (Some (field_there w.classes handle).class)
     pub same : class_object store.loaded.items (Some (field_there w.classes handle).class) ≡ class_object_seen store.loaded.items (field_there w.classes handle).class
 
-  pub holder : (f : JniFunction) (parameters : List ParameterKind) → parameters_for f (length args) ≡ ClassObject ∷ FieldID ∷ parameters → Asked both f → Passes f → Holder (field_at (fields both) (operand_of call.operands 1))
+  pub holder : (f : JniFunction) (parameters : List ParameterKind) → parameters_for f (length args) ≡ ClassObject ∷ FieldID ∷ parameters → Asked both f → Passes both → Holder (field_at (fields both) (operand_of call.operands 1))
   holder f parameters are h free =
       let handle = handle_given f ClassObject parameters refl are h free in
       let there = handle_of w.classes (fields both) call.operands 1 (handles_there p w store pending activation call others k owner shared s target f args h) handle.0 handle.1 in

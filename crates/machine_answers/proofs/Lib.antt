@@ -25,4 +25,5 @@ pub mod SightsAgree
 pub mod TrapsSeen
 pub mod TwoCalls
 pub mod Unasked
+pub mod WorkedOut
 pub mod Writes

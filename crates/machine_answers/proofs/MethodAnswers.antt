@@ -5,7 +5,7 @@ use Rattle.std.proofs.lemmas.List.{drop-map}
 use Rattle.syntax.specs.Tree.{ResultType}
 use Rattle.jni.specs.JniFunction.{JniFunction, CallStaticVoidMethod, CallStaticIntMethod, CallStaticObjectMethod, calls_method, prototype}
 use Rattle.semantics.specs.Arguments.{Actual, method_given, object_given}
-use Rattle.semantics.specs.CallStep.{target_element, trap_of_call}
+use Rattle.semantics.specs.CallStep.{target_element}
 use Rattle.semantics.specs.Answer.{Calls as Calling}
 use Rattle.semantics.specs.AnswerTable.{call_answer, method_called as as_called}
 use Rattle.semantics.specs.CallSight.{ArgumentSight, argument_seen, sight_of_call}
@@ -19,7 +19,7 @@ use Rattle.machine_answers.specs.Answers.{IsAnswer}
 use Rattle.machine_answers.specs.Answers as row
 use Rattle.machine_answers.proofs.CallChecks.{method_at_place}
 use Rattle.machine_answers.proofs.CallTraps.{goes_together}
-use Rattle.machine_answers.proofs.TwoCalls.{TwoCalls, brought, Asked, Does, fields, references, unit}
+use Rattle.machine_answers.proofs.TwoCalls.{TwoCalls, Passes, brought, Asked, Does, fields, references, unit}
 
 -- both of two hold
 both_hold : (a b : Bool) → (a && b) ≡ true → (a ≡ true) × (b ≡ true)
@@ -52,14 +52,14 @@ module _ (both : TwoCalls) where
       let last = both_hold (m.class == object_given args 0 && wants m.function.result) (all_pass m.function.parameters (drop 2 (map of args))) well in
       record { method = m; given = given; handle = h; at = at; is = agrees; passes = ap (all_pass m.function.parameters) (sym (drop-map of 2 args)) ∙ last.1; answer = does ∙ ap (λ (o : Option MethodId). as_called o) given }
 
-  together : (f : JniFunction) → (h : Asked both f) → trap_of_call w.classes shared s target f args ≡ None → go_together w.classes (sight_of_call shared s f args) (target_element s.variables target) f ≡ true
+  together : (f : JniFunction) → (h : Asked both f) → Passes both → go_together w.classes (sight_of_call shared s f args) (target_element s.variables target) f ≡ true
   together f h free = goes_together p w store pending activation call others k owner shared s target f args h free
 
   agree : (f : JniFunction) → Asked both f → MethodAgrees (unit both) w.classes (method_at (fields both) (operand_of call.operands 1)) (method_given args 1)
   agree f h = method_at_place (unit both) w.classes store.heap (references both) (fields both) call.operands args 1 h.given
 
   -- a call of a method that has passed its checks
-  pub called_method : (f : JniFunction) → calls_method f ≡ true → Asked both f → trap_of_call w.classes shared s target f args ≡ None → CalledMethod f
+  pub called_method : (f : JniFunction) → calls_method f ≡ true → Asked both f → Passes both → CalledMethod f
   unfolding go_together call_answer
   called_method CallStaticVoidMethod is h free = well_called CallStaticVoidMethod is_void _ _ refl refl (agree CallStaticVoidMethod h) (together CallStaticVoidMethod h free) refl
   called_method CallStaticIntMethod is h free = well_called CallStaticIntMethod is_int _ _ refl refl (agree CallStaticIntMethod h) (together CallStaticIntMethod h free) refl
@@ -67,7 +67,7 @@ module _ (both : TwoCalls) where
   called_method f is h free = absurd (cc)
 
   -- it is entered
-  pub method_called : (f : JniFunction) → calls_method f ≡ true → Asked both f → trap_of_call w.classes shared s target f args ≡ None → Does both f Calls
+  pub method_called : (f : JniFunction) → calls_method f ≡ true → Asked both f → Passes both → Does both f Calls
   method_called f is h free =
       let it = called_method f is h free in
       subst (IsAnswer w.classes (brought both) store.heap activation.locals shared s Calls (prototype f).result) (sym it.answer) (row.calls it.method)

@@ -1,5 +1,5 @@
 -- What calls of functions of monitors do.
-use Rattle.std.proofs.Common.{◌≡◌, ℕ, is_none, [], ◌-◌, ◌^◌, Option, Some, None, refl, sym, ap, ◌∙◌, subst, arith}
+use Rattle.std.proofs.Common.{◌≡◌, ℕ, false, is_none, [], ◌-◌, ◌^◌, Option, Some, None, refl, sym, ap, ◌∙◌, subst, arith}
 use Rattle.std.specs.Prelude.{◌&&◌, unwrap_or}
 use Rattle.class_rules.specs.ClassIds.{class_id}
 use Rattle.class_rules.specs.BuiltIns.{illegal_monitor_state}
@@ -27,21 +27,26 @@ use Rattle.machine_answers.specs.declared.answer.Given.TheVariants as given
 use Rattle.machine_answers.specs.Answers.{IsAnswer}
 use Rattle.machine_answers.specs.Answers as row
 use Rattle.machine_scenes.specs.Given.{name_there}
-use Rattle.machine_answers.specs.WorkedOut.{enters, entered_by, leaves, left_by}
+use Rattle.machine_answers.specs.WorkedOut.{entered_by, left_by}
 use Rattle.machine_answers.proofs.CallOperands.{same_number}
-use Rattle.machine_answers.proofs.TwoCalls.{TwoCalls, brought, Asked, Works, Does, built_in_class, object_given_at, object_there}
+use Rattle.machine_answers.proofs.CallTraps.{seen_is}
+use Rattle.machine_answers.proofs.TrapsSeen.{with_depth}
+use Rattle.machine_answers.proofs.WorkedOut.{enters, leaves}
+use Rattle.machine_answers.proofs.TwoCalls.{TwoCalls, Passes, brought, Asked, Works, Does, built_in_class, object_given_at, object_there}
 
 module _ (both : TwoCalls) where
   open both use {p, w, store, pending, activation, call, others, k, owner, shared, s, target, sound, args}
 
   -- thread k doesn't wait, so no other thread owns the object
-  not_owned : (m : source_state.Monitor) → Asked both MonitorEnter → trap_of_call w.classes shared s target MonitorEnter args ≡ None → monitor_of shared.monitors (object_given args 0) ≡ Some m → m.owner ≡ k
-  not_owned m h free is = same_number m.owner k (sym (λ i. is_none (free i) && is_owned_by_other k (is i)) ∙ h.ready)
+  not_owned : (m : source_state.Monitor) → Asked both MonitorEnter → Passes both → monitor_of shared.monitors (object_given args 0) ≡ Some m → m.owner ≡ k
+  not_owned m h free is =
+      let none : trap_of_call w.classes shared s target MonitorEnter args ≡ None = sym (seen_is p w store pending activation call others k owner shared s target MonitorEnter args h) ∙ ap (with_depth false) free in
+      same_number m.owner k (sym (λ i. is_none (none i) && is_owned_by_other k (is i)) ∙ h.ready)
 
   abbrev GivesNumber : Answer → source.Answer → Type 0
   GivesNumber x a = IsAnswer w.classes (brought both) store.heap activation.locals shared s x GivesInt a
 
-  pub answers_enter : Asked both MonitorEnter → trap_of_call w.classes shared s target MonitorEnter args ≡ None → (answer : Answer) → Works both MonitorEnter answer → Does both MonitorEnter answer
+  pub answers_enter : Asked both MonitorEnter → Passes both → (answer : Answer) → Works both MonitorEnter answer → Does both MonitorEnter answer
   unfolding call_answer
   answers_enter h free answer is =
       let g = object_given_at both MonitorEnter [] NonNull [] tt refl refl h free in
@@ -63,7 +68,7 @@ module _ (both : TwoCalls) where
           (row.gives (row.int refl (record { sfits = omega arith })))
       by_came a there enter.Busy e = let other = busy k shared store.monitors agree n (sym e) in absurd (other.2 (not_owned other.0 h free other.1))
 
-  pub answers_exit : Asked both MonitorExit → trap_of_call w.classes shared s target MonitorExit args ≡ None → (answer : Answer) → Works both MonitorExit answer → Does both MonitorExit answer
+  pub answers_exit : Asked both MonitorExit → Passes both → (answer : Answer) → Works both MonitorExit answer → Does both MonitorExit answer
   unfolding call_answer
   answers_exit h free answer is =
       let g = object_given_at both MonitorExit [] NonNull [] tt refl refl h free in

@@ -38,10 +38,10 @@ use Rattle.machine_answers.specs.WorkedOut.{array_in, copies_in, copies_out, nex
 use Rattle.machine_answers.proofs.CallOperands.{GivenObject, is_number_array}
 use Rattle.machine_answers.proofs.CallTraps.{none_unfit}
 use Rattle.machine_answers.proofs.FieldValues.{values_there}
-use Rattle.machine_answers.proofs.KindAnswers.{Passes, Stands, count_seen, first_name, raised, stands, top_number}
+use Rattle.machine_answers.proofs.KindAnswers.{Stands, count_seen, first_name, raised, stands, top_number}
 use Rattle.machine_answers.proofs.RegionOperands.{GivenArray, array_numbers, numbers_alone, slots_there, words_brought, words_there, local_array as given_array}
 use Rattle.machine_answers.proofs.SightParts.{object_there_is}
-use Rattle.machine_answers.proofs.TwoCalls.{TwoCalls, Asked, all, at, fields, object_given_at, object_of, references, unit}
+use Rattle.machine_answers.proofs.TwoCalls.{TwoCalls, Passes, Asked, all, at, fields, object_given_at, object_of, references, unit}
 
 module _ (both : TwoCalls) where
   open both use {p, w, store, pending, activation, call, others, k, owner, shared, s, target, sound, args}
@@ -51,7 +51,7 @@ module _ (both : TwoCalls) where
     pub object : GivenObject (unit both) w.classes store.heap (references both) (fields both) call.operands args 0
     pub array : GivenArray activation.slots.numbers.items s.variables call.operands args
 
-  pub region_given : (f : JniFunction) (q : ParameterKind) (T : ElementType) → IsReferenceKind q → may_be_null q ≡ false → parameters_for f (length args) ≡ q ∷ IntNumber ∷ IntNumber ∷ ArrayVariable T ∷ [] → Asked both f → Passes both f → GivenRegion
+  pub region_given : (f : JniFunction) (q : ParameterKind) (T : ElementType) → IsReferenceKind q → may_be_null q ≡ false → parameters_for f (length args) ≡ q ∷ IntNumber ∷ IntNumber ∷ ArrayVariable T ∷ [] → Asked both f → Passes both → GivenRegion
   region_given f q T kind never are h free = record {
     object = object_given_at both f [] q (IntNumber ∷ IntNumber ∷ ArrayVariable T ∷ []) kind never are h free;
     array = given_array activation.slots.numbers.items s.variables T (parameters_for f (length args)) call.operands args h.kinds h.fit h.arrays (ap (λ (l : List ParameterKind). slice_get l 3) are);
@@ -151,7 +151,7 @@ module _ (both : TwoCalls) where
         })))
 
     -- as an array of numbers does
-    pub numbers_are : (T : ElementType) → parameters_for f (length args) ≡ NumberArray T ∷ IntNumber ∷ IntNumber ∷ ArrayVariable T ∷ [] → Passes both f → values_of shared.heap n ≡ map Number (numbers_of shared.heap n)
+    pub numbers_are : (T : ElementType) → parameters_for f (length args) ≡ NumberArray T ∷ IntNumber ∷ IntNumber ∷ ArrayVariable T ∷ [] → Passes both → values_of shared.heap n ≡ map Number (numbers_of shared.heap n)
     numbers_are T are free =
         let object = object_of both f h a n there in
         let of_class : class_there store.heap a ≡ number_array T =

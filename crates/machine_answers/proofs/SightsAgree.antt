@@ -1,9 +1,9 @@
 -- What a call sees in memory is what the source's call sees.
-use Rattle.std.proofs.Common.{inl, inr, ◌≡◌, ℕ, zero, suc, ◌+◌, ◌<◌, ◌≤◌, Bool, true, false, List, [], ◌∷◌, length, Option, Some, None, refl, sym, ap, ◌∙◌, subst, arith}
+use Rattle.std.proofs.Common.{inl, inr, ◌≡◌, ℕ, zero, suc, ◌+◌, ◌<◌, ◌≤◌, Bool, true, List, [], ◌∷◌, length, Option, Some, None, refl, sym, ap, ◌∙◌, subst, arith}
 use Rattle.std.specs.Prelude.{◌⊎◌, is_some, IsSome, if◌then◌else◌, pos, drop, map, slice_get, take}
 use Rattle.std.specs.List.{AllZip}
 use Rattle.std.specs.Option.{option_map}
-use Rattle.base.specs.Bytes.{Identifier, lookup}
+use Rattle.base.specs.Bytes.{lookup}
 use Rattle.base.specs.Element.{ElementType}
 use Rattle.code.specs.Call.{Call}
 use Rattle.code.specs.declared.instr.Operand.{Operand}
@@ -36,7 +36,6 @@ use Rattle.syntax.specs.Views.{unit_tree}
 use Rattle.semantics.specs.CallStep.{target_element}
 use Rattle.semantics.specs.Task.{Target}
 use Rattle.semantics.specs.Thread.{Shared, Thread}
-use Rattle.code_meaning.specs.Slots.{static_index}
 use Rattle.semantics.specs.Variable.{StaticReference, Empty, Live, Weakly, Cleared, Deleted}
 use Rattle.semantics.specs.World.{World}
 use Rattle.code_meaning.specs.Lowered.{Lowered}
@@ -48,12 +47,12 @@ use Rattle.machine_scenes.specs.Buffers.{Acquired}
 use Rattle.machine_scenes.specs.FieldIds.{FieldAgrees}
 use Rattle.machine_scenes.specs.Given.{field_at, field_there, name_there, operand_at}
 use Rattle.machine_scenes.specs.StoreAgrees.{HeldAgrees}
-use Rattle.machine_scenes.specs.Statics.{References, static_at}
+use Rattle.machine_scenes.specs.Statics.{static_at}
 use Rattle.machine_scenes.proofs.LocalFrames.{frame_ended, full_where}
 use Rattle.semantics.specs.Object.{Object, Reference}
 use Rattle.monitors.specs.Monitors.{monitor_of}
 use Rattle.machine_scenes.proofs.Handles.{class_of_field, class_within}
-use Rattle.machine_answers.specs.Asked.{IsAsked, references_of, scene_of}
+use Rattle.machine_answers.specs.Asked.{HeldStatic, IsAsked, deletes_static, references_of, scene_of}
 use Rattle.machine_answers.specs.Sights.{call_seen, class_object_seen, deleted_seen, held_seen, monitor_seen, object_seen}
 use Rattle.machine_answers.specs.WorkedOut.{array_in}
 use Rattle.machine_answers.proofs.LongTables.{classes_loaded}
@@ -228,19 +227,6 @@ no_kind e (inr f) = absurd (cc)
 
 -- ---- the call
 
--- the static of a name is at this place, where what is held stands for what it holds in the source
-pub record HeldStatic (space : Space) (references : References) (s : Shared) (x : Identifier) (i : ℕ) : Type 0 where
-  pub place : static_index x s.statics ≡ Some i
-  pub reference : StaticReference
-  pub there : lookup x s.statics ≡ Some reference
-  pub agrees : HeldAgrees space (static_at references i) reference
-
--- a function ends the reference of a static
-abbrev pub deletes_static : JniFunction → Bool
-deletes_static DeleteGlobalRef = true
-deletes_static DeleteWeakGlobalRef = true
-deletes_static f = false
-
 -- Store, frames and pending exception of a thread agree with the source's, and each operand gives what the argument at its place is.
 module _ (p : Lowered) (w : World) (store : Store) (pending : Option ℕ) (activation : Activation) (call : Call) (others : Acquired) (k owner : ℕ) (shared : Shared) (s : Thread) (target : Target) (args : List Actual)
     (h : IsAsked p w store pending activation call others k owner shared s target call.function args) where
@@ -381,22 +367,21 @@ module _ (p : Lowered) (w : World) (store : Store) (pending : Option ℕ) (activ
       by_place (Past at_p at_o at_a) = absurd (no_kind at_p (first_kind call.function deletes_one))
 
   -- what is deleted is there
-  module _ (deletes : deletes_static call.function ≡ true → (i : ℕ) → operand_of call.operands 0 ≡ operand.Static i → HeldStatic store.heap (references_of store activation) shared (variable_given args 0) i) where
-    held_alike : deleted_seen scene call.function (operand_of call.operands 0) ≡ source.held_seen shared.statics call.function (variable_given args 0)
-    held_alike = by_function call.function (λ deletes_one. let static = static_given deletes_one in (static.0, static.1, deletes deletes_one static.0 static.1))
-      where
-        Is : JniFunction → Type 0
-        Is f = deletes_static f ≡ true → (i : ℕ) × (operand_of call.operands 0 ≡ operand.Static i) × HeldStatic store.heap (references_of store activation) shared (variable_given args 0) i
+  held_alike : deleted_seen scene call.function (operand_of call.operands 0) ≡ source.held_seen shared.statics call.function (variable_given args 0)
+  held_alike = by_function call.function (λ deletes_one. let static = static_given deletes_one in (static.0, static.1, h.held deletes_one static.0 static.1))
+    where
+      Is : JniFunction → Type 0
+      Is f = deletes_static f ≡ true → (i : ℕ) × (operand_of call.operands 0 ≡ operand.Static i) × HeldStatic store.heap (references_of store activation) shared (variable_given args 0) i
 
-        by_function : (f : JniFunction) → Is f → deleted_seen scene f (operand_of call.operands 0) ≡ source.held_seen shared.statics f (variable_given args 0)
-        by_function DeleteGlobalRef is =
-            let there = is refl in
-            ap (deleted_seen scene DeleteGlobalRef) there.1 ∙ ap (λ (r : StaticReference). Some r) (held_is store.heap (static_at scene.references there.0) there.2.reference there.2.agrees) ∙ sym there.2.there
-        by_function DeleteWeakGlobalRef is =
-            let there = is refl in
-            ap (deleted_seen scene DeleteWeakGlobalRef) there.1 ∙ ap (λ (r : StaticReference). Some r) (held_is store.heap (static_at scene.references there.0) there.2.reference there.2.agrees) ∙ sym there.2.there
-        by_function f is = refl
+      by_function : (f : JniFunction) → Is f → deleted_seen scene f (operand_of call.operands 0) ≡ source.held_seen shared.statics f (variable_given args 0)
+      by_function DeleteGlobalRef is =
+          let there = is refl in
+          ap (deleted_seen scene DeleteGlobalRef) there.1 ∙ ap (λ (r : StaticReference). Some r) (held_is store.heap (static_at scene.references there.0) there.2.reference there.2.agrees) ∙ sym there.2.there
+      by_function DeleteWeakGlobalRef is =
+          let there = is refl in
+          ap (deleted_seen scene DeleteWeakGlobalRef) there.1 ∙ ap (λ (r : StaticReference). Some r) (held_is store.heap (static_at scene.references there.0) there.2.reference there.2.agrees) ∙ sym there.2.there
+      by_function f is = refl
 
-    -- it sees what the source's call sees
-    pub sights_agree : call_seen scene activation.locals (length s.callers) call ≡ source.sight_of_call shared s call.function args
-    sights_agree = others_agree held_alike
+  -- it sees what the source's call sees
+  pub sights_agree : call_seen scene activation.locals (length s.callers) call ≡ source.sight_of_call shared s call.function args
+  sights_agree = others_agree held_alike

@@ -11,7 +11,6 @@ use Rattle.heap.specs.Heap.{name_at}
 use Rattle.jni.specs.JniFunction.{JniFunction, parameters_for, prototype}
 use Rattle.jni.specs.Prototype.{ParameterKind, ClassObject}
 use Rattle.semantics.specs.Arguments.{Actual, reference_given, object_given, name_or_zero}
-use Rattle.semantics.specs.CallStep.{trap_of_call}
 use Rattle.semantics.specs.AnswerTable.{call_answer}
 use Rattle.semantics.specs.CallSight.{sight_of_call}
 use Rattle.semantics.specs.Heap.{class_of, object_at}
@@ -35,8 +34,9 @@ use Rattle.machine_scenes.specs.Statics.{References}
 use Rattle.machine_answers.specs.Checked.{some_misfit, some_missing, may_be_null}
 use Rattle.machine_scenes.specs.Given.{operand_at, operand_of, class_there}
 use Rattle.machine_scenes.specs.HeapAgrees.{ReferenceAgrees}
-use Rattle.machine_answers.specs.Sights.{name_seen}
-use Rattle.machine_answers.specs.WorkedOut.{class_object, IsWorkedOut}
+use Rattle.machine_answers.specs.Sights.{name_seen, trap_seen}
+use Rattle.machine_answers.specs.WorkedOut.{class_object}
+use Rattle.machine_answers.proofs.WorkedOut.{IsWorkedOut}
 use Rattle.machine_answers.proofs.CallChecks.{class_is, reference_at_place}
 use Rattle.machine_scenes.proofs.Handles.{class_known}
 use Rattle.machine_scenes.proofs.BlocksOfNames.{Named, named}
@@ -87,6 +87,10 @@ module _ (both : TwoCalls) where
   abbrev pub Asked : JniFunction → Type 0
   Asked f = IsAsked p w store pending activation call others k owner shared s target f args
 
+  -- no check stops the call, but perhaps that of how deep calls are
+  abbrev pub Passes : Type 0
+  Passes = trap_seen (scene_of unit w.classes store activation k pending) activation.locals call ≡ None
+
   -- what is worked out for it
   abbrev pub Works : JniFunction → Answer → Type 0
   Works f answer = IsWorkedOut (scene_of unit w.classes store activation k pending) call f answer
@@ -124,7 +128,7 @@ module _ (both : TwoCalls) where
 
   -- the object of argument i
   pub object_given_at : (f : JniFunction) (before : List ParameterKind) (q : ParameterKind) (after : List ParameterKind) → IsReferenceKind q → may_be_null q ≡ false → parameters_for f (length args) ≡ before ++ q ∷ after → Asked f
-      → trap_of_call w.classes shared s target f args ≡ None → GivenObject unit w.classes store.heap references fields call.operands args (length before)
+      → Passes → GivenObject unit w.classes store.heap references fields call.operands args (length before)
   object_given_at f before q after kind never are h free =
       object_at_place unit w.classes store.heap references fields before q after kind never call.operands args (subst (λ (l : List ParameterKind). AllZip OperandFits l call.operands) are h.kinds) h.given
       (none_deleted p w store pending activation call others k owner shared s target f args h free)
@@ -134,7 +138,7 @@ module _ (both : TwoCalls) where
   object_there g = g.named ∙ ap (λ (q : Reference). Some (name_or_zero q)) (sym g.is)
 
   -- the class that argument i is
-  pub class_given : (f : JniFunction) (before after : List ParameterKind) → parameters_for f (length args) ≡ before ++ ClassObject ∷ after → Asked f → trap_of_call w.classes shared s target f args ≡ None
+  pub class_given : (f : JniFunction) (before after : List ParameterKind) → parameters_for f (length args) ≡ before ++ ClassObject ∷ after → Asked f → Passes
       → let n = name_or_zero (name_seen store.heap (at (length before))) in (0 < n) × (n ≤ length w.classes)
   class_given f before after are h free =
       let given = object_given_at f before ClassObject after tt refl are h free in

@@ -1,36 +1,43 @@
 -- A call of a function with the arguments that the source's call has.
-use Rattle.std.specs.Prelude.{◌≡◌, ◌≢◌, ℕ, false, true, List, [], length, Option, Some}
+use Rattle.std.specs.Prelude.{◌≡◌, ◌≢◌, ℕ, Bool, false, true, List, [], length, Option, Some, None}
 use Rattle.std.specs.List.{AllZip}
-use Rattle.base.specs.Bytes.{lookup}
+use Rattle.base.specs.Bytes.{Identifier, lookup}
 use Rattle.syntax.specs.Tree.{SourceUnit}
 use Rattle.syntax.specs.Views.{unit_tree}
 use Rattle.class_rules.specs.Class.{Classes}
 use Rattle.class_rules.specs.Grown.{HasMethodError}
 use Rattle.code.specs.Call.{Call}
+use Rattle.code.specs.declared.instr.Operand.TheVariants as operand
+use Rattle.heap.specs.Heap.{Space}
 use Rattle.jni.specs.Access.{Access}
-use Rattle.jni.specs.JniFunction.{JniFunction, GetStaticMethodID, ReleaseBuffer, parameters_for}
+use Rattle.jni.specs.JniFunction.{JniFunction, DeleteGlobalRef, DeleteLocalRef, DeleteWeakGlobalRef, GetStaticMethodID, ReleaseBuffer, parameters_for}
 use Rattle.region_rules.specs.RegionRules.{is_critical_call}
-use Rattle.semantics.specs.Arguments.{Actual, object_given, variable_given}
+use Rattle.semantics.specs.Arguments.{Actual, object_given, reference_given, variable_given}
+use Rattle.semantics.specs.CallEffects.{level_of}
 use Rattle.semantics.specs.CallStep.{target_element, waits_with}
 use Rattle.semantics.specs.Effect.{Calls}
+use Rattle.semantics.specs.Object.{Reference}
 use Rattle.semantics.specs.Task.{Target}
 use Rattle.semantics.specs.Thread.{BuffersInUse, Shared, Thread, objects_viewed}
+use Rattle.semantics.specs.Variable.{StaticReference}
 use Rattle.semantics.specs.World.{World}
 use Rattle.semantics_safety.specs.StepSafe.{came_from}
 use Rattle.semantics_typing.specs.Objects.{AreTypedObjects, AreTypedVariables}
 use Rattle.code_meaning.specs.Does.{OperandFits, ActualFits, words_given, texts_given}
 use Rattle.code_meaning.specs.Lowered.{Lowered}
+use Rattle.code_meaning.specs.Slots.{static_index}
 use Rattle.machine_scenes.specs.declared.store.Store.{Store}
 use Rattle.machine_scenes.specs.declared.activation.Activation.{Activation}
 use Rattle.machine_scenes.specs.Buffers.{Acquired, HeldBuffers, acquired_by, beside, holding}
 use Rattle.machine_answers.specs.Sights.{element_wanted}
-use Rattle.machine_scenes.specs.StoreAgrees.{StoreAgrees}
-use Rattle.machine_scenes.specs.Locals.{FramesAgree}
-use Rattle.machine_scenes.specs.Given.{HasArray, HasBuffer, IsGiven}
+use Rattle.machine_scenes.specs.StoreAgrees.{HeldAgrees, StoreAgrees}
+use Rattle.machine_scenes.specs.Locals.{FramesAgree, IsKeyOf}
+use Rattle.machine_scenes.specs.Given.{HasArray, HasBuffer, IsGiven, key_at, operand_of}
 use Rattle.machine_scenes.specs.HeapAgrees.{ReferenceAgrees}
 use Rattle.machine_answers.specs.Answers.{Brought, bringing}
 use Rattle.machine_scenes.specs.Scenes.{Scene}
-use Rattle.machine_scenes.specs.Statics.{References, all_held}
+use Rattle.machine_scenes.specs.Statics.{References, all_held, static_at}
+use Rattle.tables.specs.Locals.{LocalTable}
 
 -- the references that the operands of a call name
 abbrev pub references_of : Store → Activation → References
@@ -67,9 +74,29 @@ abbrev pub brought_by : SourceUnit → Store → Activation → (k owner : ℕ) 
 brought_by unit store activation k owner in_use call args =
     bringing unit call.texts call.operands activation.slots.numbers.items (buffers_of store activation owner) k in_use args
 
+-- NULL for NULL, or a key of the object of a name, in a frame of this level
+abbrev pub IsKeyGiven : Space → LocalTable → (key : Option ℕ) → Reference → (level : ℕ) → Type 0
+IsKeyGiven space locals None None level = Unit {0}
+IsKeyGiven space locals (Some key) (Some n) level = IsKeyOf space locals key n level
+IsKeyGiven space locals key r level = ⊥
+
+-- a function ends the reference of a static
+abbrev pub deletes_static : JniFunction → Bool
+deletes_static DeleteGlobalRef = true
+deletes_static DeleteWeakGlobalRef = true
+deletes_static f = false
+
+-- the static of a name is at this place, where what is held stands for what it holds in the source
+pub record HeldStatic (space : Space) (references : References) (s : Shared) (x : Identifier) (i : ℕ) : Type 0 where
+  pub place : static_index x s.statics ≡ Some i
+  pub reference : StaticReference
+  pub there : lookup x s.statics ≡ Some reference
+  pub agrees : HeldAgrees space (static_at references i) reference
+
 -- Store, frames and pending exception of thread k agree with the source's, and each operand gives what the argument at its place is, and
--- the target wants what the source's does. Objects and variables are typed. While the thread has a view, the function is critical, and a
--- release names the object that its buffer came from. A method is asked for only where its exception is there. The thread doesn't wait for a monitor.
+-- the target wants what the source's does. A local reference that is deleted is the variable's own, and a static whose reference is deleted
+-- holds what the source's does. Objects and variables are typed. While the thread has a view, the function is critical, and a release
+-- names the object that its buffer came from. A method is asked for only where its exception is there. The thread doesn't wait for a monitor.
 pub record IsAsked (p : Lowered) (w : World) (store : Store) (pending : Option ℕ) (activation : Activation) (call : Call)
     (others : Acquired) (k owner : ℕ) (shared : Shared) (s : Thread) (target : Target) (f : JniFunction)
     (args : List Actual) : Type 0 where
@@ -83,6 +110,10 @@ pub record IsAsked (p : Lowered) (w : World) (store : Store) (pending : Option �
   pub given : AllZip (IsGiven (unit_tree p.unit) w.classes store.heap (references_of store activation) activation.slots.fields.items) call.operands args
   pub arrays : AllZip (HasArray activation.slots.numbers.items s.variables) call.operands args
   pub buffers : AllZip (HasBuffer store.heap (buffers_of store activation owner) s.variables) call.operands args
+  pub key : f ≡ DeleteLocalRef → IsKeyGiven store.heap activation.locals (key_at (references_of store activation) (operand_of call.operands 0))
+      (reference_given args 0) (level_of (lookup (variable_given args 0) s.variables))
+  pub held : deletes_static f ≡ true → (i : ℕ) → operand_of call.operands 0 ≡ operand.Static i
+      → HeldStatic store.heap (references_of store activation) shared (variable_given args 0) i
   pub wanted : element_wanted call.target ≡ target_element s.variables target
   pub typed : AreTypedObjects w.classes shared.heap
   pub typed_variables : AreTypedVariables w.classes shared.heap s.variables

@@ -6,4 +6,5 @@ pub mod BufferChanges
 pub mod Answers
 pub mod Passed
 pub mod Sights
+pub mod Answered
 pub mod AtOnce

@@ -10,12 +10,13 @@ ghost use Rattle.code.specs.Effect.{element_word, truth_word};
 ghost use Rattle.code_meaning.specs.Coding.{element_of};
 ghost use Rattle.heap.specs.Heap.{IsAddress};
 ghost use Rattle.jni.specs.Table.{function_value};
+ghost use Rattle.machine_answers.specs.Answered.{IsAnswerTo};
 ghost use Rattle.machine_answers.specs.Checked.{arguments_fit};
 ghost use Rattle.machine_answers.specs.Sights.{element_wanted};
 ghost use Rattle.machine_scenes.specs.Given.{field_there, name_there, AreAddresses, AreHandles, FieldIsThere, ReferenceIsThere};
 ghost use Rattle.machine_scenes.specs.Scenes.{scene_view};
 ghost use Rattle.jni.specs.Subjects.{subject_of};
-ghost use Rattle.machine_answers.specs.WorkedOut.{address_in, class_object, count_there, declaring, deletes, deletes_global, deletes_weak, field, found_class, frame_for, handle, held_reference, place, place_of_static, place_there, reference, room_for, top_word, value_there, word_in, writes_there, IsFoundField, IsFoundMethod, IsWorkedOut};
+ghost use Rattle.machine_answers.specs.WorkedOut.{address_in, class_object, count_there, declaring, deletes, deletes_global, deletes_weak, field, found_class, frame_for, handle, held_reference, place, place_of_static, place_there, reference, room_for, top_word, value_there, word_in, writes_there, IsFoundField, IsFoundMethod};
 ghost use Rattle.semantics.specs.Method.{find_method};
 ghost use Rattle.syntax.specs.Parts.{functions_of};
 ghost use Rattle.syntax.specs.Tree.{Function, FunctionItem};
@@ -143,7 +144,7 @@ pub fn work_out(scene: &Scene<'_>, call: &Call) -> Answer
     requires handles { AreHandles scene.now.classes.now scene.now.fields.now call.now.operands.items }
     requires passed { arguments_fit (scene_view scene.now) call.now.operands.items
         (element_wanted call.now.target) (function_value call.now.function) ≡ true }
-    ensures { IsWorkedOut (scene_view scene.now) (call_view call.now) (function_value call.now.function) result }
+    ensures { IsAnswerTo (scene_view scene.now) (call_view call.now) result }
 {
     match call.function.subject() {
         Subject::Classes => work_out_class(scene, call),
@@ -160,10 +161,11 @@ pub fn work_out(scene: &Scene<'_>, call: &Call) -> Answer
 
 /// What a function does that works on classes.
 #[inline(always)]
+#[tactic(auto, using(crate::proofs::CallAnswers::answers))]
 fn work_out_class(scene: &Scene<'_>, call: &Call) -> Answer
     requires subject { subject_of (function_value call.now.function) ≡ subject.Classes }
     requires objects { AreAddresses scene.now.heap.now scene.now.references call.now.operands.items }
-    ensures { IsWorkedOut (scene_view scene.now) (call_view call.now) (function_value call.now.function) result }
+    ensures { IsAnswerTo (scene_view scene.now) (call_view call.now) result }
 {
     match call.function {
         JniFunction::FindClass => {
@@ -209,10 +211,11 @@ fn work_out_class(scene: &Scene<'_>, call: &Call) -> Answer
 
 /// What a function does that works on references and frames.
 #[inline(always)]
+#[tactic(auto, using(crate::proofs::CallAnswers::answers))]
 fn work_out_reference(scene: &Scene<'_>, call: &Call) -> Answer
     requires subject { subject_of (function_value call.now.function) ≡ subject.References }
     requires objects { AreAddresses scene.now.heap.now scene.now.references call.now.operands.items }
-    ensures { IsWorkedOut (scene_view scene.now) (call_view call.now) (function_value call.now.function) result }
+    ensures { IsAnswerTo (scene_view scene.now) (call_view call.now) result }
 {
     match call.function {
         JniFunction::NewLocalRef => Answer::Gives(Given::Reference(argument(scene, call, 0))),
@@ -241,7 +244,7 @@ fn work_out_reference(scene: &Scene<'_>, call: &Call) -> Answer
 
 /// What a function does that works on the fields of an object.
 #[inline(always)]
-#[tactic(auto, using(crate::proofs::FieldKinds::no_static))]
+#[tactic(auto, using(crate::proofs::FieldKinds::no_static, crate::proofs::CallAnswers::answers))]
 fn work_out_field(scene: &Scene<'_>, call: &Call) -> Answer
     requires subject { subject_of (function_value call.now.function) ≡ subject.Fields }
     requires grown { IsGrown scene.now.classes.now }
@@ -249,7 +252,7 @@ fn work_out_field(scene: &Scene<'_>, call: &Call) -> Answer
     requires handles { AreHandles scene.now.classes.now scene.now.fields.now call.now.operands.items }
     requires passed { arguments_fit (scene_view scene.now) call.now.operands.items
         (element_wanted call.now.target) (function_value call.now.function) ≡ true }
-    ensures { IsWorkedOut (scene_view scene.now) (call_view call.now) (function_value call.now.function) result }
+    ensures { IsAnswerTo (scene_view scene.now) (call_view call.now) result }
 {
     match call.function {
         JniFunction::GetField(_) => {
@@ -274,7 +277,7 @@ fn work_out_field(scene: &Scene<'_>, call: &Call) -> Answer
 
 /// What a function does that works on a static of a class.
 #[inline(always)]
-#[tactic(auto, using(crate::proofs::FieldKinds::a_static))]
+#[tactic(auto, using(crate::proofs::FieldKinds::a_static, crate::proofs::CallAnswers::answers))]
 fn work_out_static(scene: &Scene<'_>, call: &Call) -> Answer
     requires subject { subject_of (function_value call.now.function) ≡ subject.Statics }
     requires loaded { (i a : ℕ) → slice_get scene.now.loaded.now i ≡ Some a → IsAddress scene.now.heap.now a }
@@ -282,7 +285,7 @@ fn work_out_static(scene: &Scene<'_>, call: &Call) -> Answer
     requires handles { AreHandles scene.now.classes.now scene.now.fields.now call.now.operands.items }
     requires passed { arguments_fit (scene_view scene.now) call.now.operands.items
         (element_wanted call.now.target) (function_value call.now.function) ≡ true }
-    ensures { IsWorkedOut (scene_view scene.now) (call_view call.now) (function_value call.now.function) result }
+    ensures { IsAnswerTo (scene_view scene.now) (call_view call.now) result }
 {
     match call.function {
         JniFunction::GetStaticField(_) => {

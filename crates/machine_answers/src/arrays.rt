@@ -7,7 +7,8 @@ ghost use Rattle.jni.specs.Table.{function_value};
 ghost use Rattle.machine_scenes.specs.Given.{AreAddresses, ReferenceIsThere};
 ghost use Rattle.machine_scenes.specs.Scenes.{scene_view};
 ghost use Rattle.jni.specs.Subjects.{subject_of};
-ghost use Rattle.machine_answers.specs.WorkedOut.{element_there, fits_element, index_there, new_array, stack_number, stores_there, IsWorkedOut};
+ghost use Rattle.machine_answers.specs.Answered.{IsAnswerTo};
+ghost use Rattle.machine_answers.specs.WorkedOut.{element_there, fits_element, index_there, new_array, stack_number, stores_there};
 ghost use Rattle.jni.specs.declared.subject.Subject.TheVariants as subject;
 
 use crate::answer::{
@@ -30,10 +31,11 @@ use machine_scenes::scene::Scene;
 
 /// What a function does that works on arrays or strings.
 #[inline(always)]
+#[tactic(auto, using(crate::proofs::CallAnswers::answers))]
 pub(crate) fn work_out_array(scene: &Scene<'_>, call: &Call) -> Answer
     requires subject { subject_of (function_value call.now.function) ≡ subject.Arrays }
     requires objects { AreAddresses scene.now.heap.now scene.now.references call.now.operands.items }
-    ensures { IsWorkedOut (scene_view scene.now) (call_view call.now) (function_value call.now.function) result }
+    ensures { IsAnswerTo (scene_view scene.now) (call_view call.now) result }
 {
     match call.function {
         JniFunction::GetArrayLength | JniFunction::GetStringLength => {

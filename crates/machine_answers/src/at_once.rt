@@ -12,10 +12,11 @@ ghost use Rattle.class_queries.specs.Kinds.{class_misfits};
 ghost use Rattle.heap.specs.Heap.{values_at, IsAddress};
 ghost use Rattle.jni.specs.Prototype.{ClassObject, MethodID, ObjectArray};
 ghost use Rattle.jni.specs.Table.{function_value};
+ghost use Rattle.machine_answers.specs.Answered.{IsAnswerTo};
 ghost use Rattle.machine_answers.specs.AtOnce.{field_in_spot};
 ghost use Rattle.machine_answers.specs.Checked.{called, calls_well, function_in, misfits, returns, takes, takes_all, some_misfit, some_missing, trap_found};
 ghost use Rattle.machine_answers.specs.Sights.{element_wanted, gives_deleted};
-ghost use Rattle.machine_answers.specs.WorkedOut.{declaring, element_there, field, index_there, place_of_static, place_there, stack_number, value_there, IsWorkedOut};
+ghost use Rattle.machine_answers.specs.WorkedOut.{declaring, element_there, field, index_there, place_of_static, place_there, stack_number, value_there};
 ghost use Rattle.machine_scenes.specs.Given.{class_there, field_at, field_there, method_at, operand_at, operand_of, AreAddresses, AreHandles, FieldIsThere, ReferenceIsThere};
 ghost use Rattle.machine_scenes.specs.Locals.{locals_after};
 ghost use Rattle.machine_scenes.specs.Scenes.{scene_view};
@@ -175,6 +176,7 @@ fn gives_class_and_field(scene: &Scene<'_>, slot: u32, id: u32) -> bool
 
 /// The number that a call gives.
 #[inline(always)]
+#[tactic(auto, using(crate::proofs::CallAnswers::answers))]
 pub fn number_at_once(scene: &Scene<'_>, call: &Call) -> Option<u32>
     requires grown { IsGrown scene.now.classes.now }
     requires loaded { (i a : ℕ) → slice_get scene.now.loaded.now i ≡ Some a → IsAddress scene.now.heap.now a }
@@ -182,8 +184,7 @@ pub fn number_at_once(scene: &Scene<'_>, call: &Call) -> Option<u32>
     requires handles { AreHandles scene.now.classes.now scene.now.fields.now call.now.operands.items }
     ensures free { IfSome result (λ word. (room : Bool) → trap_found (scene_view scene.now) room
         (element_wanted call.now.target) (function_value call.now.function) call.now.operands.items ≡ None) }
-    ensures works { IfSome result (λ word. IsWorkedOut (scene_view scene.now) (call_view call.now)
-        (function_value call.now.function) (Gives (Number word))) }
+    ensures works { IfSome result (λ word. IsAnswerTo (scene_view scene.now) (call_view call.now) (Gives (Number word))) }
 {
     let operands: &[Operand] = &call.operands;
     match call.function {
@@ -255,6 +256,7 @@ pub fn number_at_once(scene: &Scene<'_>, call: &Call) -> Option<u32>
 
 /// The reference that a call gives, for which there is room.
 #[inline(always)]
+#[tactic(auto, using(crate::proofs::CallAnswers::answers))]
 pub fn reference_at_once(scene: &Scene<'_>, locals: &Locals, call: &Call) -> Option<Option<Addr>>
     requires grown { IsGrown scene.now.classes.now }
     requires loaded { (i a : ℕ) → slice_get scene.now.loaded.now i ≡ Some a → IsAddress scene.now.heap.now a }
@@ -263,8 +265,7 @@ pub fn reference_at_once(scene: &Scene<'_>, locals: &Locals, call: &Call) -> Opt
     ensures free { IfSome result (λ reference. trap_found (scene_view scene.now)
         (has_room (locals_after (function_value call.now.function) locals.now))
         (element_wanted call.now.target) (function_value call.now.function) call.now.operands.items ≡ None) }
-    ensures works { IfSome result (λ reference. IsWorkedOut (scene_view scene.now) (call_view call.now)
-        (function_value call.now.function) (Gives (Reference reference))) }
+    ensures works { IfSome result (λ reference. IsAnswerTo (scene_view scene.now) (call_view call.now) (Gives (Reference reference))) }
 {
     if scene.pending.is_some() || !locals.has_room() {
         return None;
@@ -341,6 +342,7 @@ fn element_at_once(scene: &Scene<'_>, array: Addr) -> Option<Option<Addr>>
 
 /// The change that a call makes.
 #[inline(always)]
+#[tactic(auto, using(crate::proofs::CallAnswers::answers))]
 pub fn write_at_once(scene: &Scene<'_>, call: &Call) -> Option<Write>
     requires grown { IsGrown scene.now.classes.now }
     requires loaded { (i a : ℕ) → slice_get scene.now.loaded.now i ≡ Some a → IsAddress scene.now.heap.now a }
@@ -348,8 +350,7 @@ pub fn write_at_once(scene: &Scene<'_>, call: &Call) -> Option<Write>
     requires handles { AreHandles scene.now.classes.now scene.now.fields.now call.now.operands.items }
     ensures free { IfSome result (λ write. (room : Bool) → trap_found (scene_view scene.now) room
         (element_wanted call.now.target) (function_value call.now.function) call.now.operands.items ≡ None) }
-    ensures works { IfSome result (λ write. IsWorkedOut (scene_view scene.now) (call_view call.now)
-        (function_value call.now.function) (Writes write.object write.place write.value)) }
+    ensures works { IfSome result (λ write. IsAnswerTo (scene_view scene.now) (call_view call.now) (Writes write.object write.place write.value)) }
 {
     let operands: &[Operand] = &call.operands;
     if scene.pending.is_some() {
@@ -456,11 +457,11 @@ fn write_to_static(scene: &Scene<'_>, call: &Call, value: Value) -> Option<Write
 
 /// The key of the local reference that a call ends.
 #[inline(always)]
+#[tactic(auto, using(crate::proofs::CallAnswers::answers))]
 pub fn deleted_at_once(scene: &Scene<'_>, call: &Call) -> Option<Local>
     ensures free { IfSome result (λ key. (room : Bool) → trap_found (scene_view scene.now) room
         (element_wanted call.now.target) (function_value call.now.function) call.now.operands.items ≡ None) }
-    ensures works { IfSome result (λ key. IsWorkedOut (scene_view scene.now) (call_view call.now)
-        (function_value call.now.function) (Deletes key)) }
+    ensures works { IfSome result (λ key. IsAnswerTo (scene_view scene.now) (call_view call.now) (Deletes key)) }
 {
     let operands: &[Operand] = &call.operands;
     match call.function {
@@ -474,13 +475,13 @@ pub fn deleted_at_once(scene: &Scene<'_>, call: &Call) -> Option<Local>
 
 /// The method that a call calls, where no check but that of how deep calls are stops it.
 #[inline(always)]
+#[tactic(auto, using(crate::proofs::CallAnswers::answers))]
 pub fn method_at_once(scene: &Scene<'_>, locals: &Locals, call: &Call) -> Option<MethodHandle>
     requires objects { AreAddresses scene.now.heap.now scene.now.references call.now.operands.items }
     ensures free { IfSome result (λ method. trap_found (scene_view scene.now)
         (has_room (locals_after (function_value call.now.function) locals.now))
         (element_wanted call.now.target) (function_value call.now.function) call.now.operands.items ≡ None) }
-    ensures works { IfSome result (λ method. IsWorkedOut (scene_view scene.now) (call_view call.now)
-        (function_value call.now.function) Calls) }
+    ensures works { IfSome result (λ method. IsAnswerTo (scene_view scene.now) (call_view call.now) Calls) }
     ensures method { IfSome result (λ method. method_at scene.now.fields.now (operand_of call.now.operands.items 1) ≡ Some method) }
 {
     if scene.pending.is_some() {

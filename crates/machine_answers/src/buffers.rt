@@ -5,13 +5,14 @@ ghost use Rattle.std.specs.Int.{w32, cast_signed};
 ghost use Rattle.code.specs.Call.{call_view};
 ghost use Rattle.heap.specs.Heap.{pins_at, IsAddress};
 ghost use Rattle.jni.specs.Table.{access_value, function_value};
+ghost use Rattle.machine_answers.specs.Answered.{IsAnswerTo};
 ghost use Rattle.machine_answers.specs.BufferChanges.{CanCopyBack, CanGiveUp, GivesUp, MakesCopy, MakesView, MayGiveUp, copied_back, space_back};
 ghost use Rattle.machine_scenes.specs.Buffers.{copies_back, gives_up};
 ghost use Rattle.machine_answers.specs.Copies.{words_at};
 ghost use Rattle.machine_scenes.specs.Given.{operand_of, AreAddresses};
 ghost use Rattle.machine_scenes.specs.Scenes.{scene_view};
 ghost use Rattle.jni.specs.Subjects.{subject_of};
-ghost use Rattle.machine_answers.specs.WorkedOut.{acquires, buffer_there, mode_of, releases, slot_of, IsWorkedOut};
+ghost use Rattle.machine_answers.specs.WorkedOut.{acquires, buffer_there, mode_of, releases, slot_of};
 ghost use Rattle.jni.specs.declared.subject.Subject.TheVariants as subject;
 
 use crate::answer::{Answer, Given, argument};
@@ -30,10 +31,11 @@ use tables::Elements;
 /// "Release<PrimitiveType>ArrayElements Routines", "GetPrimitiveArrayCritical, ReleasePrimitiveArrayCritical",
 /// "GetStringChars", "ReleaseStringChars" and "GetStringCritical, ReleaseStringCritical").
 #[inline(always)]
+#[tactic(auto, using(crate::proofs::CallAnswers::answers))]
 pub(crate) fn work_out_buffer(scene: &Scene<'_>, call: &Call) -> Answer
     requires subject { subject_of (function_value call.now.function) ≡ subject.Buffers }
     requires objects { AreAddresses scene.now.heap.now scene.now.references call.now.operands.items }
-    ensures { IsWorkedOut (scene_view scene.now) (call_view call.now) (function_value call.now.function) result }
+    ensures { IsAnswerTo (scene_view scene.now) (call_view call.now) result }
 {
     let object = argument(scene, call, 0);
     match call.function {

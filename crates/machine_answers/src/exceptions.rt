@@ -3,10 +3,10 @@
 ghost use Rattle.std.specs.Prelude.{◌≡◌};
 ghost use Rattle.code.specs.Call.{call_view};
 ghost use Rattle.jni.specs.Table.{function_value};
+ghost use Rattle.machine_answers.specs.Answered.{IsAnswerTo};
 ghost use Rattle.machine_scenes.specs.Given.{AreAddresses};
 ghost use Rattle.machine_scenes.specs.Scenes.{scene_view};
 ghost use Rattle.jni.specs.Subjects.{subject_of};
-ghost use Rattle.machine_answers.specs.WorkedOut.{IsWorkedOut};
 ghost use Rattle.jni.specs.declared.subject.Subject.TheVariants as subject;
 
 use crate::answer::{Answer, Given, argument, class_given, gives_truth};
@@ -17,10 +17,11 @@ use semantics::Trap;
 
 /// What a function does that works on the pending exception.
 #[inline(always)]
+#[tactic(auto, using(crate::proofs::CallAnswers::answers))]
 pub(crate) fn work_out_exception(scene: &Scene<'_>, call: &Call) -> Answer
     requires subject { subject_of (function_value call.now.function) ≡ subject.Exceptions }
     requires objects { AreAddresses scene.now.heap.now scene.now.references call.now.operands.items }
-    ensures { IsWorkedOut (scene_view scene.now) (call_view call.now) (function_value call.now.function) result }
+    ensures { IsAnswerTo (scene_view scene.now) (call_view call.now) result }
 {
     match call.function {
         JniFunction::Throw => {

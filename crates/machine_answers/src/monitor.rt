@@ -6,7 +6,8 @@ ghost use Rattle.jni.specs.Table.{function_value};
 ghost use Rattle.machine_scenes.specs.Given.{AreAddresses};
 ghost use Rattle.machine_scenes.specs.Scenes.{scene_view};
 ghost use Rattle.jni.specs.Subjects.{subject_of};
-ghost use Rattle.machine_answers.specs.WorkedOut.{entered_by, left_by, IsWorkedOut};
+ghost use Rattle.machine_answers.specs.Answered.{IsAnswerTo};
+ghost use Rattle.machine_answers.specs.WorkedOut.{entered_by, left_by};
 ghost use Rattle.jni.specs.declared.subject.Subject.TheVariants as subject;
 
 use crate::answer::{Answer, Given, argument};
@@ -18,10 +19,11 @@ use monitors::{Enter, Exit, Object};
 
 /// What a function does that works on monitors.
 #[inline(always)]
+#[tactic(auto, using(crate::proofs::CallAnswers::answers))]
 pub(crate) fn work_out_monitor(scene: &Scene<'_>, call: &Call) -> Answer
     requires subject { subject_of (function_value call.now.function) ≡ subject.Monitors }
     requires objects { AreAddresses scene.now.heap.now scene.now.references call.now.operands.items }
-    ensures { IsWorkedOut (scene_view scene.now) (call_view call.now) (function_value call.now.function) result }
+    ensures { IsAnswerTo (scene_view scene.now) (call_view call.now) result }
 {
     let Some(address) = argument(scene, call, 0) else {
         return Answer::Gives(Given::Nothing);

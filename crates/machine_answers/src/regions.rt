@@ -7,7 +7,8 @@ ghost use Rattle.jni.specs.Table.{function_value};
 ghost use Rattle.machine_scenes.specs.Given.{operand_of, AreAddresses, ReferenceIsThere};
 ghost use Rattle.machine_scenes.specs.Scenes.{scene_view};
 ghost use Rattle.jni.specs.Subjects.{subject_of};
-ghost use Rattle.machine_answers.specs.WorkedOut.{array_in, copies_in, copies_out, next_number, region, region_in, IsWorkedOut};
+ghost use Rattle.machine_answers.specs.Answered.{IsAnswerTo};
+ghost use Rattle.machine_answers.specs.WorkedOut.{array_in, copies_in, copies_out, next_number, region, region_in};
 ghost use Rattle.jni.specs.declared.subject.Subject.TheVariants as subject;
 
 use crate::answer::{Answer, argument};
@@ -28,10 +29,11 @@ use semantics::Trap;
 /// What a function does that works on a region (JNI Specification, chapter 4, "Get<PrimitiveType>ArrayRegion Routines",
 /// "Set<PrimitiveType>ArrayRegion Routines" and "GetStringRegion").
 #[inline(always)]
+#[tactic(auto, using(crate::proofs::CallAnswers::answers))]
 pub(crate) fn work_out_region(scene: &Scene<'_>, call: &Call) -> Answer
     requires subject { subject_of (function_value call.now.function) ≡ subject.Regions }
     requires objects { AreAddresses scene.now.heap.now scene.now.references call.now.operands.items }
-    ensures { IsWorkedOut (scene_view scene.now) (call_view call.now) (function_value call.now.function) result }
+    ensures { IsAnswerTo (scene_view scene.now) (call_view call.now) result }
 {
     let array = array_in(operand_of(&call.operands, 3));
     let region = region_asked(scene, call, array);

@@ -1,7 +1,7 @@
 -- What a call answers is what its effect is.
 use Rattle.std.proofs.Common.{◌≡◌, ◌+◌, ℕ, Bool, true, false, List, length, None, refl, sym, ap, ◌∙◌, subst, Option}
 use Rattle.std.specs.Prelude.{◌&&◌, nat_le}
-use Rattle.jni.specs.JniFunction.{JniFunction, CallStaticVoidMethod, CallStaticIntMethod, CallStaticObjectMethod, calls_method, prototype}
+use Rattle.jni.specs.JniFunction.{JniFunction, calls_method, prototype}
 use Rattle.jni.specs.Prototype.{ResultKind}
 use Rattle.jni.specs.Table.{function_value}
 use Rattle.syntax.specs.Views.{unit_tree}
@@ -26,19 +26,19 @@ use Rattle.machine_scenes.specs.declared.store.Store.{Store}
 use Rattle.machine_scenes.specs.declared.activation.Activation.{Activation}
 use Rattle.machine_answers.specs.Answers.{Brought, IsAnswer, effect_told, is_carried}
 use Rattle.machine_answers.proofs.TrapsSeen.{with_depth}
-use Rattle.machine_answers.specs.Asked.{brought_by, scene_of}
+use Rattle.machine_answers.specs.Asked.{brought_by}
 use Rattle.machine_calls.specs.CarriedOut.{IsPossible}
 use Rattle.machine_calls.specs.Made.{cells_of}
 use Rattle.machine_scenes.specs.NewObjects.{texts_in}
-use Rattle.machine_answers.specs.WorkedOut.{IsWorkedOut}
 use Rattle.semantics_safety.specs.Owners.{Owners}
 use Rattle.machine_steps.specs.Executes.{cells_made, in_use_with}
 use Rattle.machine_scenes.specs.Buffers.{Acquired}
 use Rattle.machine_steps.specs.Invoked.{AtCall, IsAnswered, is_halt}
-use Rattle.machine_answers.proofs.CallAnswers.{answers}
+use Rattle.machine_answers.proofs.CallAnswers.{answered as stands_so, called as calls_so}
+use Rattle.machine_answers.proofs.TwoCalls.{TwoCalls}
 use Rattle.machine_calls.proofs.AnswerCases.{halted as halted_so}
 use Rattle.machine_calls.proofs.CellsMade.{cells_made as cells_answered}
-use Rattle.machine_steps.proofs.AskedCalls.{CalledAs, called, effect_is, cells_wanted, r, held, possible, owned_key, trap_is}
+use Rattle.machine_steps.proofs.AskedCalls.{CalledAs, called, effect_is, cells_wanted, r, possible, trap_is, two_calls}
 
 -- a method isn't called
 abbrev pub IsNoCall : Answer → Type 0
@@ -56,13 +56,6 @@ calls_one (answer.Halts trap) runs other = absurd (let clash : true ≡ false = 
 calls_one answer.Calls runs other = refl
 calls_one a runs other = absurd (let clash : true ≡ false = other in cc)
 
--- a function that calls a method does so
-works_method : (p : Lowered) (w : World) (store : Store) (pending : Option ℕ) (call : Activation) (k : ℕ) (function : Call) (f : JniFunction) (a : Answer) → calls_method f ≡ true → IsWorkedOut (scene_of (unit_tree p.unit) w.classes store call k pending) (call_view function) f a → a ≡ answer.Calls
-works_method p w store pending call k function CallStaticVoidMethod a calls is = is
-works_method p w store pending call k function CallStaticIntMethod a calls is = is
-works_method p w store pending call k function CallStaticObjectMethod a calls is = is
-works_method p w store pending call k function f a calls is = absurd (cc)
-
 -- the machine is at a call that no check stops
 module _ (p : Lowered) (w : World) (store : Store) (pending : Option ℕ) (call : Activation) (function : Call) (others : Acquired) (k owner : ℕ) (own : Owners) (shared : Shared) (s : Thread) (task : Task) (rest : List Task) (h : AtCall p w store pending call function others k owner own shared s task rest) (answer : Answer) (given : IsAnswered p w store pending call k function answer) (own_answer : IsNoCall answer) where
   abbrev pub it : CalledAs p w store pending call h.code (call_view function) others k owner own shared s task rest (r p w store pending call function others k owner own shared s task rest h) (effect_of (sight_of shared s) task)
@@ -75,8 +68,8 @@ module _ (p : Lowered) (w : World) (store : Store) (pending : Option ℕ) (call 
   abbrev pub brings : Brought
   brings = brought_by (unit_tree p.unit) store call k owner in_use (call_view function) it.args
 
-  pub worked : IsWorkedOut (scene_of (unit_tree p.unit) w.classes store call k pending) (call_view function) it.f answer
-  worked = subst (λ (x : JniFunction). IsWorkedOut (scene_of (unit_tree p.unit) w.classes store call k pending) (call_view function) x answer) it.asked.same_function given.works
+  abbrev both : TwoCalls
+  both = two_calls p w store pending call function others k owner own shared s task rest h given.sound
 
   -- it calls no method
   no_method : calls_method it.f ≡ false
@@ -84,7 +77,7 @@ module _ (p : Lowered) (w : World) (store : Store) (pending : Option ℕ) (call 
     where
       by_method : (b : Bool) → calls_method it.f ≡ b → calls_method it.f ≡ false
       by_method false is = is
-      by_method true is = absurd (subst IsNoCall (works_method p w store pending call k function it.f answer is worked) own_answer)
+      by_method true is = absurd (subst IsNoCall (calls_so both it.f it.asked answer given.works is) own_answer)
 
   -- no check stops the source's
   pub free : trap_of_call w.classes shared s it.target it.f it.args ≡ None
@@ -108,8 +101,7 @@ module _ (p : Lowered) (w : World) (store : Store) (pending : Option ℕ) (call 
     pub answered : IsAnswer w.classes brings store.heap call.locals shared s answer kind told
     answered =
         subst (λ (x : ResultKind). IsAnswer w.classes brings store.heap call.locals shared s answer x told) (sym kind_is)
-        (answers p w store pending call (call_view function) others k owner shared s it.target given.sound it.args it.f it.asked free answer worked
-        (owned_key p w store pending call function others k owner own shared s task rest h) (held p w store pending call function others k owner own shared s task rest h))
+        (stands_so both it.f it.asked answer given.works given.free)
 
     pub can_carry : IsPossible p w store pending call.locals others shared s
     can_carry = possible p w store pending call function others k owner own shared s task rest h

@@ -32,8 +32,8 @@ use Rattle.code_meaning.specs.Slots.{Visible, visible_to}
 use Rattle.machine_scenes.specs.declared.store.Store.{Store}
 use Rattle.machine_scenes.specs.declared.activation.Activation.{Activation}
 use Rattle.machine_scenes.specs.Locals.{FramesAgree}
-use Rattle.machine_answers.proofs.SightsAgree.{HeldStatic, deletes_static}
-use Rattle.machine_answers.specs.Asked.{IsAsked, references_of}
+use Rattle.machine_answers.proofs.TwoCalls.{TwoCalls}
+use Rattle.machine_answers.specs.Asked.{IsAsked, IsKeyGiven, references_of}
 use Rattle.machine_scenes.specs.Statics.{all_held}
 use Rattle.machine_calls.specs.CarriedOut.{IsPossible}
 use Rattle.machine_answers.proofs.TrapsSeen.{is_too_deep, with_depth}
@@ -60,7 +60,8 @@ use Rattle.semantics.specs.ThreadStep.{next_effect}
 use Rattle.machine_calls.proofs.HeldStatics.{place_below}
 use Rattle.std.specs.Prelude.{◌&&◌}
 use Rattle.jni.specs.Prototype.{NewGlobal, NewWeak, GivesFlag, GivesInt, GivesField, GivesMethod, GivesNothing, GivesBuffer}
-use Rattle.semantics.specs.Object.{sizes}
+use Rattle.semantics.specs.Object.{Reference, sizes}
+use Rattle.world_values.specs.SoundWorlds.{IsSound}
 use Rattle.semantics.specs.CallEffects.{Halts}
 use Rattle.semantics.specs.CallStep.{after_call, checked, effect_of_call}
 use Rattle.semantics.specs.Value.{Trap as SourceTrap}
@@ -74,7 +75,7 @@ use Rattle.machine_threads.specs.InProgress.{WorkAgrees}
 use Rattle.machine_calls.specs.CarriedOut.{CarriesOut, frames_left, made_by}
 use Rattle.machine_answers.specs.Checked.{puts_local}
 use Rattle.semantics.specs.EventViews.{trap_view}
-use Rattle.machine_answers.proofs.CallTraps.{room_left}
+use Rattle.machine_answers.proofs.CallTraps.{free_seen, room_left}
 use Rattle.machine_steps.proofs.EffectFrames.{left_is}
 use Rattle.machine_scenes.proofs.LocalFrames.{frames_left as frames_after_agree}
 use Rattle.semantics.specs.ThreadStep.{after_effect}
@@ -270,12 +271,26 @@ module _ (p : Lowered) (w : World) (store : Store) (pending : Option ℕ) (call 
   abbrev pub Called : Effect → Type 0
   Called effect = CalledAs p w store pending call h.code function others k owner own shared s task rest r effect
 
+  -- the key of a reference that is deleted, and the static whose reference ends
+  key_given : (o : Option ℕ) (q : Reference) (level : ℕ) → OwnKey store.heap call.locals o q level → IsKeyGiven store.heap call.locals o q level
+  key_given None None level own = own
+  key_given (Some key) (Some n) level own = own
+  key_given o q level own = absurd own
+
+  own_key : (args : List Actual) → DeletesKey p w.classes store.heap store.elements owner call h.code own shared s task rest r function.operands args
+      → IsKeyGiven store.heap call.locals (key_at (references_of store call) (operand_of function.operands 0)) (reference_given args 0) (level_of (lookup (variable_given args 0) s.variables))
+  own_key args d =
+      key_given _ _ _
+      (subst (λ (o : Operand). OwnKey store.heap call.locals (key_at (references_of store call) o) (reference_given args 0) (level_of (lookup (variable_given args 0) s.variables))) (sym d.is)
+      (subst (λ (x : Identifier). OwnKey store.heap call.locals (held_in (slice_get call.slots.references.items d.slot)) (reference_given args 0) (level_of (lookup x s.variables))) (sym d.variable) d.key))
+
   called_by : (line : ℕ) (target : Target) (f : JniFunction) (args : List Actual) → CallsFunction h.code r.known call.place call.stack (slots_of call r.meant) (visible_to own shared s) line target f args rest → effect_of (sight_of shared s) task ≡ Calls line target f args → Called (Calls line target f args)
   called_by line target f args c step =
       let same : c.call ≡ function = let both : instr.Call c.call ≡ instr.Call function = cc (h.at, c.at) in cc in
       let operands = subst (λ (x : Call). AllZip (IsOperand h.code r.known call.place call.stack (slots_of call r.meant) (visible_to own shared s)) x.operands args) same c.given in
       let goes = subst (λ (x : Call). TakesResult h.code r.known call.place call.stack (slots_of call r.meant) (visible_to own shared s) line x.target (prototype f).result target rest) same c.goes in
       let owned = operands_owned p w.classes store.heap store.elements owner call h.code own shared s task rest r line target f args function.operands step (h.steady.owned task rest h.tasks) operands in
+      let kinds = subst (λ (x : Call). AllZip OperandFits (parameters_for f (length args)) x.operands) same c.kinds in
       let given = all_given p w.classes store.heap store.elements owner call h.code (visible_to own shared s) s.frames task rest r (all_held store.globals store.weaks store.statics.items) h.shares.statics function.operands args owned operands in
       record {
         line = line;
@@ -289,11 +304,15 @@ module _ (p : Lowered) (w : World) (store : Store) (pending : Option ℕ) (call 
           frames_agree = r.frames_agree;
           same_function = ap (λ (x : Call). x.function) (sym same) ∙ c.same_function;
           count = c.count;
-          kinds = subst (λ (x : Call). AllZip OperandFits (parameters_for f (length args)) x.operands) same c.kinds;
+          kinds = kinds;
           fit = c.fit;
           given = given;
           arrays = arrays_held h.code r.known call.place call.stack (slots_of call r.meant) own shared s r.shows function.operands args operands;
           buffers = buffers_there p w.classes store.heap store.elements owner call h.code own shared s s.frames task rest r function.operands args operands;
+          key = λ deletes. own_key args
+              (deletes_key p w.classes store.heap store.elements owner call h.code own shared s task rest r line target f args function.operands step (h.steady.owned task rest h.tasks) operands
+              (subst (λ (g : JniFunction). AllZip OperandFits (parameters_for g (length args)) function.operands) deletes kinds));
+          held = λ deletes i at. static_held p w.classes store.heap store.elements owner call h.code own shared s task rest r (all_held store.globals store.weaks store.statics.items) h.shares.statics function.operands args i operands at;
           wanted = element_there p w.classes store.heap store.elements owner call h.code own shared s s.frames task rest r line function.target (prototype f).result target goes;
           typed = h.steady.objects;
           typed_variables = h.steady.variables;
@@ -345,16 +364,9 @@ module _ (p : Lowered) (w : World) (store : Store) (pending : Option ℕ) (call 
       deletes_key p w.classes store.heap store.elements owner call h.code own shared s task rest r called.line called.target called.f called.args function.operands called.is (h.steady.owned task rest h.tasks) called.operands
       (subst (λ (f : JniFunction). AllZip OperandFits (parameters_for f (length called.args)) function.operands) deletes called.asked.kinds)
 
-  pub owned_key : called.f ≡ DeleteLocalRef → OwnKey store.heap call.locals (key_at (references_of store call) (operand_of function.operands 0)) (reference_given called.args 0) (level_of (lookup (variable_given called.args 0) s.variables))
-  owned_key deletes =
-      let d = deleted deletes in
-      subst (λ (o : Operand). OwnKey store.heap call.locals (key_at (references_of store call) o) (reference_given called.args 0) (level_of (lookup (variable_given called.args 0) s.variables))) (sym d.is)
-      (subst (λ (x : Identifier). OwnKey store.heap call.locals (held_in (slice_get call.slots.references.items d.slot)) (reference_given called.args 0) (level_of (lookup x s.variables))) (sym d.variable) d.key)
-
-  -- the static whose reference ends
-  pub held : deletes_static called.f ≡ true → (i : ℕ) → operand_of function.operands 0 ≡ operand.Static i → HeldStatic store.heap (references_of store call) shared (variable_given called.args 0) i
-  held deletes i at =
-      static_held p w.classes store.heap store.elements owner call h.code own shared s task rest r (all_held store.globals store.weaks store.statics.items) h.shares.statics function.operands called.args i called.operands at
+  -- this and the source's
+  abbrev pub two_calls : IsSound w → TwoCalls
+  two_calls sound = record { p = p; w = w; sound = sound; store = store; pending = pending; activation = call; call = function; others = others; k = k; owner = owner; shared = shared; s = s; target = called.target; args = called.args }
 
   -- its slot is there
   pub has_target : HasTarget in_memory.target call
@@ -388,7 +400,7 @@ module _ (p : Lowered) (w : World) (store : Store) (pending : Option ℕ) (call 
     source_room : (prototype called.f).result ≡ NewLocal → is_full (slice_get (source_frames_after called.f s.frames) 0) ≡ false
     source_room local =
         full_where store.heap (locals_after called.f call.locals) (source_frames_after called.f s.frames) (frames_after_agree store.heap called.f call.locals s.frames r.frames_agree)
-        ∙ by_kind (prototype called.f).result (has_room (locals_after called.f call.locals)) local (room_left p w store pending call function others k owner shared s called.target called.f called.args called.asked free)
+        ∙ by_kind (prototype called.f).result (has_room (locals_after called.f call.locals)) local (room_left p w store pending call function others k owner shared s called.target called.f called.args called.asked (free_seen p w store pending call function others k owner shared s called.target called.f called.args called.asked free))
       where
         by_kind : (kind : ResultKind) (b : Bool) → kind ≡ NewLocal → (puts_local kind && not b) ≡ false → not b ≡ false
         by_kind NewLocal b local h = h

@@ -52,7 +52,7 @@ use Rattle.machine_answers.specs.Answers.{Brought, IsAnswer, effect_told, is_car
 use Rattle.machine_answers.specs.Asked.{scene_of}
 use Rattle.machine_scenes.specs.Buffers.{Acquired, AreViewed, BuffersAgree, acquired_by, beside, gives_up}
 use Rattle.machine_calls.specs.CarriedOut.{CarriesOut, CopiesStay, GoesByRoom, IsNewCopy, IsShortOf, buffers_after, frames_left, made_by, pending_after, result_after, shared_after, slots_after, variables_left}
-use Rattle.machine_answers.specs.WorkedOut.{IsWorkedOut}
+use Rattle.machine_answers.specs.Answered.{IsAnswerTo}
 use Rattle.machine_calls.proofs.BufferLaws.{buffers_stay, keeps_others, new_apart}
 use Rattle.machine_scenes.proofs.KeyLaws.{fewer_owned, keys_left}
 use Rattle.semantics.specs.declared.event.Event.TheVariants as event
@@ -163,7 +163,7 @@ module _ (p : Lowered) (w : World) (store : Store) (pending : Option ℕ) (call 
   abbrev brings : Brought
   brings = brought_in p w store pending call in_memory others k owner own shared s task rest h
 
-  module _ (answer : Answer) (works : IsWorkedOut (scene_of (unit_tree p.unit) w.classes store call k pending) function called.f answer)
+  module _ (answer : Answer) (works : IsAnswerTo (scene_of (unit_tree p.unit) w.classes store call k pending) function answer)
       (does : IsAnswer w.classes brings store.heap call.locals shared s answer kind of_source) where
     abbrev left_own : Owners
     left_own = owners_left p w store pending call in_memory others k owner own shared s task rest h answer works does

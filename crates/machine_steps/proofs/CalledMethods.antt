@@ -19,6 +19,7 @@ use Rattle.heap.specs.Heap.{Space}
 use Rattle.heap.specs.declared.value.Value.{Value}
 use Rattle.heap.specs.declared.value.Value.TheVariants.{Number as Word, Null, Block as Address}
 use Rattle.jni.specs.JniFunction.{calls_method}
+use Rattle.machine_answers.proofs.CallTraps.{free_seen}
 use Rattle.machine_answers.proofs.LongTables.{classes_loaded}
 use Rattle.machine_answers.proofs.MethodAnswers.{CalledMethod, called_method}
 use Rattle.machine_answers.proofs.PassedValues.{values_passed}
@@ -139,7 +140,7 @@ module _ (p : Lowered) (w : World) (store : Store) (activation : Activation) (fu
   calls = ap calls_method same_function ∙ c.method
 
   pub the_method : CalledMethod both it.f
-  the_method = called_method both it.f calls it.asked free
+  the_method = called_method both it.f calls it.asked (free_seen p w store pending activation (call_view function) others k owner shared s it.target it.f it.args it.asked free)
 
   safe : (length it.args ≤ 18) × ((m : MethodId) → method_given it.args 1 ≡ Some m → IsCallable (unit_tree p.unit) w.classes m)
   safe = e.steady.calls it.line it.target it.f it.args (ap (next_effect shared s) e.tasks ∙ it.is) calls

@@ -1,5 +1,5 @@
 -- What the instruction at the place of a call does.
-use Rattle.std.proofs.Common.{◌≡◌, ◌≢◌, ⊎_elim, ℕ, ℤ, zero, suc, ◌+◌, ◌<◌, Bool, List, [], ◌∷◌, ◌++◌, length, Option, Some, None, refl, sym, ap, ◌∙◌, subst, arith, Bor}
+use Rattle.std.proofs.Common.{◌≡◌, ◌≢◌, ⊎_elim, ℕ, ℤ, zero, suc, ◌+◌, ◌<◌, List, [], ◌∷◌, ◌++◌, length, Option, Some, None, refl, sym, ap, ◌∙◌, subst, arith, Bor}
 use Rattle.std.specs.Prelude.{slice_get, IsSome}
 use Rattle.std.specs.Option.{option_copied}
 use Rattle.base.specs.Bytes.{Identifier}
@@ -10,7 +10,6 @@ use Rattle.jni.specs.JniFunction.{JniFunction}
 use Rattle.heap.specs.Heap.{Space}
 use Rattle.code.specs.declared.instr.Instr.{Instr}
 use Rattle.code.specs.declared.instr.Instr.TheVariants as instr
-use Rattle.code.specs.Call.{Call}
 use Rattle.code.specs.declared.instr.Plain.{Plain}
 use Rattle.code.specs.Effect.{IsPlain, plain_of}
 use Rattle.code.specs.Depth.{Listing, depth_after, depth_at, IsValid, LeadsInside, Leaves}

@@ -62,7 +62,7 @@ use Rattle.machine_scenes.specs.Buffers.{Acquired, AreViewed, BuffersAgree, give
 use Rattle.machine_calls.specs.CarriedOut.{LeavesCopy, ResultAgrees, buffers_after, result_after, slots_after, variables_left}
 use Rattle.machine_answers.specs.Copies.{overlaid, word_of as word_in, words_of}
 use Rattle.machine_scenes.specs.Given.{operand_of}
-use Rattle.machine_answers.specs.WorkedOut.{IsWorkedOut}
+use Rattle.machine_answers.specs.Answered.{IsAnswerTo}
 use Rattle.machine_scenes.proofs.KeyLaws.{set_cases}
 use Rattle.machine_steps.specs.Invoked.{AtCall}
 use Rattle.machine_steps.specs.Received.{told_slot, told_with}
@@ -287,7 +287,7 @@ module _ (p : Lowered) (w : World) (store : Store) (pending : Option ℕ) (call 
   abbrev kind : ResultKind
   kind = (prototype called.f).result
 
-  module _ (answer : Answer) (works : IsWorkedOut (scene_of (unit_tree p.unit) w.classes store call k pending) function called.f answer)
+  module _ (answer : Answer) (works : IsAnswerTo (scene_of (unit_tree p.unit) w.classes store call k pending) function answer)
       (does : IsAnswer w.classes brings store.heap call.locals shared s answer kind of_source) where
     abbrev own_left : Owners
     own_left = left_own p w store pending call in_memory others k owner own shared s task rest h answer works does

@@ -7,7 +7,7 @@ use Rattle.std.proofs.lemmas.Option.{slice_get-map}
 use Rattle.class_rules.specs.Class.{Classes}
 use Rattle.heap.specs.Heap.{Space}
 use Rattle.jni.specs.JniFunction.{JniFunction}
-use Rattle.jni.specs.Prototype.{ResultKind}
+use Rattle.jni.specs.Prototype.{ResultKind, GivesNothing}
 use Rattle.syntax.specs.Tree.{SourceUnit}
 use Rattle.semantics.specs.Answer.{Answer as SourceAnswer, DeletesLocal, Pops}
 use Rattle.semantics.specs.CallSight.{CallSight}
@@ -16,6 +16,7 @@ use Rattle.semantics.proofs.AnswerKinds.{AnswersAs, CallKind, EndingLocal, EndsL
 use Rattle.semantics_safety.specs.Owners.{other_than}
 use Rattle.tables.specs.Locals.{LocalTable}
 use Rattle.machine_answers.specs.declared.answer.Answer.{Answer}
+use Rattle.machine_answers.specs.declared.answer.Answer.TheVariants as replies
 use Rattle.machine_answers.specs.Answers.{Brought, IsAnswer}
 use Rattle.machine_answers.specs.Answers as row
 use Rattle.machine_calls.specs.CarriedOut.{IsLeft}
@@ -34,6 +35,12 @@ pub level_left : {classes : Classes} {brought : Brought} {space : Space} {locals
 level_left (row.deletes n variable there) frames key level left = absurd left
 level_left (row.pops r agrees) frames key level left = left
 level_left does frames key level left = tt
+
+-- where nothing is given, all keys are left but the one that is deleted
+pub left_but_one : {classes : Classes} {brought : Brought} {space : Space} {locals : LocalTable} {shared : Shared} {s : Thread} {answer : Answer} {of_source : SourceAnswer}
+    → IsAnswer classes brought space locals shared s answer GivesNothing of_source → (frames key level : ℕ) → ((one : ℕ) → answer ≡ replies.Deletes one → key ≢ one) → IsLeft answer frames key level
+left_but_one (row.deletes {key = one} n variable there) frames key level other = other one refl
+left_but_one does frames key level other = tt
 
 -- functions of this kind end local references
 abbrev pub ends_local : CallKind → Bool

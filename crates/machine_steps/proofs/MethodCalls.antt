@@ -4,18 +4,17 @@ use Rattle.std.specs.Prelude.{◌&&◌, nat_le, if◌then◌else◌}
 use Rattle.code.specs.Call.{call_view}
 use Rattle.code.specs.declared.instr.Call.{Call}
 use Rattle.code_meaning.specs.Lowered.{Lowered}
-use Rattle.jni.specs.JniFunction.{JniFunction, calls_method, prototype}
-use Rattle.machine_answers.proofs.CallAnswers.{answers}
+use Rattle.jni.specs.JniFunction.{calls_method, prototype}
+use Rattle.machine_answers.proofs.CallAnswers.{answered}
 use Rattle.machine_answers.specs.Answers.{IsAnswer}
 use Rattle.machine_calls.proofs.AnswerCases.{called as called_so}
-use Rattle.machine_answers.specs.Asked.{brought_by, scene_of}
+use Rattle.machine_answers.specs.Asked.{brought_by}
 use Rattle.machine_answers.proofs.TrapsSeen.{is_too_deep, with_depth}
-use Rattle.machine_answers.specs.WorkedOut.{IsWorkedOut}
 use Rattle.machine_answers.specs.declared.answer.Answer.TheVariants as answer
 use Rattle.machine_scenes.specs.Buffers.{Acquired}
 use Rattle.machine_scenes.specs.declared.activation.Activation.{Activation}
 use Rattle.machine_scenes.specs.declared.store.Store.{Store}
-use Rattle.machine_steps.proofs.AskedCalls.{CalledAs, called, found_trap, held, owned_key, r, traps, trap_is}
+use Rattle.machine_steps.proofs.AskedCalls.{CalledAs, called, found_trap, r, traps, trap_is, two_calls}
 use Rattle.machine_steps.specs.Executes.{Executes, in_use_with}
 use Rattle.machine_steps.specs.Invoked.{AtCall, IsAnswered, called_from, executed_as}
 use Rattle.machine_steps.specs.declared.invoke.Invoked.{Invoked}
@@ -40,9 +39,6 @@ module _ (p : Lowered) (w : World) (store : Store) (pending : Option ℕ) (call 
   abbrev it : CalledAs p w store pending call h.code (call_view function) others k owner own shared s task rest (r p w store pending call function others k owner own shared s task rest h) (effect_of (sight_of shared s) task)
   it = called p w store pending call function others k owner own shared s task rest h
 
-  worked : IsWorkedOut (scene_of (unit_tree p.unit) w.classes store call k pending) (call_view function) it.f answer.Calls
-  worked = subst (λ (x : JniFunction). IsWorkedOut (scene_of (unit_tree p.unit) w.classes store call k pending) (call_view function) x answer.Calls) it.asked.same_function given.works
-
   -- its trap is that of how deep calls are, or none
   trap_now : trap_of_call w.classes shared s it.target it.f it.args ≡ with_depth (is_too_deep it.f (length s.callers)) None
   trap_now = sym (trap_is p w store pending call function others k owner own shared s task rest h) ∙ ap (with_depth (is_too_deep it.f (length s.callers))) given.free
@@ -66,8 +62,7 @@ module _ (p : Lowered) (w : World) (store : Store) (pending : Option ℕ) (call 
   method_is false is =
       let free = trap_now ∙ ap (λ (m : Bool). with_depth (m && nat_le 64 (length s.callers + 1)) None) is in
       let a : IsAnswer w.classes (brought_by (unit_tree p.unit) store call k owner (in_use_with others s) (call_view function) it.args) store.heap call.locals shared s answer.Calls (prototype it.f).result (call_answer (unit_tree p.unit) w.classes k (sight_of_call shared s it.f it.args) it.f) =
-      answers p w store pending call (call_view function) others k owner shared s it.target given.sound it.args it.f it.asked free answer.Calls worked
-      (owned_key p w store pending call function others k owner own shared s task rest h) (held p w store pending call function others k owner own shared s task rest h) in
+      answered (two_calls p w store pending call function others k owner own shared s task rest h given.sound) it.f it.asked answer.Calls given.works given.free in
       let entered = called_so a in
       absurd (none_entered is free entered.0 entered.1 entered.2)
 

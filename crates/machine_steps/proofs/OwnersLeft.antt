@@ -15,24 +15,24 @@ use Rattle.semantics.specs.World.{World}
 use Rattle.base.specs.Bytes.{Identifier}
 use Rattle.code.specs.Call.{Call, call_view}
 use Rattle.code.specs.declared.instr.Call.{Call as InMemory}
-use Rattle.code.specs.declared.instr.Operand.{Operand}
 use Rattle.code_meaning.specs.Lowered.{Lowered}
 use Rattle.code_meaning.specs.Slots.{Shows, visible_to}
 use Rattle.type_rules.specs.ExprTypes.{Ref}
 use Rattle.machine_answers.specs.declared.answer.Answer.{Answer}
 use Rattle.machine_scenes.specs.declared.store.Store.{Store}
 use Rattle.machine_scenes.specs.declared.activation.Activation.{Activation}
-use Rattle.machine_answers.specs.WorkedOut.{IsWorkedOut, deletes}
+use Rattle.machine_answers.specs.declared.answer.Answer.TheVariants as replies
+use Rattle.machine_answers.specs.Answered.{IsAnswerTo}
 use Rattle.machine_answers.specs.Answers.{Brought, IsAnswer}
 use Rattle.machine_answers.specs.Asked.{brought_by, references_of, scene_of}
 use Rattle.machine_calls.specs.CarriedOut.{IsLeft}
-use Rattle.machine_scenes.specs.Given.{held_in, key_at}
+use Rattle.machine_scenes.specs.Given.{held_in, key_at, operand_of}
 use Rattle.machine_steps.specs.Executes.{in_use_with}
 use Rattle.machine_steps.specs.Invoked.{AtCall}
 use Rattle.machine_steps.proofs.Calls.{Ready}
 use Rattle.machine_threads.specs.SlotsHold.{slots_of}
 use Rattle.machine_scenes.proofs.KeyLaws.{name_there, set_cases}
-use Rattle.machine_steps.proofs.KeysLeft.{LeavesLevel, ends_local, level_left, none_ended, others_get}
+use Rattle.machine_steps.proofs.KeysLeft.{LeavesLevel, ends_local, left_but_one, level_left, none_ended, others_get}
 use Rattle.machine_scenes.proofs.LocalFrames.{as_many_frames}
 use Rattle.machine_steps.proofs.OwnedKeys.{DeletesKey}
 use Rattle.code_meaning.proofs.OwnerLaws.{owner_lost_with_slot, owners_mapped}
@@ -40,6 +40,11 @@ use Rattle.semantics_safety.specs.Owners.{Owners, other_than, left_by as left_by
 use Rattle.std.specs.Str.{bytes_eq}
 use Rattle.machine_scenes.specs.Buffers.{Acquired}
 use Rattle.machine_steps.proofs.AskedCalls.{CalledAs, called as called_at, deleted, r as ready_at}
+
+-- what a slot holds whose key is this
+slot_held : (o : Option (Option ℕ)) (key : ℕ) → held_in o ≡ Some key → o ≡ Some (Some key)
+slot_held None key e = absurd (cc)
+slot_held (Some o) key e = ap (λ (x : Option ℕ). Some x) e
 
 module _ (p : Lowered) (w : World) (store : Store) (pending : Option ℕ) (call : Activation) (in_memory : InMemory) (others : Acquired) (k owner : ℕ) (own : Owners) (shared : Shared) (s : source.Thread) (task : Task) (rest : List Task) (h : AtCall p w store pending call in_memory others k owner own shared s task rest) where
   abbrev function : Call
@@ -66,43 +71,40 @@ module _ (p : Lowered) (w : World) (store : Store) (pending : Option ℕ) (call 
   abbrev pub brings : Brought
   brings = brought_by (unit_tree p.unit) store call k owner (in_use_with others s) function called.args
 
-  module _ (answer : Answer) (works : IsWorkedOut (scene_of (unit_tree p.unit) w.classes store call k pending) function called.f answer)
+  module _ (answer : Answer) (works : IsAnswerTo (scene_of (unit_tree p.unit) w.classes store call k pending) function answer)
       (does : IsAnswer w.classes brings store.heap call.locals shared s answer (prototype called.f).result of_source) where
-    abbrev Works : JniFunction → Type 0
-    Works f = IsWorkedOut (scene_of (unit_tree p.unit) w.classes store call k pending) function f answer
-
-    delete_leaves : called.f ≡ DeleteLocalRef → Works DeleteLocalRef → LeavesOwners DeleteLocalRef answer
-    delete_leaves e is =
+    delete_leaves : called.f ≡ DeleteLocalRef → LeavesOwners DeleteLocalRef answer
+    unfolding IsAnswerTo
+    delete_leaves e =
         let d = deleted p w store pending call in_memory others k owner own shared s task rest h e in
         record {
           owners = slice_set r.meant.owners d.slot None;
           shows = subst (λ (x : Identifier). Shows h.code r.known (visible_to (λ y. if bytes_eq y x then None else own y) shared s) (slots_of call (record r.meant { owners = slice_set r.meant.owners d.slot None }))) (sym d.variable)
               (owner_lost_with_slot h.code r.known (visible_to own shared s) (slots_of call r.meant) r.shows d.name d.slot (called.own_slots d.name (record { ty = Ref; index = d.slot }) d.at));
-          among = λ i level at. in_others d i level (set_cases r.meant.owners d.slot i None (Some level) at);
-          left = λ i key level found at. by_key d (slice_get call.slots.references.items d.slot) refl i key level found (set_cases r.meant.owners d.slot i None (Some level) at);
+          among = λ i level at. (in_others d i level (set_cases r.meant.owners d.slot i None (Some level) at)).1;
+          left = λ i key level found at.
+              left_but_one (subst (λ (f : JniFunction). IsAnswer w.classes brings store.heap call.locals shared s answer (prototype f).result of_source) e does) (length call.locals.frames) key level
+              (λ one is. apart d i key level found (in_others d i level (set_cases r.meant.owners d.slot i None (Some level) at)) one
+              (slot_held (slice_get call.slots.references.items d.slot) one (sym (ap (key_at (references_of store call)) d.is) ∙ ends_one e one is)));
         }
       where
-        nothing : (level : ℕ) → ◌≡◌ {A = Option ℕ} None (Some level) → ⊥
-        nothing level same = cc
+        Deleted : Type 0
+        Deleted = DeletesKey p w.classes store.heap store.elements owner call h.code own shared s task rest r function.operands called.args
 
-        in_others : (d : DeletesKey p w.classes store.heap store.elements owner call h.code own shared s task rest r function.operands called.args) (i level : ℕ) → ((i ≡ d.slot) × (◌≡◌ {A = Option ℕ} None (Some level))) ⊎ ((i ≢ d.slot) × (slice_get r.meant.owners i ≡ Some (Some level))) → slice_get r.meant.owners i ≡ Some (Some level)
-        in_others d i level (inl (same, none)) = absurd (nothing level none)
-        in_others d i level (inr (other, at)) = at
+        in_others : (d : Deleted) (i level : ℕ) → ((i ≡ d.slot) × (◌≡◌ {A = Option ℕ} None (Some level))) ⊎ ((i ≢ d.slot) × (slice_get r.meant.owners i ≡ Some (Some level))) → (i ≢ d.slot) × (slice_get r.meant.owners i ≡ Some (Some level))
+        in_others d i level (inl (same, none)) = absurd (cc)
+        in_others d i level (inr other) = other
 
-        answered : (d : DeletesKey p w.classes store.heap store.elements owner call h.code own shared s task rest r function.operands called.args) (o : Option (Option ℕ)) → slice_get call.slots.references.items d.slot ≡ o → answer ≡ deletes (held_in o)
-        answered d o at = is ∙ ap (λ (x : Operand). deletes (key_at (references_of store call) x)) d.is ∙ ap (λ (x : Option (Option ℕ)). deletes (held_in x)) at
+        -- the key that is deleted is that of the slot
+        ends_one : called.f ≡ DeleteLocalRef → (one : ℕ) → answer ≡ replies.Deletes one → key_at (references_of store call) (operand_of function.operands 0) ≡ Some one
+        ends_one e = works.ends (called.asked.same_function ∙ e)
 
-        by_key : (d : DeletesKey p w.classes store.heap store.elements owner call h.code own shared s task rest r function.operands called.args) (o : Option (Option ℕ)) → slice_get call.slots.references.items d.slot ≡ o → (i key level : ℕ) → slice_get call.slots.references.items i ≡ Some (Some key)
-            → ((i ≡ d.slot) × (◌≡◌ {A = Option ℕ} None (Some level))) ⊎ ((i ≢ d.slot) × (slice_get r.meant.owners i ≡ Some (Some level))) → IsLeft answer (length call.locals.frames) key level
-        by_key d o at i key level found (inl (same, none)) = absurd (nothing level none)
-        by_key d None at i key level found (inr (other, owned)) = subst (λ (a : Answer). IsLeft a (length call.locals.frames) key level) (sym (answered d None at)) tt
-        by_key d (Some None) at i key level found (inr (other, owned)) = subst (λ (a : Answer). IsLeft a (length call.locals.frames) key level) (sym (answered d (Some None) at)) tt
-        by_key d (Some (Some k)) at i key level found (inr (other, owned)) =
-            subst (λ (a : Answer). IsLeft a (length call.locals.frames) key level) (sym (answered d (Some (Some k)) at))
-            (λ same.
-            let named = name_there store.heap call.locals call.slots.references.items r.meant.references r.meant.owners d.slot k r.holds.keys at in
+        -- which no other slot has
+        apart : (d : Deleted) (i key level : ℕ) → slice_get call.slots.references.items i ≡ Some (Some key) → (i ≢ d.slot) × (slice_get r.meant.owners i ≡ Some (Some level)) → (one : ℕ) → slice_get call.slots.references.items d.slot ≡ Some (Some one) → key ≢ one
+        apart d i key level found other one at same =
+            let named = name_there store.heap call.locals call.slots.references.items r.meant.references r.meant.owners d.slot one r.holds.keys at in
             let owner = d.owned named.0 named.1 in
-            other (r.holds.keys.apart i d.slot key level owner.0 found (at ∙ ap (λ (n : ℕ). Some (Some n)) (sym same)) owned owner.1))
+            other.0 (r.holds.keys.apart i d.slot key level owner.0 found (at ∙ ap (λ (n : ℕ). Some (Some n)) (sym same)) other.1 owner.1)
 
     -- keys of this level are left, where function f leaves it
     left_by_answer : (f : JniFunction) → called.f ≡ f → (key level : ℕ)
@@ -132,13 +134,13 @@ module _ (p : Lowered) (w : World) (store : Store) (pending : Option ℕ) (call 
           (none_ended (call_kind f) none (answers_as (unit_tree p.unit) w.classes k (sight_of_call shared s called.f called.args) f) (length call.locals.frames) level);
     }
 
-    leaves : (f : JniFunction) → called.f ≡ f → Works f → LeavesOwners f answer
-    leaves DeleteLocalRef e is = delete_leaves e is
-    leaves PopLocalFrame e is = pop_leaves e
-    leaves f e is = other_leaves f e refl refl
+    leaves : (f : JniFunction) → called.f ≡ f → LeavesOwners f answer
+    leaves DeleteLocalRef e = delete_leaves e
+    leaves PopLocalFrame e = pop_leaves e
+    leaves f e = other_leaves f e refl refl
 
     pub leaves_owners : LeavesOwners called.f answer
-    leaves_owners = leaves called.f refl works
+    leaves_owners = leaves called.f refl
 
     -- the call with fewer owners
     abbrev pub left_own : Owners

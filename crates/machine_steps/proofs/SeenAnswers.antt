@@ -12,7 +12,7 @@ use Rattle.world_values.specs.SoundWorlds.{IsSound}
 use Rattle.machine_answers.specs.Asked.{scene_of}
 use Rattle.machine_answers.specs.Checked.{trap_found}
 use Rattle.machine_answers.specs.Sights.{element_wanted, trap_seen}
-use Rattle.machine_answers.specs.WorkedOut.{IsWorkedOut}
+use Rattle.machine_answers.specs.Answered.{IsAnswerTo}
 use Rattle.machine_answers.specs.declared.answer.Answer.{Answer}
 use Rattle.machine_scenes.specs.Locals.{locals_after}
 use Rattle.machine_scenes.specs.Scenes.{Scene}
@@ -29,19 +29,19 @@ module _ (p : Lowered) (w : World) (store : Store) (pending : Option ℕ) (call 
   abbrev pub IsFree : Bool → Type 0
   IsFree is_room = trap_found scene is_room (element_wanted function.target) (function_value function.function) function.operands.items ≡ None
 
-  pub seen : (a : Answer) → IsFree room → IsWorkedOut scene (call_view function) (function_value function.function) a → IsAnswered p w store pending call k function a
+  pub seen : (a : Answer) → IsFree room → IsAnswerTo scene (call_view function) a → IsAnswered p w store pending call k function a
   seen a free works = record {
     sound = sound;
     free = subst (λ (x : Scene). trap_seen x call.locals (call_view function) ≡ None) same (sym as_seen ∙ free);
-    works = subst (λ (x : Scene). IsWorkedOut x (call_view function) (function_value function.function) a) same works;
+    works = subst (λ (x : Scene). IsAnswerTo x (call_view function) a) same works;
   }
 
   -- so it is of whatever is seen at once
   module _ {A : Type 0} (answer : A → Answer) where
-    pub all_seen : (o : Option A) → IfSome o (λ x. (is_room : Bool) → IsFree is_room) → IfSome o (λ x. IsWorkedOut scene (call_view function) (function_value function.function) (answer x)) → IfSome o (λ x. IsAnswered p w store pending call k function (answer x))
+    pub all_seen : (o : Option A) → IfSome o (λ x. (is_room : Bool) → IsFree is_room) → IfSome o (λ x. IsAnswerTo scene (call_view function) (answer x)) → IfSome o (λ x. IsAnswered p w store pending call k function (answer x))
     all_seen (Some x) free works = seen (answer x) (free room) works
     all_seen None free works = tt
 
-    pub seen_with_room : (o : Option A) → IfSome o (λ x. IsFree room) → IfSome o (λ x. IsWorkedOut scene (call_view function) (function_value function.function) (answer x)) → IfSome o (λ x. IsAnswered p w store pending call k function (answer x))
+    pub seen_with_room : (o : Option A) → IfSome o (λ x. IsFree room) → IfSome o (λ x. IsAnswerTo scene (call_view function) (answer x)) → IfSome o (λ x. IsAnswered p w store pending call k function (answer x))
     seen_with_room (Some x) free works = seen (answer x) free works
     seen_with_room None free works = tt

@@ -15,7 +15,7 @@ use Rattle.code_meaning.specs.Lowered.{Lowered}
 use Rattle.semantics_safety.specs.Owners.{Owners}
 use Rattle.code_meaning.specs.Slots.{visible_to}
 use Rattle.machine_scenes.specs.declared.activation.Activation.{Activation}
-use Rattle.machine_answers.proofs.SightsAgree.{HeldStatic}
+use Rattle.machine_answers.specs.Asked.{HeldStatic}
 use Rattle.machine_scenes.specs.Statics.{References}
 use Rattle.machine_scenes.specs.StoreAgrees.{StaticsAgree}
 use Rattle.machine_scenes.specs.declared.references.Held.{Held}

@@ -44,13 +44,14 @@ use Rattle.monitors.specs.Monitors.{entering, monitor_of}
 use Rattle.machine_scenes.specs.MonitorsAgree.{MonitorAgrees, MonitorsAgree}
 use Rattle.machine_scenes.specs.declared.activation.Activation.{Activation}
 use Rattle.machine_scenes.specs.declared.store.Store.{Store}
-use Rattle.machine_answers.specs.Asked.{references_of}
+use Rattle.machine_answers.specs.Asked.{references_of, scene_of}
+use Rattle.machine_answers.specs.Sights.{trap_seen}
 use Rattle.machine_scenes.specs.Buffers.{Acquired, AreViewed, acquired_by, beside}
 use Rattle.machine_answers.specs.Checked.{some_missing}
 use Rattle.machine_scenes.specs.Given.{operand_at, operand_of}
 use Rattle.machine_scenes.specs.StoreAgrees.{StoreAgrees}
 use Rattle.machine_answers.proofs.CallOperands.{GivenObject, object_at_place}
-use Rattle.machine_answers.proofs.CallTraps.{none_deleted, none_lacking}
+use Rattle.machine_answers.proofs.CallTraps.{free_seen, none_deleted, none_lacking}
 use Rattle.machine_calls.proofs.MonitorCarries.{agrees_monitors}
 use Rattle.machine_threads.specs.declared.thread.Thread.{Thread}
 use Rattle.machine_steps.specs.Executes.{IsExecuting, IsSteady}
@@ -239,14 +240,17 @@ module _ (p : Lowered) (w : World) (store : Store) (pending : Option ℕ) (call 
 
   -- or none does
   module _ (free : found ≡ None) where
+    seen_free : trap_seen (scene_of (unit_tree p.unit) w.classes (store_unowned store) call k pending) call.locals (call_view in_memory) ≡ None
+    seen_free = free_seen p w (store_unowned store) pending call (call_view in_memory) others k owner (unowned shared) s it.target it.f it.args it.asked free
+
     object : GivenObject (unit_tree p.unit) w.classes store.heap (references_of store call) call.slots.fields.items in_memory.operands.items it.args 0
     object =
         object_at_place (unit_tree p.unit) w.classes store.heap (references_of store call) call.slots.fields.items [] NonNull [] tt refl in_memory.operands.items it.args
         (subst (λ (f : JniFunction). AllZip OperandFits (parameters_for f (length it.args)) in_memory.operands.items) enters_it it.asked.kinds)
         it.asked.given
-        (none_deleted p w (store_unowned store) pending call (call_view in_memory) others k owner (unowned shared) s it.target it.f it.args it.asked free)
+        (none_deleted p w (store_unowned store) pending call (call_view in_memory) others k owner (unowned shared) s it.target it.f it.args it.asked seen_free)
         (subst (λ (f : JniFunction). some_missing (references_of store call) call.slots.fields.items (parameters_for f (length it.args)) in_memory.operands.items ≡ false) enters_it
-        (none_lacking p w (store_unowned store) pending call (call_view in_memory) others k owner (unowned shared) s it.target it.f it.args it.asked free))
+        (none_lacking p w (store_unowned store) pending call (call_view in_memory) others k owner (unowned shared) s it.target it.f it.args it.asked seen_free))
 
     -- its argument isn't NULL
     pub not_null : operand_at (references_of store call) (operand_of in_memory.operands.items 0) ≡ None → ⊥

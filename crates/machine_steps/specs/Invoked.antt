@@ -15,7 +15,6 @@ use Rattle.semantics.specs.ThreadStep.{after_effect}
 use Rattle.semantics.specs.Value.{Trap as SourceTrap}
 use Rattle.semantics.specs.World.{World}
 use Rattle.world_values.specs.SoundWorlds.{IsSound}
-use Rattle.jni.specs.Table.{function_value}
 use Rattle.semantics_safety.specs.Owners.{Owners}
 use Rattle.code_meaning.specs.Lowered.{Lowered, IsLowered}
 use Rattle.code_meaning.specs.Slots.{SeesBuffers, visible_to}
@@ -36,7 +35,7 @@ use Rattle.machine_answers.specs.Asked.{scene_of}
 use Rattle.machine_scenes.specs.Buffers.{Acquired, AreViewed, acquired_by, beside}
 use Rattle.machine_answers.specs.Sights.{trap_seen}
 use Rattle.machine_scenes.specs.StoreAgrees.{StoreAgrees}
-use Rattle.machine_answers.specs.WorkedOut.{IsWorkedOut}
+use Rattle.machine_answers.specs.Answered.{IsAnswerTo}
 use Rattle.machine_steps.specs.Executes.{Executes, IsHindered, IsSteady, cells_made, in_use_with}
 use Rattle.machine_threads.specs.Callers.{owner_at}
 use Rattle.machine_threads.specs.InProgress.{CallStands}
@@ -71,7 +70,7 @@ pub record IsAnswered (p : Lowered) (w : World) (store : Store) (pending : Optio
     (call : InMemory) (given : Answer) : Type 0 where
   pub sound : IsSound w
   pub free : trap_at p w store pending activation k call ≡ None
-  pub works : IsWorkedOut (scene_of (unit_tree p.unit) w.classes store activation k pending) (call_view call) (function_value call.function) given
+  pub works : IsAnswerTo (scene_of (unit_tree p.unit) w.classes store activation k pending) (call_view call) given
 
 -- A trap stops a call: a check found it, or it is what the call does.
 abbrev pub IsStopped : Lowered → World → Store → (pending : Option ℕ) → Activation → (k : ℕ) → InMemory → Trap → Type 0

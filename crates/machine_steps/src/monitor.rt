@@ -9,7 +9,7 @@ ghost use Rattle.heap.specs.Heap.{name_at};
 ghost use Rattle.jni.specs.Table.{function_value};
 ghost use Rattle.machine_answers.specs.Asked.{references_of, scene_of};
 ghost use Rattle.machine_answers.specs.Checked.{trap_found};
-ghost use Rattle.machine_answers.specs.WorkedOut.{IsWorkedOut};
+ghost use Rattle.machine_answers.specs.Answered.{IsAnswerTo};
 ghost use Rattle.machine_scenes.specs.Given.{AreAddresses, held_in, operand_at};
 ghost use Rattle.machine_scenes.specs.Locals.{address_of};
 ghost use Rattle.machine_steps.specs.MonitorCalls.{Changes, MayChange, changes_monitor, is_of_monitors};
@@ -28,6 +28,7 @@ use tables::{Local, Locals};
 /// its argument is a local reference to an object. Whether its thread, which has this number, may enter or leave the
 /// monitor isn't asked yet. None says nothing of the call.
 #[inline(always)]
+#[tactic(auto, using(machine_answers::proofs::CallAnswers::answers))]
 pub(crate) fn answer_at_once(
     store: &Store,
     pending: Option<Addr>,
@@ -42,8 +43,7 @@ pub(crate) fn answer_at_once(
         (function_value call.now.function) call.now.operands.items ≡ None) }
     ensures works { IfSome result (λ answer. MayChange thread answer store.now.monitors
         → (unit : SourceUnit) (classes : Classes)
-        → IsWorkedOut (scene_of unit classes store.now activation.now thread pending) (call_view call.now)
-        (function_value call.now.function) answer) }
+        → IsAnswerTo (scene_of unit classes store.now activation.now thread pending) (call_view call.now) answer) }
     ensures changes { IfSome result (λ answer. changes_monitor answer ≡ true) }
 {
     match call.function {

@@ -1,4 +1,4 @@
-use Rattle.std.proofs.Common.{◌≡◌, ℕ, Option, w32, to_z, of_z, sym, ap, ◌∙◌, subst}
+use Rattle.std.proofs.Common.{◌≡◌, ℕ, Option, w32, to_z, of_z, sym, ap, ◌∙◌, subst, rules}
 use Rattle.std.specs.Prelude.{unwrap_or}
 use Rattle.std.proofs.Math.Facts.{to_z-of_z}
 use Rattle.class_rules.specs.declared.class_id.ClassId.{ClassId}
@@ -9,7 +9,9 @@ use Rattle.code.specs.Call.{call_view}
 use Rattle.jni.specs.Table.{function_value}
 use Rattle.jni.specs.declared.function.JniFunction.{JniFunction}
 use Rattle.machine_scenes.specs.Scenes.{scene_view}
-use Rattle.machine_answers.specs.WorkedOut.{IsWorkedOut, held_reference, new_array, stack_number}
+use Rattle.machine_answers.specs.WorkedOut.{held_reference, new_array, stack_number}
+use Rattle.machine_answers.proofs.CallAnswers.{answers}
+use Rattle.machine_answers.proofs.WorkedOut.{IsWorkedOut}
 use Rattle.machine_answers.proofs.arrays.work_out_array.Goals as goal
 
 pub returns-in-NewObjectArray : goal.returns-in-NewObjectArray
@@ -18,5 +20,12 @@ returns-in-NewObjectArray c =
     let class = ap (λ (k : ClassId). k.number) c.unwrap_or.ensures ∙ number_or c.array_class_of-class.result (class_id 0) ∙ ap (λ (o : Option ℕ). unwrap_or o 0) (c.array_class_of-class.ensures ∙ ap (array_class_of classes) c.class_given.ensures) in
     let number : to_z w32 (of_z w32 c.stack_number-in-NewObjectArray.result) ≡ stack_number c.args.scene.now.stack.now = to_z-of_z {w = w32} (record { sfits = c.stack_number-in-NewObjectArray.type_inv }) ∙ c.stack_number-in-NewObjectArray.ensures in
     let element = c.held_reference-element.ensures ∙ ap held_reference c.argument.ensures.reference in
-    subst (λ (f : JniFunction). IsWorkedOut (scene_view c.args.scene.now) (call_view c.args.call.now) (function_value f) c.new_array-in-NewObjectArray.result) (sym c.in-NewObjectArray.is)
-    (c.new_array-in-NewObjectArray.ensures ∙ (λ i. new_array (class i) (number i) (element i)))
+    answers (scene_view c.args.scene.now) (call_view c.args.call.now) c.new_array-in-NewObjectArray.result
+    (subst (λ (f : JniFunction). IsWorkedOut (scene_view c.args.scene.now) (call_view c.args.call.now) (function_value f) c.new_array-in-NewObjectArray.result) (sym c.in-NewObjectArray.is)
+    (c.new_array-in-NewObjectArray.ensures ∙ (λ i. new_array (class i) (number i) (element i))))
+
+pub returns-in-GetObjectArrayElement : goal.returns-in-GetObjectArrayElement
+returns-in-GetObjectArrayElement c = answers _ _ _ (search rules)
+
+pub returns-in-SetObjectArrayElement : goal.returns-in-SetObjectArrayElement
+returns-in-SetObjectArrayElement c = answers _ _ _ (search rules)

@@ -3,7 +3,6 @@ use Rattle.syntax.specs.Views.{unit_tree}
 use Rattle.std.specs.Prelude.{IfOk, IfErr}
 use Rattle.std.proofs.Common.{inl, inr, Result, Ok, Err, ◌≡◌, ℕ, Option, None, sym, ap, ◌∙◌, subst, rules}
 use Rattle.std.specs.Option.{option_map}
-use Rattle.jni.specs.Table.{function_value}
 use Rattle.semantics.specs.World.{World}
 use Rattle.code.specs.Call.{call_view}
 use Rattle.code.specs.declared.instr.Call.{Call}
@@ -17,7 +16,7 @@ use Rattle.machine_scenes.specs.Scenes.{Scene, scene_view}
 use Rattle.machine_answers.specs.Sights.{trap_seen}
 use Rattle.machine_steps.specs.Invoked.{trap_at}
 use Rattle.semantics.specs.EventViews.{trap_view}
-use Rattle.machine_answers.specs.WorkedOut.{IsWorkedOut}
+use Rattle.machine_answers.specs.Answered.{IsAnswerTo}
 use Rattle.machine_steps.proofs.SeenCalls.{all_there, passed_seen}
 use Rattle.machine_steps.proofs.invoke.answer_or_trap.Goals as goal
 
@@ -29,10 +28,10 @@ module _ (p : Lowered) (w : World) (store : Store) (pending : Option ℕ) (call 
       ap (λ (x : Scene). trap_seen x call.locals (call_view function)) (sym same) ∙ sym checked ∙ ap (option_map trap_view) is
 
   -- and so is what was worked out
-  worked : (found answer : Answer) → answer ≡ found → IsWorkedOut scene (call_view function) (function_value function.function) found → IsWorkedOut (scene_of (unit_tree p.unit) w.classes store call k pending) (call_view function) (function_value function.function) answer
+  worked : (found answer : Answer) → answer ≡ found → IsAnswerTo scene (call_view function) found → IsAnswerTo (scene_of (unit_tree p.unit) w.classes store call k pending) (call_view function) answer
   worked found answer is works =
-      subst (λ (x : Answer). IsWorkedOut (scene_of (unit_tree p.unit) w.classes store call k pending) (call_view function) (function_value function.function) x) (sym is)
-      (subst (λ (x : Scene). IsWorkedOut x (call_view function) (function_value function.function) found) same works)
+      subst (λ (x : Answer). IsAnswerTo (scene_of (unit_tree p.unit) w.classes store call k pending) (call_view function) x) (sym is)
+      (subst (λ (x : Scene). IsAnswerTo x (call_view function) found) same works)
 
 pub check-requires : goal.check-requires
 check-requires c =

@@ -41,7 +41,7 @@ use Rattle.machine_steps.specs.Invoked.{AtCall, IsAnswered, done_or_refused, exe
 use Rattle.machine_steps.specs.declared.invoke.Invoked.{Invoked}
 use Rattle.machine_steps.specs.declared.invoke.Invoked.TheVariants as invoked
 use Rattle.machine_steps.specs.Received.{told_slot, statics_with, HasBuffer, HasField, HasNumber, HasReference, HasRoom, HasStatic, HasTold, Receives}
-use Rattle.machine_steps.proofs.AnsweredCalls.{IsNoCall, answered, brings, can_carry, does, free, it, kind_is, no_call, told, worked}
+use Rattle.machine_steps.proofs.AnsweredCalls.{IsNoCall, answered, brings, can_carry, does, free, it, kind_is, no_call, told}
 use Rattle.machine_steps.proofs.AskedCalls.{has_static, has_target, has_told, room_after}
 use Rattle.machine_steps.proofs.CallInstructions.{goes_on}
 use Rattle.machine_steps.proofs.invoke.finish.Goals as goal
@@ -202,7 +202,7 @@ returns-in-Ok-clause-done c others own shared s task rest h =
     let final : Store = record c.carry_out.new.store { statics = after } in
     subst (λ (done : Executed). Executes p w store final others k owner own shared s rest c.receive.new.activation c.carry_out.new.pending (effect_of (sight_of shared s) task) done) (ap (executed_as call.line) (sym c.done_or_refused.ensures))
     (executes p w store final others k owner own shared s rest c.receive.new.activation c.carry_out.new.pending (effect_of (sight_of shared s) task) call.line refused
-    (goes_on p w store pending activation call others k owner own shared s task rest h c.args.answer (worked p w store pending activation call others k owner own shared s task rest h c.args.answer c.requires.answered (no_call c.args.answer c.requires.runs))
+    (goes_on p w store pending activation call others k owner own shared s task rest h c.args.answer c.requires.answered.works
     (subst (λ (x : ResultKind). IsAnswer w.classes (brings p w store pending activation call others k owner own shared s task rest h c.args.answer c.requires.answered (no_call c.args.answer c.requires.runs)) store.heap activation.locals shared s c.args.answer x of_source) is answer)
     c.requires.answered.sound c.requires.runs
     (free p w store pending activation call others k owner own shared s task rest h c.args.answer c.requires.answered (no_call c.args.answer c.requires.runs))

@@ -5,7 +5,7 @@ use Rattle.jni.specs.JniFunction.{prototype}
 use Rattle.jni.specs.Table.{function_value}
 use Rattle.machine_answers.specs.declared.answer.Given.TheVariants as given
 use Rattle.machine_steps.specs.Received.{told_slot}
-use Rattle.machine_steps.proofs.AnsweredCalls.{answered, brings, can_carry, free, it, kind_is, no_call, told as of_source, worked}
+use Rattle.machine_steps.proofs.AnsweredCalls.{answered, brings, can_carry, free, it, kind_is, no_call, told as of_source}
 use Rattle.machine_steps.proofs.AskedCalls.{has_target}
 use Rattle.machine_steps.proofs.CallInstructions.{goes_on}
 use Rattle.machine_steps.proofs.MonitorCalls as monitors
@@ -31,7 +31,7 @@ returns-clause-done c is p w pending owner told_if others own shared s task rest
     let same = sym (kind_is p w store pending activation call others k owner own shared s task rest h a told plain (prototype (function_value call.function)).result refl) in
     let kind = (prototype (it p w store pending activation call others k owner own shared s task rest h a told plain).f).result in
     let answer = answered p w store pending activation call others k owner own shared s task rest h a told plain kind same in
-    goes_on p w store pending activation call others k owner own shared s task rest h a (worked p w store pending activation call others k owner own shared s task rest h a told plain) answer told.sound (monitors.goes_on a changes)
+    goes_on p w store pending activation call others k owner own shared s task rest h a told.works answer told.sound (monitors.goes_on a changes)
     (free p w store pending activation call others k owner own shared s task rest h a told plain)
     false (record store { monitors = c.change_monitor.new.monitors }) pending activation.locals (given.Number 0)
     (monitors.carries p w store pending activation.locals kind others k owner shared s (can_carry p w store pending activation call others k owner own shared s task rest h a told plain kind same) (brings p w store pending activation call others k owner own shared s task rest h a told plain) refl

@@ -11,7 +11,7 @@ use Rattle.machine_answers.specs.Asked.{scene_of}
 use Rattle.machine_answers.specs.declared.answer.Answer.{Answer}
 use Rattle.machine_answers.specs.Checked.{trap_found}
 use Rattle.machine_answers.specs.Sights.{element_wanted}
-use Rattle.machine_answers.specs.WorkedOut.{IsWorkedOut}
+use Rattle.machine_answers.specs.Answered.{IsAnswerTo}
 use Rattle.machine_scenes.specs.Locals.{locals_after}
 use Rattle.machine_steps.specs.MonitorCalls.{MayChange}
 use Rattle.machine_steps.proofs.SeenCalls.{all_there, as_seen}
@@ -37,7 +37,7 @@ returns-clause-answer c =
     let scene = scene_of (unit_tree c.args.program.now.unit) w.classes c.args.store.now c.args.activation.now c.args.thread c.args.pending in
     known
     (λ (x : Answer). (unit : SourceUnit) (classes : Classes) (room : Bool) (wanted : ElementType) → trap_found (scene_of unit classes c.args.store.now c.args.activation.now c.args.thread c.args.pending) room wanted (function_value call.function) call.operands.items ≡ None)
-    (λ (x : Answer). MayChange c.args.thread x c.args.store.now.monitors → (unit : SourceUnit) (classes : Classes) → IsWorkedOut (scene_of unit classes c.args.store.now c.args.activation.now c.args.thread c.args.pending) (call_view call) (function_value call.function) x)
+    (λ (x : Answer). MayChange c.args.thread x c.args.store.now.monitors → (unit : SourceUnit) (classes : Classes) → IsAnswerTo (scene_of unit classes c.args.store.now c.args.activation.now c.args.thread c.args.pending) (call_view call) x)
     _ c.answer_at_once.result
     (λ (x : Answer) free works owns.
     record {

@@ -1,0 +1,129 @@
+-- What is worked out of a call of each function, by what is in memory.
+use Rattle.std.specs.Prelude.{◌==◌, ◌≡◌, ℕ, List, [], slice_get, unwrap_or, is_some, Option, Some, None}
+use Rattle.base.specs.Element.{ElementType}
+use Rattle.class_rules.specs.ClassIds.{class_id}
+use Rattle.class_rules.specs.BuiltIns.{array_index_out_of_bounds, string_index_out_of_bounds, number_array}
+use Rattle.class_rules.specs.Class.{array_class_of, assignable, class_named, superclass}
+use Rattle.class_rules.specs.Fields.{find_field, find_static}
+use Rattle.code.specs.Call.{Call}
+use Rattle.code.specs.Effect.{element_word, truth_word}
+use Rattle.code.specs.declared.instr.LocalArray.{LocalArray}
+use Rattle.code_meaning.specs.Coding.{element_of}
+use Rattle.heap.specs.Heap.{Space}
+use Rattle.heap.specs.declared.value.Value.{Value}
+use Rattle.heap.specs.declared.value.Value.TheVariants as value
+use Rattle.jni.specs.JniFunction.{GetBuffer, ReleaseBuffer, JniFunction, FindClass, GetSuperclass, GetObjectClass, IsInstanceOf, IsAssignableFrom, AllocObject, NewLocalRef, NewGlobalRef, NewWeakGlobalRef, DeleteLocalRef, DeleteGlobalRef, DeleteWeakGlobalRef, IsSameObject, EnsureLocalCapacity, PushLocalFrame, PopLocalFrame, GetFieldID, GetStaticFieldID, GetField, SetField, GetStaticField, SetStaticField, GetObjectField, SetObjectField, GetStaticObjectField, SetStaticObjectField, GetArrayLength, GetStringLength, NewArray, NewObjectArray, GetObjectArrayElement, SetObjectArrayElement, NewStringUTF, Throw, ThrowNew, ExceptionOccurred, ExceptionCheck, ExceptionClear, FatalError, MonitorEnter, MonitorExit, GetArrayRegion, SetArrayRegion, GetStringRegion, GetStaticMethodID, CallStaticVoidMethod, CallStaticIntMethod, CallStaticObjectMethod}
+use Rattle.semantics.specs.Method.{find_method}
+use Rattle.monitors.specs.declared.monitors.Monitor.{Monitor}
+use Rattle.monitors.specs.Monitors.{entering, leaving, monitor_of}
+use Rattle.machine_answers.specs.declared.answer.Given.TheVariants.{Nothing, Number, Reference}
+use Rattle.machine_answers.specs.declared.answer.Answer.{Answer}
+use Rattle.machine_answers.specs.declared.answer.Answer.TheVariants.{Gives, Makes, Raises, Pends, Halts, Pops, MakesGlobal, MakesWeak, Calls}
+use Rattle.machine_scenes.specs.declared.array_region.ArrayRegion.{ArrayRegion}
+use Rattle.machine_scenes.specs.declared.new_object.New.TheVariants.{Fresh, Text}
+use Rattle.machine_scenes.specs.Scenes.{Scene}
+use Rattle.semantics.specs.declared.trap.Trap.TheVariants.{Fatal}
+use Rattle.machine_scenes.specs.Given.{key_at, operand_of, class_of_given, name_there, fits_there}
+use Rattle.machine_answers.specs.WorkedOut.{count_there, class_object, found_class, IsFoundField, IsFoundMethod, room_for, frame_for, deletes, deletes_global, deletes_weak, value_there, word_in, address_in, held_reference, writes_there, top_word, new_array, index_there, element_there, stores_there, stack_number, copies_out, copies_in, acquires, mode_of, releases, entered_by, left_by}
+use Rattle.machine_answers.specs.WorkedOut as at
+
+-- a thread enters the monitor of the object at an address
+abbrev pub enters : Space → List Monitor → (thread : ℕ) → Option ℕ → Answer
+enters space monitors thread None = Gives Nothing
+enters space monitors thread (Some a) =
+    entered_by (record { name = name_there space (Some a); address = a }) (entering thread (monitor_of monitors (name_there space (Some a))))
+
+-- a thread leaves it
+abbrev pub leaves : Space → List Monitor → (thread : ℕ) → Option ℕ → Answer
+leaves space monitors thread None = Gives Nothing
+leaves space monitors thread (Some a) = left_by (name_there space (Some a)) (leaving thread (monitor_of monitors (name_there space (Some a))))
+
+-- A call that sees this.
+module _ (scene : Scene) (call : Call) where
+  abbrev reference : ℕ → Option ℕ
+  reference = at.reference scene call
+
+  abbrev place : ℕ
+  place = at.place scene call
+
+  abbrev declaring : Option ℕ
+  declaring = at.declaring scene call
+
+  abbrev place_of_static : ℕ
+  place_of_static = at.place_of_static scene call
+
+  abbrev local_array : LocalArray
+  local_array = at.local_array scene call
+
+  abbrev region : Option ArrayRegion
+  region = at.region scene call
+
+  -- a text of the call
+  abbrev pub text : ℕ → List ℕ
+  text i = unwrap_or (slice_get call.texts i) []
+
+  -- how a cell of this type holds the word on the stack
+  abbrev pub stored : ElementType → Value
+  stored T = value.Number (element_word (element_of T) (top_word scene.stack))
+
+  -- the answer of a function that finds no field and no method
+  abbrev pub worked_out : JniFunction → Answer
+  worked_out FindClass = found_class scene.loaded (class_named scene.classes (text 0))
+  worked_out GetSuperclass = Gives (Reference (class_object scene.loaded (superclass scene.classes (name_there scene.space (reference 0)))))
+  worked_out GetObjectClass = Gives (Reference (class_object scene.loaded (Some (class_of_given scene.space (reference 0)))))
+  worked_out IsInstanceOf = Gives (Number (truth_word (fits_there scene.classes scene.space (reference 0) (name_there scene.space (reference 1)))))
+  worked_out IsAssignableFrom = Gives (Number (truth_word (assignable scene.classes
+      (name_there scene.space (reference 0)) (name_there scene.space (reference 1)))))
+  worked_out AllocObject = Makes (Fresh (class_id (name_there scene.space (reference 0))))
+  worked_out NewLocalRef = Gives (Reference (reference 0))
+  worked_out NewGlobalRef = MakesGlobal (reference 0)
+  worked_out NewWeakGlobalRef = MakesWeak (reference 0)
+  worked_out DeleteGlobalRef = deletes_global scene.references (operand_of call.operands 0)
+  worked_out DeleteWeakGlobalRef = deletes_weak scene.references (operand_of call.operands 0)
+  worked_out DeleteLocalRef = deletes (key_at scene.references (operand_of call.operands 0))
+  worked_out IsSameObject = Gives (Number (truth_word (name_there scene.space (reference 0) == name_there scene.space (reference 1))))
+  worked_out EnsureLocalCapacity = room_for (stack_number scene.stack)
+  worked_out PushLocalFrame = frame_for (stack_number scene.stack)
+  worked_out PopLocalFrame = Pops (reference 0)
+  worked_out (GetField T) = Gives (Number (word_in (value_there scene.space (reference 0) place)))
+  worked_out (SetField T) = writes_there scene.space (reference 0) place (stored T)
+  worked_out GetObjectField = Gives (Reference (address_in (value_there scene.space (reference 0) place)))
+  worked_out SetObjectField = writes_there scene.space (reference 0) place (held_reference (reference 2))
+  worked_out (GetStaticField T) = Gives (Number (word_in (value_there scene.space declaring place_of_static)))
+  worked_out (SetStaticField T) = writes_there scene.space declaring place_of_static (stored T)
+  worked_out GetStaticObjectField = Gives (Reference (address_in (value_there scene.space declaring place_of_static)))
+  worked_out SetStaticObjectField = writes_there scene.space declaring place_of_static (held_reference (reference 2))
+  worked_out GetArrayLength = Gives (Number (count_there scene.space (reference 0)))
+  worked_out (NewArray T) = new_array (number_array T) (stack_number scene.stack) (value.Number 0)
+  worked_out NewObjectArray = new_array (unwrap_or (array_class_of scene.classes
+      (name_there scene.space (reference 1))) 0) (stack_number scene.stack) (held_reference (reference 2))
+  worked_out GetObjectArrayElement = element_there scene.space (reference 0) (index_there scene.space (reference 0) (stack_number scene.stack))
+  worked_out SetObjectArrayElement = stores_there scene.space (reference 0) (at.fits_element scene call)
+      (index_there scene.space (reference 0) (stack_number scene.stack)) (held_reference (reference 2))
+  worked_out NewStringUTF = Makes (Text 0)
+  worked_out GetStringLength = Gives (Number (count_there scene.space (reference 0)))
+  worked_out (GetArrayRegion T) = copies_out array_index_out_of_bounds local_array region
+  worked_out (SetArrayRegion T) = copies_in array_index_out_of_bounds local_array region
+  worked_out GetStringRegion = copies_out string_index_out_of_bounds local_array region
+  worked_out (GetBuffer access) = acquires access (reference 0)
+  worked_out (ReleaseBuffer access) = releases scene.buffers (reference 0) (operand_of call.operands 1) (mode_of access (operand_of call.operands 2))
+  worked_out Throw = Pends (reference 0) (Number 0)
+  worked_out ThrowNew = Raises (class_id (name_there scene.space (reference 0))) 0
+  worked_out ExceptionOccurred = Gives (Reference scene.pending)
+  worked_out ExceptionCheck = Gives (Number (truth_word (is_some scene.pending)))
+  worked_out ExceptionClear = Pends None Nothing
+  worked_out FatalError = Halts Fatal
+  worked_out MonitorEnter = enters scene.space scene.monitors scene.thread (reference 0)
+  worked_out MonitorExit = leaves scene.space scene.monitors scene.thread (reference 0)
+  worked_out CallStaticVoidMethod = Calls
+  worked_out CallStaticIntMethod = Calls
+  worked_out CallStaticObjectMethod = Calls
+  worked_out f = Gives Nothing
+
+  -- what is worked out of a call of a function
+  abbrev pub IsWorkedOut : JniFunction → Answer → Type 0
+  IsWorkedOut GetFieldID answer = IsFoundField scene.classes (find_field scene.classes (name_there scene.space (reference 0)) (text 0) (text 1)) answer
+  IsWorkedOut GetStaticFieldID answer = IsFoundField scene.classes (find_static scene.classes (name_there scene.space (reference 0)) (text 0) (text 1)) answer
+  IsWorkedOut GetStaticMethodID answer =
+      IsFoundMethod scene.unit scene.classes (find_method scene.unit scene.classes (name_there scene.space (reference 0)) (text 0) (text 1)) answer
+  IsWorkedOut f answer = answer ≡ worked_out f
