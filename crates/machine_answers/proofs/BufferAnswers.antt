@@ -32,7 +32,8 @@ use Rattle.machine_answers.specs.Answers.{IsAnswer, IsCopyAcquired}
 use Rattle.machine_answers.specs.Answers as row
 use Rattle.machine_answers.specs.WorkedOut.{acquires, releases}
 use Rattle.machine_answers.proofs.CallOperands.{GivenObject}
-use Rattle.machine_answers.proofs.TwoCalls.{TwoCalls, Passes, unit, references, fields, all, brought, Asked, Works, Does, object_given_at, object_there}
+use Rattle.machine_answers.specs.Answered.{TwoCalls, Passes, unit, brought, Asked, Does}
+use Rattle.machine_answers.proofs.TwoCalls.{references, fields, all, Works, object_given_at, object_there}
 
 module _ (both : TwoCalls) where
   open both use {p, w, store, pending, activation, call, others, k, shared, s, target, sound, args}

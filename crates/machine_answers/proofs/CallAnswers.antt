@@ -41,7 +41,6 @@ use Rattle.machine_answers.specs.declared.answer.Given.TheVariants as given
 use Rattle.machine_answers.specs.Answers as row
 use Rattle.machine_answers.specs.Sights.{class_object_seen, deleted_seen, name_seen, trap_seen}
 use Rattle.machine_answers.specs.WorkedOut.{IsFoundField, IsFoundMethod, address_in, class_object, deletes, deletes_global, deletes_weak, element_there, frame_for, held_reference, index_there, new_array, room_for, stores_there, value_there, word_in, writes_there}
-use Rattle.machine_answers.specs.Answered.{IsAnswerTo, SourceCall}
 use Rattle.machine_answers.proofs.WorkedOut as worked
 use Rattle.machine_answers.proofs.WorkedOut.{IsWorkedOut}
 use Rattle.machine_answers.proofs.CallOperands.{own_making, super_known}
@@ -49,16 +48,16 @@ use Rattle.machine_answers.proofs.CallTraps.{has_passed, same_pending}
 use Rattle.machine_answers.proofs.LongTables.{class_is_no_throwable, class_is_plain}
 use Rattle.machine_answers.proofs.SightParts.{name_is}
 use Rattle.machine_answers.proofs.TrapsSeen.{fits_one}
-use Rattle.machine_answers.proofs.TwoCalls.{TwoCalls, Asked, Passes, Works, Does, at, built_in_class, class_given, fields, method_error, object_given_at, references, table_of, unit}
-use Rattle.machine_answers.proofs.KindAnswers.{Stands, array_made, back, class_agrees, class_found, class_of_first, counted, does, element_read, element_written, ensured, field_found, first_name, global_deleted, held_agrees, holder, index_is, local_deleted, method_found, named, of_call, number_read, own_key, pending_named, place_is, pushed, reference_read, same_names, scene, sight, stands, static_named, stored, there, top_number, weak_deleted, written}
+use Rattle.machine_answers.specs.Answered.{IsAnswerTo, TwoCalls, Asked, Passes, Does, unit, scene}
+use Rattle.machine_answers.proofs.TwoCalls.{Works, at, built_in_class, class_given, fields, method_error, object_given_at, references, table_of}
+use Rattle.machine_answers.proofs.KindAnswers.{Stands, array_made, back, class_agrees, class_found, class_of_first, counted, does, element_read, element_written, ensured, field_found, first_name, global_deleted, held_agrees, holder, index_is, local_deleted, method_found, named, of_call, number_read, own_key, pending_named, place_is, pushed, reference_read, same_names, sight, stands, static_named, stored, there, top_number, weak_deleted, written}
 use Rattle.machine_answers.proofs.RegionAnswers.{numbers_are, region_given, region_read, region_written}
 use Rattle.machine_answers.proofs.BufferAnswers.{answers_get_buffer, answers_release}
 use Rattle.machine_answers.proofs.MethodAnswers.{method_called}
 use Rattle.machine_answers.proofs.MonitorAnswers.{answers_enter, answers_exit}
 
-module _ (p : Lowered) (w : World) (store : Store) (pending : Option ℕ) (activation : Activation) (call : Call) (others : Acquired) (k owner : ℕ) (shared : Shared) (s : Thread) (target : Target) (sound : IsSound w) (args : List Actual) where
-  abbrev both : TwoCalls
-  both = record { p = p; w = w; sound = sound; store = store; pending = pending; activation = activation; call = call; others = others; k = k; owner = owner; shared = shared; s = s; target = target; args = args }
+module _ (both : TwoCalls) where
+  open both use {p, w, store, pending, activation, call, others, k, owner, shared, s, target, sound, args}
 
   -- the name of the object of an argument
   name : (i : ℕ) → name_there store.heap (at both i) ≡ name_or_zero (name_seen store.heap (at both i))
@@ -243,10 +242,6 @@ module _ (p : Lowered) (w : World) (store : Store) (pending : Option ℕ) (activ
   seen CallStaticIntMethod h free answer is = stands both is (back both CallStaticIntMethod h (method_called both CallStaticIntMethod refl h free))
   seen CallStaticObjectMethod h free answer is = stands both is (back both CallStaticObjectMethod h (method_called both CallStaticObjectMethod refl h free))
 
-  -- so it is what the call does
-  stands_for : (f : JniFunction) → Asked both f → Passes both → (answer : Answer) → Works both f answer → Does both f answer
-  stands_for f h free answer is = does both f h (seen f h free answer is)
-
 -- the key that is deleted
 key_deleted : (o : Option ℕ) (answer : Answer) → answer ≡ deletes o → (key : ℕ) → answer ≡ Deletes key → o ≡ Some key
 key_deleted None answer is key same = absurd (let clash : Gives given.Nothing ≡ Deletes key = sym is ∙ same in cc)
@@ -260,53 +255,14 @@ method_called_so scene call CallStaticObjectMethod answer calls is = is
 method_called_so scene call f answer calls is = absurd (cc)
 
 -- what is worked out is the answer to a call
-pub answers : (scene : Scene) (call : Call) (answer : Answer) → IsWorkedOut scene call call.function answer → IsAnswerTo scene call answer
+pub answers : (sees : Scene) (call : Call) (answer : Answer) → IsWorkedOut sees call call.function answer → IsAnswerTo sees call answer
 unfolding IsAnswerTo
-answers scene call answer is = record {
-  stands = λ (it : SourceCall scene call).
-      stands_for it.p it.w it.store it.pending it.activation call it.others it.k it.owner it.shared it.s it.target it.sound it.args call.function it.asked
-      (subst (λ (x : Scene). trap_seen x it.activation.locals call ≡ None) it.seen it.passes) answer
-      (subst (λ (x : Scene). IsWorkedOut x call call.function answer) it.seen is);
-  ends = λ one. key_deleted _ answer (subst (λ (f : JniFunction). IsWorkedOut scene call f answer) one is);
-  calls = λ calls. method_called_so scene call call.function answer calls is;
+answers sees call answer is = record {
+  stands = λ both f same here h free.
+      does both f h
+      (seen both f h free answer
+      (subst (λ (g : JniFunction). Works both g answer) h.same_function
+      (subst (λ (x : Scene). IsWorkedOut x both.call both.call.function answer) (sym same) (subst (λ (c : Call). IsWorkedOut sees c c.function answer) (sym here) is))));
+  ends = λ one. key_deleted _ answer (subst (λ (f : JniFunction). IsWorkedOut sees call f answer) one is);
+  calls = λ calls. method_called_so sees call call.function answer calls is;
 }
-
--- the same of an answer that there may be
-pub answers_if : {A : Type 0} (answer : A → Answer) (sees : Scene) (call : Call) (o : Option A) → IfSome o (λ x. IsWorkedOut sees call call.function (answer x)) → IfSome o (λ x. IsAnswerTo sees call (answer x))
-answers_if answer sees call None is = is
-answers_if answer sees call (Some x) is = answers sees call (answer x) is
-
--- what the answer to a call stands for
-module _ (both : TwoCalls) (f : JniFunction) (h : Asked both f) (answer : Answer) (given : IsAnswerTo (scene both) both.call answer) where
-  pub answered : Passes both → Does both f answer
-  unfolding IsAnswerTo
-  answered free =
-      subst (λ (g : JniFunction). Does both g answer) h.same_function
-      (given.stands (record {
-        p = both.p;
-        w = both.w;
-        store = both.store;
-        pending = both.pending;
-        activation = both.activation;
-        others = both.others;
-        k = both.k;
-        owner = both.owner;
-        shared = both.shared;
-        s = both.s;
-        target = both.target;
-        args = both.args;
-        sound = both.sound;
-        seen = refl;
-        asked = of_call both f h;
-        passes = free;
-      }))
-
-  -- the key that it deletes
-  pub ended : f ≡ DeleteLocalRef → (key : ℕ) → answer ≡ Deletes key → key_at (references both) (operand_of both.call.operands 0) ≡ Some key
-  unfolding IsAnswerTo
-  ended one = given.ends (h.same_function ∙ one)
-
-  -- it calls a method
-  pub called : calls_method f ≡ true → answer ≡ Calls
-  unfolding IsAnswerTo
-  called calls = given.calls (ap calls_method h.same_function ∙ calls)

@@ -63,17 +63,15 @@ use Rattle.machine_answers.proofs.FieldValues.{reference_there, word_there, writ
 use Rattle.machine_answers.proofs.SightParts.{name_seen_is, object_there_is}
 use Rattle.machine_answers.proofs.SightPlaces.{word_there as number_word}
 use Rattle.machine_answers.proofs.SightsAgree.{Place, There, Past, held_is, place_at, sights_agree, static_given}
-use Rattle.machine_answers.proofs.TwoCalls.{TwoCalls, Asked, Passes, Does, agrees, all, at, brought, built_in_class, fields, object_of, references, table_of, unit}
+use Rattle.machine_answers.specs.Answered.{TwoCalls, Asked, Passes, Does, brought, unit, scene}
+use Rattle.machine_answers.proofs.TwoCalls.{agrees, all, at, built_in_class, fields, object_of, references, table_of}
 
 module _ (both : TwoCalls) where
   open both use {p, w, store, pending, activation, call, others, k, owner, shared, s, target, sound, args}
 
-  abbrev pub scene : Scene
-  scene = scene_of (unit both) w.classes store activation k pending
-
   -- what a call of a function sees
   abbrev pub sight : JniFunction → CallSight
-  sight f = call_seen scene activation.locals (length s.callers) (record call { function = f })
+  sight f = call_seen (scene both) activation.locals (length s.callers) (record call { function = f })
 
   -- an answer in memory stands for this one
   abbrev pub Stands : Answer → ResultKind → source.Answer → Type 0
@@ -144,7 +142,7 @@ module _ (both : TwoCalls) where
             number = number.0;
             fits = number.2;
             there = ap (λ (ws : List ℕ). slice_get ws 0) h.words ∙ ap (slice_get (words_given args)) (sym last)
-                ∙ number_word scene i (parameters_for f (length args)) call.operands args number.0 h.fit h.given (at_a ∙ ap (λ (x : Actual). Some x) number.1);
+                ∙ number_word (scene both) i (parameters_for f (length args)) call.operands args number.0 h.fit h.given (at_a ∙ ap (λ (x : Actual). Some x) number.1);
           }
       by_place (Past at_p at_o at_a) = absurd (let e : None ≡ Some IntNumber = sym at_p ∙ is in cc)
 

@@ -19,7 +19,8 @@ use Rattle.machine_answers.specs.Answers.{IsAnswer}
 use Rattle.machine_answers.specs.Answers as row
 use Rattle.machine_answers.proofs.CallChecks.{method_at_place}
 use Rattle.machine_answers.proofs.CallTraps.{goes_together}
-use Rattle.machine_answers.proofs.TwoCalls.{TwoCalls, Passes, brought, Asked, Does, fields, references, unit}
+use Rattle.machine_answers.specs.Answered.{TwoCalls, Passes, brought, Asked, Does, unit}
+use Rattle.machine_answers.proofs.TwoCalls.{fields, references}
 
 -- both of two hold
 both_hold : (a b : Bool) → (a && b) ≡ true → (a ≡ true) × (b ≡ true)

@@ -32,7 +32,8 @@ use Rattle.machine_answers.proofs.CallOperands.{same_number}
 use Rattle.machine_answers.proofs.CallTraps.{seen_is}
 use Rattle.machine_answers.proofs.TrapsSeen.{with_depth}
 use Rattle.machine_answers.proofs.WorkedOut.{enters, leaves}
-use Rattle.machine_answers.proofs.TwoCalls.{TwoCalls, Passes, brought, Asked, Works, Does, built_in_class, object_given_at, object_there}
+use Rattle.machine_answers.specs.Answered.{TwoCalls, Passes, brought, Asked, Does}
+use Rattle.machine_answers.proofs.TwoCalls.{Works, built_in_class, object_given_at, object_there}
 
 module _ (both : TwoCalls) where
   open both use {p, w, store, pending, activation, call, others, k, owner, shared, s, target, sound, args}

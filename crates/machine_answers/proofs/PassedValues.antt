@@ -26,7 +26,8 @@ use Rattle.machine_answers.specs.Passed.{passed_in}
 use Rattle.machine_answers.specs.WorkedOut.{held_reference}
 use Rattle.machine_answers.proofs.CallChecks.{by_argument}
 use Rattle.machine_answers.proofs.CallOperands.{no_number, wordless}
-use Rattle.machine_answers.proofs.TwoCalls.{TwoCalls, Asked, references, fields, unit}
+use Rattle.machine_answers.specs.Answered.{TwoCalls, Asked, unit}
+use Rattle.machine_answers.proofs.TwoCalls.{references, fields}
 
 -- ---- words in order
 

@@ -41,7 +41,8 @@ use Rattle.machine_answers.proofs.FieldValues.{values_there}
 use Rattle.machine_answers.proofs.KindAnswers.{Stands, count_seen, first_name, raised, stands, top_number}
 use Rattle.machine_answers.proofs.RegionOperands.{GivenArray, array_numbers, numbers_alone, slots_there, words_brought, words_there, local_array as given_array}
 use Rattle.machine_answers.proofs.SightParts.{object_there_is}
-use Rattle.machine_answers.proofs.TwoCalls.{TwoCalls, Passes, Asked, all, at, fields, object_given_at, object_of, references, unit}
+use Rattle.machine_answers.specs.Answered.{TwoCalls, Passes, Asked, unit}
+use Rattle.machine_answers.proofs.TwoCalls.{all, at, fields, object_given_at, object_of, references}
 
 module _ (both : TwoCalls) where
   open both use {p, w, store, pending, activation, call, others, k, owner, shared, s, target, sound, args}

@@ -43,29 +43,10 @@ use Rattle.machine_scenes.proofs.BlocksOfNames.{Named, named}
 use Rattle.machine_answers.proofs.CallTraps.{none_deleted, none_lacking, none_unfit}
 use Rattle.machine_answers.proofs.LongTables.{classes_loaded, grown_long}
 use Rattle.machine_answers.proofs.CallOperands.{GivenObject, class_object_is, object_at_place, is_class}
-
--- a call that the machine makes in thread k, in its call of this number, and the source's
-pub record TwoCalls : Type 0 where
-  pub p : Lowered
-  pub w : World
-  pub sound : IsSound w
-  pub store : Store
-  pub pending : Option ℕ
-  pub activation : Activation
-  pub call : Call
-  pub others : Acquired
-  pub k : ℕ
-  pub owner : ℕ
-  pub shared : Shared
-  pub s : Thread
-  pub target : Target
-  pub args : List Actual
+use Rattle.machine_answers.specs.Answered.{TwoCalls, Asked, Passes, scene, unit}
 
 module _ (both : TwoCalls) where
   open both use {p, w, store, pending, activation, call, others, k, owner, shared, s, target, sound, args}
-
-  abbrev pub unit : SourceUnit
-  unit = unit_tree p.unit
 
   abbrev pub references : References
   references = references_of store activation
@@ -77,39 +58,21 @@ module _ (both : TwoCalls) where
   abbrev pub all : Acquired
   all = beside others (acquired_by s)
 
-  abbrev pub in_use : BuffersInUse
-  in_use = in_use_of all
-
-  abbrev pub brought : Brought
-  brought = brought_by unit store activation k owner in_use call args
-
-  -- what is asked of function f
-  abbrev pub Asked : JniFunction → Type 0
-  Asked f = IsAsked p w store pending activation call others k owner shared s target f args
-
-  -- no check stops the call, but perhaps that of how deep calls are
-  abbrev pub Passes : Type 0
-  Passes = trap_seen (scene_of unit w.classes store activation k pending) activation.locals call ≡ None
-
   -- what is worked out for it
   abbrev pub Works : JniFunction → Answer → Type 0
-  Works f answer = IsWorkedOut (scene_of unit w.classes store activation k pending) call f answer
-
-  -- the answer stands for what the source's call answers
-  abbrev pub Does : JniFunction → Answer → Type 0
-  Does f answer = IsAnswer w.classes brought store.heap activation.locals shared s answer (prototype f).result (call_answer unit w.classes k (sight_of_call shared s f args) f)
+  Works f answer = IsWorkedOut (scene both) call f answer
 
   abbrev pub at : (i : ℕ) → Option ℕ
   at i = operand_at references (operand_of call.operands i)
 
-  pub agrees : (f : JniFunction) → Asked f → (i : ℕ) → ReferenceAgrees store.heap (at i) (reference_given args i)
-  agrees f h i = reference_at_place unit w.classes store.heap references fields call.operands args i h.given
+  pub agrees : (f : JniFunction) → Asked both f → (i : ℕ) → ReferenceAgrees store.heap (at i) (reference_given args i)
+  agrees f h i = reference_at_place (unit both) w.classes store.heap references fields call.operands args i h.given
 
-  pub table_of : (f : JniFunction) → Asked f → (c : ℕ) → 0 < c → c ≤ length w.classes → ReferenceAgrees store.heap (class_object store.loaded.items (Some c)) (Some c)
+  pub table_of : (f : JniFunction) → Asked both f → (c : ℕ) → 0 < c → c ≤ length w.classes → ReferenceAgrees store.heap (class_object store.loaded.items (Some c)) (Some c)
   table_of f h c low high = class_object_is store.heap store.loaded.items (length (loaded_objects w)) c h.store_agrees.table low (omega (arith, high, classes_loaded w))
 
   -- the object of a name that a block has
-  pub object_of : (f : JniFunction) → Asked f → (a n : ℕ) → name_at store.heap a ≡ Some n → (o : Object) × (object_at shared.heap n ≡ Some o)
+  pub object_of : (f : JniFunction) → Asked both f → (a n : ℕ) → name_at store.heap a ≡ Some n → (o : Object) × (object_at shared.heap n ≡ Some o)
   object_of f h a n there =
       let object : Named store.heap shared.heap a n = named store.heap shared.heap a n h.store_agrees.heap there in
       (object.agrees.object, ap (object_at shared.heap) (sym object.birth) ∙ object.agrees.is)
@@ -127,27 +90,27 @@ module _ (both : TwoCalls) where
   method_error has = record { low = omega arith; high = (class_known w.classes no_such_method_error has.class has.there).1; no_class = λ e. let is : 43 ≡ 2 = e in omega (arith, is) }
 
   -- the object of argument i
-  pub object_given_at : (f : JniFunction) (before : List ParameterKind) (q : ParameterKind) (after : List ParameterKind) → IsReferenceKind q → may_be_null q ≡ false → parameters_for f (length args) ≡ before ++ q ∷ after → Asked f
-      → Passes → GivenObject unit w.classes store.heap references fields call.operands args (length before)
+  pub object_given_at : (f : JniFunction) (before : List ParameterKind) (q : ParameterKind) (after : List ParameterKind) → IsReferenceKind q → may_be_null q ≡ false → parameters_for f (length args) ≡ before ++ q ∷ after → Asked both f
+      → Passes both → GivenObject (unit both) w.classes store.heap references fields call.operands args (length before)
   object_given_at f before q after kind never are h free =
-      object_at_place unit w.classes store.heap references fields before q after kind never call.operands args (subst (λ (l : List ParameterKind). AllZip OperandFits l call.operands) are h.kinds) h.given
+      object_at_place (unit both) w.classes store.heap references fields before q after kind never call.operands args (subst (λ (l : List ParameterKind). AllZip OperandFits l call.operands) are h.kinds) h.given
       (none_deleted p w store pending activation call others k owner shared s target f args h free)
       (subst (λ (l : List ParameterKind). some_missing references fields l call.operands ≡ false) are (none_lacking p w store pending activation call others k owner shared s target f args h free))
 
-  pub object_there : (g : GivenObject unit w.classes store.heap references fields call.operands args 0) → name_at store.heap g.address ≡ Some (object_given args 0)
+  pub object_there : (g : GivenObject (unit both) w.classes store.heap references fields call.operands args 0) → name_at store.heap g.address ≡ Some (object_given args 0)
   object_there g = g.named ∙ ap (λ (q : Reference). Some (name_or_zero q)) (sym g.is)
 
   -- the class that argument i is
-  pub class_given : (f : JniFunction) (before after : List ParameterKind) → parameters_for f (length args) ≡ before ++ ClassObject ∷ after → Asked f → Passes
+  pub class_given : (f : JniFunction) (before after : List ParameterKind) → parameters_for f (length args) ≡ before ++ ClassObject ∷ after → Asked both f → Passes both
       → let n = name_or_zero (name_seen store.heap (at (length before))) in (0 < n) × (n ≤ length w.classes)
   class_given f before after are h free =
       let given = object_given_at f before ClassObject after tt refl are h free in
       let object = object_of f h given.address given.name given.named in
       let class : class_of shared.heap given.name ≡ object.0.class = ap (λ (o : Option Object). option_map_or (λ (x : Object). x.class) o 0) object.1 in
-      let of_class : class_there store.heap given.address ≡ class_class = is_class unit w.classes store.heap references fields before after call.operands given.address given.at
+      let of_class : class_there store.heap given.address ≡ class_class = is_class (unit both) w.classes store.heap references fields before after call.operands given.address given.at
       (subst (λ (l : List ParameterKind). AllZip OperandFits l call.operands) are h.kinds)
       (subst (λ (l : List ParameterKind). some_misfit w.classes store.heap references l call.operands ≡ false) are (none_unfit p w store pending activation call others k owner shared s target f args h free)) in
-      let same : object.0.class ≡ class_class = sym class ∙ sym (class_is unit w.classes store.heap references fields shared.heap h.store_agrees.heap.blocks given.address given.name given.named) ∙ of_class in
+      let same : object.0.class ≡ class_class = sym class ∙ sym (class_is (unit both) w.classes store.heap references fields shared.heap h.store_agrees.heap.blocks given.address given.name given.named) ∙ of_class in
       let name : name_or_zero (name_seen store.heap (at (length before))) ≡ given.name = ap (λ (o : Option ℕ). name_or_zero (name_seen store.heap o)) given.at ∙ ap name_or_zero given.named in
       let low = low_name given.name object.0 object.1 in
       let high : given.name ≤ length w.classes = (h.typed.objects given.name object.0 object.1).of_class same in

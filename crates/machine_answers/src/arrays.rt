@@ -31,7 +31,7 @@ use machine_scenes::scene::Scene;
 
 /// What a function does that works on arrays or strings.
 #[inline(always)]
-#[tactic(auto, using(crate::proofs::CallAnswers::answers))]
+#[tactic(auto, using(crate::proofs::CallAnswers::answers, std::proofs::lemmas::Grind::common_steps))]
 pub(crate) fn work_out_array(scene: &Scene<'_>, call: &Call) -> Answer
     requires subject { subject_of (function_value call.now.function) ≡ subject.Arrays }
     requires objects { AreAddresses scene.now.heap.now scene.now.references call.now.operands.items }

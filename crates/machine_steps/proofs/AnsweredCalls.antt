@@ -34,8 +34,7 @@ use Rattle.semantics_safety.specs.Owners.{Owners}
 use Rattle.machine_steps.specs.Executes.{cells_made, in_use_with}
 use Rattle.machine_scenes.specs.Buffers.{Acquired}
 use Rattle.machine_steps.specs.Invoked.{AtCall, IsAnswered, is_halt}
-use Rattle.machine_answers.proofs.CallAnswers.{answered as stands_so, called as calls_so}
-use Rattle.machine_answers.proofs.TwoCalls.{TwoCalls}
+use Rattle.machine_answers.specs.Answered.{IsAnswerTo, TwoCalls}
 use Rattle.machine_calls.proofs.AnswerCases.{halted as halted_so}
 use Rattle.machine_calls.proofs.CellsMade.{cells_made as cells_answered}
 use Rattle.machine_steps.proofs.AskedCalls.{CalledAs, called, effect_is, cells_wanted, r, possible, trap_is, two_calls}
@@ -73,11 +72,12 @@ module _ (p : Lowered) (w : World) (store : Store) (pending : Option ℕ) (call 
 
   -- it calls no method
   no_method : calls_method it.f ≡ false
+  unfolding IsAnswerTo
   no_method = by_method (calls_method it.f) refl
     where
       by_method : (b : Bool) → calls_method it.f ≡ b → calls_method it.f ≡ false
       by_method false is = is
-      by_method true is = absurd (subst IsNoCall (calls_so both it.f it.asked answer given.works is) own_answer)
+      by_method true is = absurd (subst IsNoCall (given.works.calls (ap calls_method it.asked.same_function ∙ is)) own_answer)
 
   -- no check stops the source's
   pub free : trap_of_call w.classes shared s it.target it.f it.args ≡ None
@@ -99,9 +99,10 @@ module _ (p : Lowered) (w : World) (store : Store) (pending : Option ℕ) (call 
     kind_is = same ∙ ap (λ (f : JniFunction). (prototype f).result) it.asked.same_function
 
     pub answered : IsAnswer w.classes brings store.heap call.locals shared s answer kind told
+    unfolding IsAnswerTo
     answered =
         subst (λ (x : ResultKind). IsAnswer w.classes brings store.heap call.locals shared s answer x told) (sym kind_is)
-        (stands_so both it.f it.asked answer given.works given.free)
+        (given.works.stands both it.f refl refl it.asked given.free)
 
     pub can_carry : IsPossible p w store pending call.locals others shared s
     can_carry = possible p w store pending call function others k owner own shared s task rest h

@@ -32,7 +32,7 @@ use Rattle.code_meaning.specs.Slots.{Visible, visible_to}
 use Rattle.machine_scenes.specs.declared.store.Store.{Store}
 use Rattle.machine_scenes.specs.declared.activation.Activation.{Activation}
 use Rattle.machine_scenes.specs.Locals.{FramesAgree}
-use Rattle.machine_answers.proofs.TwoCalls.{TwoCalls}
+use Rattle.machine_answers.specs.Answered.{TwoCalls}
 use Rattle.machine_answers.specs.Asked.{IsAsked, IsKeyGiven, references_of}
 use Rattle.machine_scenes.specs.Statics.{all_held}
 use Rattle.machine_calls.specs.CarriedOut.{IsPossible}

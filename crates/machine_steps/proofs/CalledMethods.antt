@@ -23,7 +23,7 @@ use Rattle.machine_answers.proofs.CallTraps.{free_seen}
 use Rattle.machine_answers.proofs.LongTables.{classes_loaded}
 use Rattle.machine_answers.proofs.MethodAnswers.{CalledMethod, called_method}
 use Rattle.machine_answers.proofs.PassedValues.{values_passed}
-use Rattle.machine_answers.proofs.TwoCalls.{TwoCalls}
+use Rattle.machine_answers.specs.Answered.{TwoCalls}
 use Rattle.machine_answers.specs.Asked.{references_of}
 use Rattle.machine_answers.specs.Passed.{passed_in}
 use Rattle.machine_scenes.specs.Buffers.{Acquired}

@@ -5,7 +5,7 @@ use Rattle.code.specs.Call.{call_view}
 use Rattle.code.specs.declared.instr.Call.{Call}
 use Rattle.code_meaning.specs.Lowered.{Lowered}
 use Rattle.jni.specs.JniFunction.{calls_method, prototype}
-use Rattle.machine_answers.proofs.CallAnswers.{answered}
+use Rattle.machine_answers.specs.Answered.{IsAnswerTo}
 use Rattle.machine_answers.specs.Answers.{IsAnswer}
 use Rattle.machine_calls.proofs.AnswerCases.{called as called_so}
 use Rattle.machine_answers.specs.Asked.{brought_by}
@@ -58,11 +58,12 @@ module _ (p : Lowered) (w : World) (store : Store) (pending : Option ℕ) (call 
       omega (arith, longer)
 
   method_is : (b : Bool) → calls_method it.f ≡ b → calls_method it.f ≡ true
+  unfolding IsAnswerTo
   method_is true is = is
   method_is false is =
       let free = trap_now ∙ ap (λ (m : Bool). with_depth (m && nat_le 64 (length s.callers + 1)) None) is in
       let a : IsAnswer w.classes (brought_by (unit_tree p.unit) store call k owner (in_use_with others s) (call_view function) it.args) store.heap call.locals shared s answer.Calls (prototype it.f).result (call_answer (unit_tree p.unit) w.classes k (sight_of_call shared s it.f it.args) it.f) =
-      answered (two_calls p w store pending call function others k owner own shared s task rest h given.sound) it.f it.asked answer.Calls given.works given.free in
+      given.works.stands (two_calls p w store pending call function others k owner own shared s task rest h given.sound) it.f refl refl it.asked given.free in
       let entered = called_so a in
       absurd (none_entered is free entered.0 entered.1 entered.2)
 

@@ -23,9 +23,3 @@ returns-in-NewObjectArray c =
     answers (scene_view c.args.scene.now) (call_view c.args.call.now) c.new_array-in-NewObjectArray.result
     (subst (λ (f : JniFunction). IsWorkedOut (scene_view c.args.scene.now) (call_view c.args.call.now) (function_value f) c.new_array-in-NewObjectArray.result) (sym c.in-NewObjectArray.is)
     (c.new_array-in-NewObjectArray.ensures ∙ (λ i. new_array (class i) (number i) (element i))))
-
-pub returns-in-GetObjectArrayElement : goal.returns-in-GetObjectArrayElement
-returns-in-GetObjectArrayElement c = answers _ _ _ (search rules)
-
-pub returns-in-SetObjectArrayElement : goal.returns-in-SetObjectArrayElement
-returns-in-SetObjectArrayElement c = answers _ _ _ (search rules)
