@@ -5,3 +5,4 @@ pub mod SightLemmas
 pub mod BufferLemmas
 pub mod PassedLemmas
 mod WeakStatics
+pub mod NameLemmas

@@ -5,6 +5,7 @@
 mod buffers;
 mod given;
 mod method;
+mod name;
 mod operand;
 mod reduction;
 mod sight;
@@ -16,6 +17,7 @@ mod variable;
 pub use buffers::BuffersInUse;
 pub use given::{Given, Lent, is_zero, static_result};
 pub use method::{MethodId, passed};
+pub use name::is_same;
 pub use operand::Operand;
 pub use reduction::{Reduction, reduce};
 pub use sight::{Indexed, held_reference, number_in, place_in};

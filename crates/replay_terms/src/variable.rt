@@ -17,6 +17,7 @@ ghost use Rattle.replay_terms.specs.Views.{value_view, Takes, WritesContent, Wri
 
 use crate::buffers::{BuffersInUse, NOTHING, exchanged, taken};
 use crate::method::MethodId;
+use crate::name::is_same;
 use crate::value::{Value, convert};
 use classes::fields::FieldId;
 use indexmap::IndexMap;
@@ -265,22 +266,6 @@ const COMPARED: usize = 8;
 
 /// How many bytes a name has at most that is compared byte by byte; a longer one is looked up by its hash.
 const SHORT: usize = 16;
-
-/// Whether two names are the same, byte by byte.
-#[inline(always)]
-fn is_same(name: &[u8], other: &[u8]) -> bool
-    ensures { result ≡ bytes_eq name.now other.now }
-{
-    if name.len() != other.len() {
-        return false;
-    }
-    for place in 0..name.len() {
-        if name[place] != other[place] {
-            return false;
-        }
-    }
-    true
-}
 
 /// The place of the variable of this name. The first few are compared with a short name at once, since most calls have no more.
 fn place_of(contents: &IndexMap<&[u8], Content<'_>>, name: &[u8]) -> Option<usize>
