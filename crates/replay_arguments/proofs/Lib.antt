@@ -1,3 +1,4 @@
 mod FieldLemmas
+mod OperandLists
 pub mod PassedActuals
 mod CheckedCalls

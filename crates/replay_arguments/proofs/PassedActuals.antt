@@ -27,25 +27,18 @@ of_passed : {B C : Type 0} (g : ParameterKind × B → C) (args : List B) → ma
 of_passed g [] = refl
 of_passed {C = C} g (a ∷ args) = ap (λ (l : List C). g (Passed, a) ∷ l) (of_passed g args)
 
--- they are after the first two
-view_passed : {A B : Type 0} (view : A → B) (args : List A) → drop 2 (map view args) ≡ map view (drop 2 args)
-view_passed view [] = refl
-view_passed view (a ∷ []) = refl
-view_passed view (a ∷ b ∷ args) = refl
-
-by_test : {A B C : Type 0} (view : A → B) (g : ParameterKind × B → C) (args : List A) (b : Bool)
-    → map g (if b then map as_passed (drop 2 (map view args)) else []) ≡ (if b then map (λ a. g (Passed, a)) (map view (drop 2 args)) else [])
-by_test {B = B} view g args true = of_passed g (drop 2 (map view args)) ∙ ap (λ (l : List B). map (λ a. g (Passed, a)) l) (view_passed view args)
-by_test view g args false = refl
+by_test : {B C : Type 0} (g : ParameterKind × B → C) (args : List B) (b : Bool)
+    → map g (if b then map as_passed args else []) ≡ (if b then map (λ a. g (Passed, a)) args else [])
+by_test g args true = of_passed g args
+by_test g args false = refl
 
 -- what comes of all arguments comes of the function's own, and then of those that are passed
-pub of_all : {A B C : Type 0} (view : A → B) (g : ParameterKind × B → C) (f : JniFunction) (args : List A)
-    → map g (zip (parameters_for f (length (map view args))) (map view args))
-    ≡ map g (zip (prototype f).parameters (map view args)) ++ (if calls_method f then map (λ a. g (Passed, a)) (map view (drop 2 args)) else [])
-of_all {C = C} view g f args =
-    ap (map g) (arguments_parted f (map view args))
-    ∙ map-append g (zip (prototype f).parameters (map view args)) (if calls_method f then map as_passed (drop 2 (map view args)) else [])
-    ∙ ap (λ (l : List C). map g (zip (prototype f).parameters (map view args)) ++ l) (by_test view g args (calls_method f))
+pub of_all : {B C : Type 0} (g : ParameterKind × B → C) (f : JniFunction) (args : List B)
+    → map g (zip (parameters_for f (length args)) args) ≡ map g (zip (prototype f).parameters args) ++ (if calls_method f then map (λ a. g (Passed, a)) (drop 2 args) else [])
+of_all {C = C} g f args =
+    ap (map g) (arguments_parted f args)
+    ∙ map-append g (zip (prototype f).parameters args) (if calls_method f then map as_passed (drop 2 args) else [])
+    ∙ ap (λ (l : List C). map g (zip (prototype f).parameters args) ++ l) (by_test g (drop 2 args) (calls_method f))
 
 -- ---- what a method takes
 

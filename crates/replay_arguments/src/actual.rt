@@ -15,7 +15,7 @@ ghost use Rattle.semantics.specs.Task.{Given, NumberOperand, PassedName};
 ghost use Rattle.semantics.specs.Thread.{Shared as SharedOfThreads};
 ghost use Rattle.semantics.specs.Views.{mode_view, name_of, object_value_view};
 ghost use Rattle.replay_arguments.specs.Actuals.{actual_view, name_view, given_field};
-ghost use Rattle.replay_terms.specs.Views.{operand_view, held_view, method_view, term_view, variables_view};
+ghost use Rattle.replay_terms.specs.Views.{operand_ref_view, operands_view, held_view, method_view, term_view, variables_view};
 ghost use Rattle.replay_arguments.specs.Shares.{shared_view, sight_in};
 
 use crate::shared::Shared;
@@ -24,7 +24,7 @@ use classes::fields::FieldId;
 pub use jni::ReleaseMode;
 use jni::{JniFunction, ParameterKind};
 use replay_terms::{
-    Content, MethodId, Operand, StaticReference, Term, Value, Variables, as_reference,
+    Content, MethodId, OperandRef, Operands, StaticReference, Term, Value, Variables, as_reference,
     held_reference, passed,
 };
 use semantics::{Level, NO_OBJECT, ObjectId, ObjectValue};
@@ -54,11 +54,11 @@ pub fn actuals<'a>(
     shared: &Shared<'_>,
     variables: &Variables<'a>,
     function: JniFunction,
-    operands: &[Operand<'a>],
+    operands: &Operands<'a>,
 ) -> Result<Vec<Actual<'a>>, AllocError>
     ensures { IfOk result (λ args. map actual_view args.items
         ≡ actuals (sight_in (shared_view shared.now) variables.now) (function_value function)
-        (map operand_view operands.now)) }
+        (operands_view operands.now)) }
 {
     let mut actuals = Vec::new(alloc);
     push_actuals(
@@ -67,54 +67,63 @@ pub fn actuals<'a>(
         variables,
         function.prototype().parameters,
         operands,
+        0,
     )?;
     if !function.calls_method() {
         return Ok(actuals);
     }
-    push_passed(&mut actuals, shared, variables, passed(operands))?;
+    push_passed(&mut actuals, shared, variables, operands, 2)?;
     Ok(actuals)
 }
 
-/// Looks up the arguments for these parameters.
+/// Looks up the arguments for these parameters, from a place on.
 fn push_actuals<'a>(
     actuals: &mut Vec<Actual<'a>>,
     shared: &Shared<'_>,
     variables: &Variables<'a>,
     parameters: &[ParameterKind],
-    operands: &[Operand<'a>],
+    operands: &Operands<'a>,
+    place: usize,
 ) -> Result<(), AllocError>
     ensures { IfOk result (λ _. map actual_view actuals.new.items
         ≡ map actual_view actuals.old.items ++ map (look_up (sight_in (shared_view shared.now) variables.now))
-        (zip (map parameter_value parameters.entry.now) (map operand_view operands.entry.now))) }
+        (zip (map parameter_value parameters.entry.now) (drop place (operands_view operands.entry.now)))) }
 {
+    if place >= operands.count() {
+        return Ok(());
+    }
     match parameters {
         [] => Ok(()),
-        [parameter, parameters @ ..] => match operands {
-            [] => Ok(()),
-            [operand, operands @ ..] => {
+        [parameter, parameters @ ..] => match operands.get(place) {
+            None => Ok(()),
+            Some(operand) => {
                 actuals.push(look_up(shared, variables, *parameter, operand))?;
-                push_actuals(actuals, shared, variables, parameters, operands)
+                push_actuals(actuals, shared, variables, parameters, operands, place + 1)
             }
         },
     }
 }
 
-/// Looks up what a method is given.
+/// Looks up what a method is given, from a place on.
 fn push_passed<'a>(
     actuals: &mut Vec<Actual<'a>>,
     shared: &Shared<'_>,
     variables: &Variables<'a>,
-    operands: &[Operand<'a>],
+    operands: &Operands<'a>,
+    place: usize,
 ) -> Result<(), AllocError>
     ensures { IfOk result (λ _. map actual_view actuals.new.items
         ≡ map actual_view actuals.old.items ++ map (λ o. look_up (sight_in (shared_view shared.now) variables.now) (Passed, o))
-        (map operand_view operands.entry.now)) }
+        (drop place (operands_view operands.entry.now))) }
 {
-    match operands {
-        [] => Ok(()),
-        [operand, operands @ ..] => {
+    if place >= operands.count() {
+        return Ok(());
+    }
+    match operands.get(place) {
+        None => Ok(()),
+        Some(operand) => {
             actuals.push(look_up(shared, variables, ParameterKind::Passed, operand))?;
-            push_passed(actuals, shared, variables, operands)
+            push_passed(actuals, shared, variables, operands, place + 1)
         }
     }
 }
@@ -124,14 +133,14 @@ pub fn look_up<'a>(
     shared: &Shared<'_>,
     variables: &Variables<'a>,
     parameter: ParameterKind,
-    operand: &Operand<'a>,
+    operand: OperandRef<'_, 'a>,
 ) -> Actual<'a>
-    ensures { actual_view result ≡ look_up (sight_in (shared_view shared.now) variables.now) (parameter_value parameter, operand_view operand.now) }
+    ensures { actual_view result ≡ look_up (sight_in (shared_view shared.now) variables.now) (parameter_value parameter, operand_ref_view operand.entry) }
 {
     match operand {
-        Operand::Number(t) => number_argument(t),
-        Operand::Passed(name) => named_reference(shared, variables, name),
-        Operand::Given(argument) => given_argument(shared, variables, parameter, argument),
+        OperandRef::Number(t) => number_argument(t),
+        OperandRef::Passed(name) => named_reference(shared, variables, name),
+        OperandRef::Given(argument) => given_argument(shared, variables, parameter, argument),
     }
 }
 

@@ -38,8 +38,8 @@ task_attempted sight line at steps old new attempt.Stuck h = steps old new reduc
 task_attempted sight line at steps old new attempt.Left h = ap at h
 
 -- a call's first number that isn't worked out takes its step
-pub number_attempted : (sight : Sight) (i new : Invocation) → new.line ≡ i.line → new.purpose ≡ i.purpose → new.function ≡ i.function → (new.operands.items ≡ i.operands.items → new ≡ i)
-    → (took : Option Reduction) → ReducesFirst sight i.operands.items took new.operands.items → AttemptsTask sight (task.Invoke i) (attempt_for took) (task.Invoke new)
+pub number_attempted : (sight : Sight) (i new : Invocation) → new.line ≡ i.line → new.purpose ≡ i.purpose → new.function ≡ i.function → (new.operands ≡ i.operands → new ≡ i)
+    → (took : Option Reduction) → ReducesFirst sight i.operands took new.operands → AttemptsTask sight (task.Invoke i) (attempt_for took) (task.Invoke new)
 number_attempted sight i new line purpose function same None h = ap (λ (x : Invocation). let t : TaskInMemory = task.Invoke x in t) (same h.1)
 number_attempted sight i new line purpose function same (Some reduction.Reduced) h = number_reduces sight i new line purpose function reduction.Reduced h
 number_attempted sight i new line purpose function same (Some (reduction.Trapped trap)) h = ap (λ (x : Invocation). let t : TaskInMemory = task.Invoke x in t) (same h.2)

@@ -31,7 +31,7 @@ use Rattle.replay_tasks.specs.declared.task.Invocation.{Invocation}
 use Rattle.replay_tasks.specs.declared.task.Task.{Task as TaskInMemory}
 use Rattle.replay_tasks.specs.declared.task.Task.TheVariants as task
 use Rattle.replay_terms.specs.declared.given.Given.{Given}
-use Rattle.replay_terms.specs.Views.{given_view, operand_view, variables_view}
+use Rattle.replay_terms.specs.Views.{given_view, operands_view, variables_view}
 
 -- the result is put where the call in memory wants it, and into its frame
 module _ (s : Shared) (pending : Reference) (given : CallResult) (old new : Activation) (i : Invocation) (is : old.work.task ≡ Some (task.Invoke i)) (g : Given) (kind : ResultKind) (fs : List Frame) (statics : Statics) where
@@ -102,7 +102,7 @@ none_called s a line x at none = λ t. by_task s t line x a.work.task a.work.res
 
 -- another makes the one that it asks for
 module _ (s : Shared) (a : Activation) (line : ℕ) (x : Identifier) (i : Invocation) (is : a.work.task ≡ Some (task.Invoke i)) (at : IsAtStatement a.work) (passed : List ObjectValue)
-    (given : passed ≡ values_passed (sight_in s a.locals.variables) (function_value i.function) (map operand_view i.operands.items)) where
+    (given : passed ≡ values_passed (sight_in s a.locals.variables) (function_value i.function) (operands_view i.operands)) where
   abbrev waits : Caller
   waits = record {
     target = purpose_view i.line i.purpose;
@@ -125,7 +125,7 @@ module _ (s : Shared) (a : Activation) (line : ℕ) (x : Identifier) (i : Invoca
     stands = record { call = subst (λ (o : Option TaskInMemory). CallStands o waits) (sym is) (refl, refl); tasks = refl; variables = refl; frames = refl };
     calls = λ t held framed.
         ap (λ (o : Option TaskInMemory). calling_by s t line x (Some (tasks_from o (tasks_after a.work.rest a.work.outer.items)))) is
-        ∙ ap (λ (vs : Variables). waits_with t vs t.frames (values_passed (seen vs s.statics s.heap) (function_value i.function) (map operand_view i.operands.items))) held
-        ∙ ap (λ (fs : List Frame). waits_with t (variables_view a.locals.variables) fs (values_passed (sight_in s a.locals.variables) (function_value i.function) (map operand_view i.operands.items))) framed
+        ∙ ap (λ (vs : Variables). waits_with t vs t.frames (values_passed (seen vs s.statics s.heap) (function_value i.function) (operands_view i.operands))) held
+        ∙ ap (λ (fs : List Frame). waits_with t (variables_view a.locals.variables) fs (values_passed (sight_in s a.locals.variables) (function_value i.function) (operands_view i.operands))) framed
         ∙ ap (waits_with t (variables_view a.locals.variables) a.locals.frames) (sym given);
   }

@@ -34,7 +34,7 @@ use Rattle.replay_tasks.specs.declared.outcome.End.{End}
 use Rattle.replay_tasks.specs.declared.outcome.End.TheVariants as end
 use Rattle.replay_tasks.specs.declared.task.Task.{Task as TaskInMemory}
 use Rattle.replay_tasks.specs.declared.task.Task.TheVariants as task
-use Rattle.replay_terms.specs.Views.{Contents, operand_view, variables_view}
+use Rattle.replay_terms.specs.Views.{Contents, operands_view, variables_view}
 
 -- a task that is no call
 abbrev pub IsPlain : Task → Type 0
@@ -213,7 +213,7 @@ module _ (classes : Classes) (k : ℕ) (s : Shared) (vs : Contents) (frames : Li
   task_is (task.SetElement a) = free_task (task_view (task.SetElement a)) tt
   task_is (task.SetNull to) = free_task (task_view (task.SetNull to)) tt
   task_is (task.MakeArray T x n) = free_task (task_view (task.MakeArray T x n)) tt
-  task_is (task.Invoke i) = call_is i.line (purpose_view i.line i.purpose) (function_value i.function) (map operand_view i.operands.items)
+  task_is (task.Invoke i) = call_is i.line (purpose_view i.line i.purpose) (function_value i.function) (operands_view i.operands)
   task_is (task.Branch c) = free_task (task_view (task.Branch c)) tt
   task_is (task.Loop i) = free_task (task_view (task.Loop i)) tt
   task_is task.Return = free_task (task_view task.Return) tt

@@ -17,6 +17,7 @@ use Rattle.replay_tasks.specs.declared.outcome.Purpose.TheVariants as purpose
 use Rattle.replay_terms.specs.declared.given.Lent.{Lent}
 use Rattle.replay_tasks.specs.declared.task.Invocation.{Invocation}
 use Rattle.replay_terms.specs.declared.operand.Operand.{Operand}
+use Rattle.replay_terms.specs.declared.operand.Operands.{Operands}
 use Rattle.replay_tasks.specs.declared.task.Task.{Task as TaskInMemory}
 use Rattle.replay_terms.specs.declared.reduction.Reduction.{Reduction as ReductionInMemory}
 use Rattle.replay_terms.specs.declared.reduction.Reduction.TheVariants as reduction
@@ -28,25 +29,29 @@ use Rattle.semantics.specs.CallSight.{CallSight, call_seen}
 use Rattle.semantics.specs.Checks.{trap_of}
 use Rattle.replay_steps.specs.Steps.{Scene, Sees, in_scene, left_by}
 use Rattle.semantics.specs.EventViews.{trap_view}
-use Rattle.replay_terms.specs.Views.{Contents, operand_view, variables_view}
+use Rattle.replay_terms.specs.Views.{Contents, operand_view, operands_view, variables_view}
 use Rattle.replay_arguments.specs.Shares.{sight_in}
 use Rattle.replay_tasks.specs.Tasks.{task_view}
 
--- Where this can be seen, each number is worked out already, or what was done is the step of the first that isn't.
-abbrev pub ReducesFirst : Sight → List Operand → Option ReductionInMemory → List Operand → Type 0
-ReducesFirst sight old None new = (is_ready sight.number (map operand_view old) ≡ true) × (new ≡ old)
-ReducesFirst sight old (Some reduction.Reduced) new = (is_ready sight.number (map operand_view old) ≡ false)
-    × (reduce_first sight (map operand_view old) ≡ Gives (map operand_view new))
-ReducesFirst sight old (Some (reduction.Trapped trap)) new =
-    (is_ready sight.number (map operand_view old) ≡ false)
-    × (reduce_first sight (map operand_view old) ≡ Traps (trap_view trap)) × (new ≡ old)
-ReducesFirst sight old (Some reduction.Stuck) new = (is_ready sight.number (map operand_view old) ≡ false)
-    × (reduce_first sight (map operand_view old) ≡ Stuck)
+-- Where this can be seen, each number is worked out already, or what was done is the step of the first that isn't: of operands that lie in memory like this.
+abbrev pub ReducesFirstBy : {T : Type 0} → (T → List OperandOfCall) → Sight → T → Option ReductionInMemory → T → Type 0
+ReducesFirstBy view sight old None new = (is_ready sight.number (view old) ≡ true) × (new ≡ old)
+ReducesFirstBy view sight old (Some reduction.Reduced) new = (is_ready sight.number (view old) ≡ false) × (reduce_first sight (view old) ≡ Gives (view new))
+ReducesFirstBy view sight old (Some (reduction.Trapped trap)) new =
+    (is_ready sight.number (view old) ≡ false) × (reduce_first sight (view old) ≡ Traps (trap_view trap)) × (new ≡ old)
+ReducesFirstBy view sight old (Some reduction.Stuck) new = (is_ready sight.number (view old) ≡ false) × (reduce_first sight (view old) ≡ Stuck)
+
+-- that of all of a call, and that of a list
+abbrev pub ReducesFirst : Sight → Operands → Option ReductionInMemory → Operands → Type 0
+ReducesFirst sight old took new = ReducesFirstBy operands_view sight old took new
+
+abbrev pub ReducesListed : Sight → List Operand → Option ReductionInMemory → List Operand → Type 0
+ReducesListed sight old took new = ReducesFirstBy (map operand_view) sight old took new
 
 -- the same of one of them, with others after it
 abbrev pub ReducesOne : Sight → Operand → Option ReductionInMemory → Operand → Type 0
 ReducesOne sight old None new = (is_given sight.number (operand_view old) ≡ true) × (new ≡ old)
-ReducesOne sight old (Some took) new = (rest : List Operand) → ReducesFirst sight (old ∷ rest) (Some took) (new ∷ rest)
+ReducesOne sight old (Some took) new = (rest : List Operand) → ReducesListed sight (old ∷ rest) (Some took) (new ∷ rest)
 
 -- a task is a call of a function that finds these arguments
 pub record FindsArguments (before : Scene) (line : ℕ) (purpose : PurposeInMemory) (f : JniFunction) (args : List Actual) (new : Task) : Type 0 where
@@ -74,7 +79,7 @@ MakesCallOf refused before i args took after =
 abbrev pub MakesInvocation : (refused : Bool) → Scene → Invocation → Outcome → Scene → Type 0
 MakesInvocation refused before i took after =
     MakesCallOf refused before i
-    (actuals (sight_in before.shared before.variables) (function_value i.function) (map operand_view i.operands.items))
+    (actuals (sight_in before.shared before.variables) (function_value i.function) (operands_view i.operands))
     took after
 
 -- what a call does with the buffer that it gives

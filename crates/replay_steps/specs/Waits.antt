@@ -19,7 +19,7 @@ use Rattle.replay_steps.specs.Steps.{Scene, Sees}
 use Rattle.replay_steps.specs.declared.activation.Work.{Work}
 use Rattle.replay_tasks.specs.declared.task.Task.{Task as TaskInMemory}
 use Rattle.replay_tasks.specs.declared.task.Task.TheVariants as task
-use Rattle.replay_terms.specs.Views.{Contents, operand_view, variables_view}
+use Rattle.replay_terms.specs.Views.{Contents, operands_view, variables_view}
 
 -- a call of MonitorEnter passes all checks, and another thread than k owns its object
 abbrev pub is_kept_out : Classes → (k : ℕ) → Shared → Contents → List Frame → Reference → List Actual → Bool
@@ -41,7 +41,7 @@ module _ (classes : Classes) (k : ℕ) (s : Shared) (vs : Contents) (frames : Li
 
   -- the task that is begun is such a call
   abbrev pub task_waits : Option TaskInMemory → Bool
-  task_waits (Some (task.Invoke i)) = call_waits (function_value i.function) (map operand_view i.operands.items)
+  task_waits (Some (task.Invoke i)) = call_waits (function_value i.function) (operands_view i.operands)
   task_waits o = false
 
 -- whether each thread of this scene with this work waits

@@ -18,7 +18,9 @@ use crate::attempt::{Attempt, attempt_task};
 use crate::step::step;
 use replay_arguments::{Locals, Shared, Turn};
 use replay_objects::Store;
-use replay_tasks::{Choice, End, Outcome, Statements, Task, loop_task, set_variables, task_of};
+use replay_tasks::{
+    Choice, End, Outcome, Statements, Task, end_task, loop_task, set_variables, task_of,
+};
 use replay_terms::{Statics, Term, Value};
 use semantics::ObjectId;
 use std::alloc::{AllocError, Global};
@@ -65,13 +67,6 @@ impl Drop for Activation<'_> {
     }
 }
 
-/// Puts a task in the place of the one that is begun.
-pub(crate) fn put_task<'a>(place: &mut Option<Task<'a>>, task: Option<Task<'a>>)
-    ensures { place.new ≡ task.entry }
-{
-    *place = task;
-}
-
 /// Begins a statement in the place of the task that is begun.
 #[inline]
 fn begin_statement<'a>(
@@ -94,7 +89,7 @@ pub(crate) fn begin_next<'a>(alloc: Global, work: &mut Work<'a>) -> Result<(), A
     ensures range { IfOk result (λ _. IsAtStatement work.new) }
 {
     let Some(first) = work.rest.first() else {
-        put_task(&mut work.task, None);
+        end_task(&mut work.task);
         return Ok(());
     };
     begin_statement(alloc, &mut work.task, first)?;
@@ -166,7 +161,7 @@ fn begin_branch<'a>(
         block,
         otherwise,
     };
-    put_task(place, Some(Task::Branch(choice)));
+    *place = Some(Task::Branch(choice));
 }
 
 /// Goes on after a block whose statements are all done: after an `if`, or with its loop's test. False where no block is around it.
@@ -219,7 +214,7 @@ fn enter_block<'a>(
 {
     let rest = mem::replace(&mut work.rest, Statements::of(block));
     work.outer.push(Outer { end, rest })?;
-    put_task(&mut work.task, None);
+    end_task(&mut work.task);
     Ok(())
 }
 
@@ -232,10 +227,10 @@ fn set_tasks<'a>(work: &mut Work<'a>, outcome: Outcome<'a>) -> Result<(), AllocE
         Outcome::Trapped { .. } | Outcome::Impossible => {}
         Outcome::Enters(block, end) => enter_block(work, block, end)?,
         Outcome::Printed(_) | Outcome::Sets(_, _) | Outcome::SetsNull(_) => {
-            put_task(&mut work.task, None);
+            end_task(&mut work.task);
         }
         Outcome::Gives(_, _) | Outcome::Lends(_, _) | Outcome::SetsElement { .. } => {
-            put_task(&mut work.task, None);
+            end_task(&mut work.task);
         }
         Outcome::Tests {
             line,
@@ -245,7 +240,7 @@ fn set_tasks<'a>(work: &mut Work<'a>, outcome: Outcome<'a>) -> Result<(), AllocE
         } => {
             begin_branch(&mut work.task, line, zero, block, otherwise);
         }
-        Outcome::Makes { .. } | Outcome::Ends => put_task(&mut work.task, None),
+        Outcome::Makes { .. } | Outcome::Ends => end_task(&mut work.task),
     }
     Ok(())
 }

@@ -10,7 +10,7 @@ ghost use Rattle.replay_terms.specs.Views.{NumbersInRange};
 use crate::invoke::reduce_number;
 use replay_arguments::Shared;
 use replay_tasks::{Invocation, Task};
-use replay_terms::{Reduction, Term, Variables, reduce};
+use replay_terms::{Operands, Reduction, Term, Variables, reduce};
 
 /// What became of a term that was to take a step.
 #[derive(Clone, Copy)]
@@ -52,16 +52,36 @@ fn attempt_for(took: Option<Reduction>) -> Attempt
 }
 
 /// Lets the first number of a call that isn't worked out take a step.
-#[inline(never)]
+#[inline(always)]
 fn attempt_number<'a>(
     shared: &Shared<'a>,
     variables: &Variables<'a>,
     i: &mut Invocation<'a>,
 ) -> Attempt
-    requires { OperandsInRange i.old.operands.items }
+    requires { OperandsInRange i.old.operands }
     ensures step { AttemptsTask (sight_in (shared_view shared.now) variables.now)
         (task.Invoke i.old) result (task.Invoke i.new) }
-    ensures numbers { OperandsInRange i.new.operands.items }
+    ensures numbers { OperandsInRange i.new.operands }
+    ensures purpose { i.new.purpose ≡ i.old.purpose }
+{
+    match &mut i.operands {
+        Operands::Given(_) => Attempt::Left,
+        Operands::Last(_, number) => attempt_term(shared, variables, number),
+        Operands::Listed(_) => attempt_listed(shared, variables, i),
+    }
+}
+
+/// The same of any call.
+#[inline(never)]
+fn attempt_listed<'a>(
+    shared: &Shared<'a>,
+    variables: &Variables<'a>,
+    i: &mut Invocation<'a>,
+) -> Attempt
+    requires { OperandsInRange i.old.operands }
+    ensures step { AttemptsTask (sight_in (shared_view shared.now) variables.now)
+        (task.Invoke i.old) result (task.Invoke i.new) }
+    ensures numbers { OperandsInRange i.new.operands }
     ensures purpose { i.new.purpose ≡ i.old.purpose }
 {
     attempt_for(reduce_number(shared, variables, i))

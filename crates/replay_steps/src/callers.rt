@@ -12,12 +12,12 @@ ghost use Rattle.replay_steps.specs.Callers.{IsCalling, MakesCaller, Resumes};
 ghost use Rattle.replay_tasks.specs.Outcomes.{LeavesVariables, purpose_view, result_view};
 ghost use Rattle.replay_terms.specs.Views.{given_view};
 
-use crate::activation::{Activation, begin, put_task};
+use crate::activation::{Activation, begin};
 use jni::ResultKind;
 use replay_arguments::actual::{actuals, passed_values};
 use replay_arguments::{Locals, Shared};
 use replay_calls::carry_out::put_local;
-use replay_tasks::{CallResult, Purpose, Task, put_given};
+use replay_tasks::{CallResult, Purpose, Task, end_task, put_given};
 use replay_terms::{Given, Statics, Value};
 use semantics::{ObjectId, ObjectValue};
 use std::alloc::{AllocError, Global};
@@ -145,6 +145,6 @@ pub fn resume<'a>(
     let given = given_back(pending, kind, returned);
     put_local(&mut caller.locals.frames, kind, given)?;
     put_result(&mut shared.statics, &mut caller.locals, purpose, given)?;
-    put_task(&mut caller.work.task, None);
+    end_task(&mut caller.work.task);
     begin(alloc, &mut caller.work)
 }

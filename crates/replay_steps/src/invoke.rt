@@ -9,13 +9,14 @@ ghost use Rattle.semantics.specs.Arguments.{Actual as ActualOfCall, address_give
 ghost use Rattle.semantics.specs.Thread.{Shared as SharedOfThreads};
 ghost use Rattle.replay_arguments.specs.Actuals.{actual_view};
 ghost use Rattle.replay_calls.specs.Answers.{answer_view};
-ghost use Rattle.replay_steps.specs.Calls.{HasAnswer, MakesCallOf, MakesInvocation, ReducesFirst, ReducesOne, lent_outcome, wanted_element};
+ghost use Rattle.replay_steps.specs.Calls.{HasAnswer, MakesCallOf, MakesInvocation, ReducesFirst, ReducesListed, ReducesOne, lent_outcome, wanted_element};
 ghost use Rattle.replay_tasks.specs.Outcomes.{outcome_for};
 ghost use Rattle.replay_arguments.specs.declared.scene.Locals.{Locals as LocalsInMemory};
 ghost use Rattle.replay_steps.specs.Steps.{Does, scene_at, scene_of};
 ghost use Rattle.replay_arguments.specs.Shares.{shared_view, sight_in};
-ghost use Rattle.replay_tasks.specs.Tasks.{OperandInRange, OperandsInRange, OutcomeInRange, PurposeInRange};
-ghost use Rattle.replay_terms.specs.Views.{lent_view, variables_view};
+ghost use Rattle.replay_tasks.specs.Tasks.{ListedInRange, OperandInRange, OperandsInRange, OutcomeInRange, PurposeInRange};
+ghost use Rattle.replay_terms.specs.declared.operand.Operand.TheVariants as operand;
+ghost use Rattle.replay_terms.specs.Views.{NumbersInRange, lent_view, variables_view};
 ghost use Rattle.semantics.specs.CallEffects.{BufferResult};
 ghost use Rattle.semantics.specs.CallStep.{tell_copy};
 ghost use Rattle.semantics.specs.Heap.{Heap};
@@ -27,7 +28,8 @@ use replay_calls::carry_out::{Done, carry_out, makes_object, put_local, refuse};
 use replay_calls::{Answer, Caller, answer_or_trap, tell_copy};
 use replay_tasks::{Invocation, Outcome, Purpose, Target, VariableKind, reduced};
 use replay_terms::{
-    Evaluated, Given, Lent, Operand, Reduction, Term, Variables, is_zero, number_in, reduce,
+    Evaluated, Given, Lent, Operand, Operands, Reduction, Term, Variables, is_zero, number_in,
+    reduce,
 };
 use semantics::ObjectId;
 use std::alloc::AllocError;
@@ -42,13 +44,13 @@ pub(crate) fn invoke<'a>(
     locals: &mut Locals<'a>,
     i: &mut Invocation<'a>,
 ) -> Result<Outcome<'a>, AllocError>
-    requires numbers { OperandsInRange i.old.operands.items }
+    requires numbers { OperandsInRange i.old.operands }
     requires branches { PurposeInRange i.old.purpose }
     requires grown { IsGrown turn.classes.now }
     ensures step { IfOk result (λ o. Does turn.entry.refused
         (scene_at turn.entry shared.old locals.old pending.old) (task.Invoke i.old) o
         (scene_at turn.entry shared.new locals.new pending.new) (task.Invoke i.new)) }
-    ensures numbers { IfOk result (λ _. OperandsInRange i.new.operands.items) }
+    ensures numbers { IfOk result (λ _. OperandsInRange i.new.operands) }
     ensures function { i.new.function ≡ i.old.function }
     ensures purpose { i.new.purpose ≡ i.old.purpose }
     ensures range { IfOk result OutcomeInRange }
@@ -93,16 +95,34 @@ pub(crate) fn reduce_number(
     variables: &Variables<'_>,
     i: &mut Invocation<'_>,
 ) -> Option<Reduction>
-    requires { OperandsInRange i.old.operands.items }
+    requires { OperandsInRange i.old.operands }
     ensures step { ReducesFirst (sight_in (shared_view shared.now) variables.now)
-        i.old.operands.items result i.new.operands.items }
-    ensures numbers { OperandsInRange i.new.operands.items }
+        i.old.operands result i.new.operands }
+    ensures numbers { OperandsInRange i.new.operands }
     ensures line { i.new.line ≡ i.old.line }
     ensures purpose { i.new.purpose ≡ i.old.purpose }
     ensures function { i.new.function ≡ i.old.function }
-    ensures same { i.new.operands.items ≡ i.old.operands.items → i.new ≡ i.old }
+    ensures same { i.new.operands ≡ i.old.operands → i.new ≡ i.old }
 {
-    reduce_first(shared, variables, &mut i.operands)
+    reduce_operands(shared, variables, &mut i.operands)
+}
+
+/// The same of a call's operands.
+#[inline(always)]
+fn reduce_operands(
+    shared: &Shared<'_>,
+    variables: &Variables<'_>,
+    operands: &mut Operands<'_>,
+) -> Option<Reduction>
+    requires { OperandsInRange operands.old }
+    ensures step { ReducesFirst (sight_in (shared_view shared.now) variables.now) operands.old result operands.new }
+    ensures numbers { OperandsInRange operands.new }
+{
+    match operands {
+        Operands::Given(_) => None,
+        Operands::Last(_, number) => reduce_term(shared, variables, number),
+        Operands::Listed(operands) => reduce_first(shared, variables, operands),
+    }
 }
 
 /// Lets the first of these numbers that isn't worked out take a step; none where each is.
@@ -112,9 +132,9 @@ fn reduce_first(
     variables: &Variables<'_>,
     operands: &mut [Operand<'_>],
 ) -> Option<Reduction>
-    requires { OperandsInRange operands.old }
-    ensures step { ReducesFirst (sight_in (shared_view shared.now) variables.now) operands.old result operands.new }
-    ensures numbers { OperandsInRange operands.new }
+    requires { ListedInRange operands.old }
+    ensures step { ReducesListed (sight_in (shared_view shared.now) variables.now) operands.old result operands.new }
+    ensures numbers { ListedInRange operands.new }
 {
     for place in 0..operands.len() {
         let reduction = reduce_one(shared, variables, &mut operands[place]);
@@ -138,10 +158,7 @@ fn reduce_one(
 {
     match operand {
         Operand::Given(_) => None,
-        Operand::Number(t) => match t {
-            Term::Done(_) => None,
-            t => Some(reduce(&shared.store, &shared.statics, variables, t)),
-        },
+        Operand::Number(t) => reduce_term(shared, variables, t),
         Operand::Passed(name) => match number_in(variables, name) {
             Evaluated::Gives(value) => {
                 *operand = Operand::Number(Term::Done(value));
@@ -149,6 +166,23 @@ fn reduce_one(
             }
             Evaluated::Traps(_) | Evaluated::Stuck => None,
         },
+    }
+}
+
+/// Lets a number take a step; none where it is worked out.
+#[inline(always)]
+fn reduce_term(
+    shared: &Shared<'_>,
+    variables: &Variables<'_>,
+    t: &mut Term<'_>,
+) -> Option<Reduction>
+    requires { NumbersInRange t.old }
+    ensures step { ReducesOne (sight_in (shared_view shared.now) variables.now) (operand.Number t.old) result (operand.Number t.new) }
+    ensures numbers { NumbersInRange t.new }
+{
+    match t {
+        Term::Done(_) => None,
+        t => Some(reduce(&shared.store, &shared.statics, variables, t)),
     }
 }
 

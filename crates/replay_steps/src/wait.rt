@@ -15,7 +15,7 @@ ghost use Rattle.replay_steps.specs.Steps.{scene_with};
 ghost use Rattle.semantics.specs.Sight.{scalar};
 ghost use Rattle.base.specs.Bytes.{lookup};
 ghost use Rattle.replay_steps.specs.Waits.{WaitsIn, call_waits, is_kept_out, task_waits, waits_to_enter};
-ghost use Rattle.replay_terms.specs.Views.{operand_view, variables_view};
+ghost use Rattle.replay_terms.specs.Views.{operand_view, operands_view, variables_view};
 
 use crate::activation::Activation;
 use classes::table::ClassTable;
@@ -25,7 +25,7 @@ use replay_arguments::check::check;
 use replay_arguments::{Scene, Shared};
 use replay_objects::Monitor;
 use replay_tasks::Task;
-use replay_terms::{Evaluated, Operand, Term, Variables, number_in};
+use replay_terms::{Evaluated, Operand, Operands, Term, Variables, number_in};
 use semantics::ObjectId;
 use syntax::ElementType;
 
@@ -40,13 +40,24 @@ fn is_given(variables: &Variables<'_>, operand: &Operand<'_>) -> bool
     }
 }
 
-/// Whether each number among these is worked out.
-fn is_ready(variables: &Variables<'_>, operands: &[Operand<'_>]) -> bool
+/// Whether each number of a list is worked out.
+fn are_given(variables: &Variables<'_>, operands: &[Operand<'_>]) -> bool
     ensures { result ≡ is_ready (λ x. scalar (lookup x (variables_view variables.now))) (map operand_view operands.entry.now) }
 {
     match operands {
         [] => true,
-        [operand, operands @ ..] => is_given(variables, operand) && is_ready(variables, operands),
+        [operand, operands @ ..] => is_given(variables, operand) && are_given(variables, operands),
+    }
+}
+
+/// Whether each number of a call is worked out.
+fn is_ready(variables: &Variables<'_>, operands: &Operands<'_>) -> bool
+    ensures { result ≡ is_ready (λ x. scalar (lookup x (variables_view variables.now))) (operands_view operands.entry.now) }
+{
+    match operands {
+        Operands::Given(_) => true,
+        Operands::Last(_, number) => matches!(number, Term::Done(_)),
+        Operands::Listed(operands) => are_given(variables, operands),
     }
 }
 
@@ -75,17 +86,17 @@ fn is_kept_out(scene: Scene<'_, '_>, thread: usize, actuals: &[Actual<'_>]) -> b
 }
 
 /// Whether a call of `MonitorEnter` waits, its numbers being worked out. It takes one argument, which is looked up.
-fn waits_to_enter<'a>(scene: Scene<'_, 'a>, thread: usize, operands: &[Operand<'a>]) -> bool
+fn waits_to_enter<'a>(scene: Scene<'_, 'a>, thread: usize, operands: &Operands<'a>) -> bool
     ensures { result ≡ waits_to_enter scene.entry.classes.now thread (shared_view scene.entry.shared.now)
         scene.entry.locals.now.variables scene.entry.locals.now.frames (name_of scene.entry.pending)
-        (map operand_view operands.entry.now) }
+        (operands_view operands.entry.now) }
 {
     if !is_ready(&scene.locals.variables, operands) {
         return false;
     }
-    match operands {
-        [] => is_kept_out(scene, thread, &[]),
-        [operand, ..] => {
+    match operands.get(0) {
+        None => is_kept_out(scene, thread, &[]),
+        Some(operand) => {
             let variables = &scene.locals.variables;
             let object = look_up(scene.shared, variables, ParameterKind::NonNull, operand);
             is_kept_out(scene, thread, &[object])
@@ -98,11 +109,11 @@ fn call_waits<'a>(
     scene: Scene<'_, 'a>,
     thread: usize,
     function: JniFunction,
-    operands: &[Operand<'a>],
+    operands: &Operands<'a>,
 ) -> bool
     ensures { result ≡ call_waits scene.entry.classes.now thread (shared_view scene.entry.shared.now)
         scene.entry.locals.now.variables scene.entry.locals.now.frames (name_of scene.entry.pending)
-        (function_value function) (map operand_view operands.now) }
+        (function_value function) (operands_view operands.now) }
 {
     match function {
         JniFunction::MonitorEnter => waits_to_enter(scene, thread, operands),

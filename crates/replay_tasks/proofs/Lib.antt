@@ -1,5 +1,6 @@
 mod KnownCalls
 pub mod RangeLemmas
+mod NumberLemmas
 mod PutLemmas
 pub mod EffectLemmas
 pub mod PassedOperands

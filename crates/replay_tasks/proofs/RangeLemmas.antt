@@ -28,7 +28,7 @@ use Rattle.semantics.specs.Task.{Task, operand, task_of, tasks_of}
 use Rattle.replay_terms.specs.declared.operand.Operand.{Operand}
 use Rattle.replay_terms.specs.Views.{operand_view}
 use Rattle.replay_tasks.proofs.KnownCalls.{known_calls}
-use Rattle.replay_tasks.specs.Tasks.{ArgumentsInRange, ElseInRange, statements_in, OperandInRange, OperandsInRange, tasks_of_statements, has_numbers_in_range, calls_known, BlockInRange, InsideInRange, StatementsInRange}
+use Rattle.replay_tasks.specs.Tasks.{ArgumentsInRange, ElseInRange, statements_in, OperandInRange, ListedInRange, tasks_of_statements, has_numbers_in_range, calls_known, BlockInRange, InsideInRange, StatementsInRange}
 
 -- the tasks of statements, by their tree
 pub tasks_of-statements : (statements : List Stmt) (end_line : ℕ) → tasks_of_statements statements ≡ tasks_of (statements_tree statements end_line)
@@ -129,16 +129,16 @@ argument_parts a rest h =
     and_parts (list_all numbers_in_range (argument_expressions a)) (list_all numbers_in_range (flat_map argument_expressions rest))
     (sym (list_all-append numbers_in_range (argument_expressions a) (flat_map argument_expressions rest)) ∙ ap (list_all numbers_in_range) (sym (flat_map-cons argument_expressions a rest)) ∙ h)
 
-pub operands_pushed : (os : List Operand) (o : Operand) → OperandsInRange os → OperandInRange o → OperandsInRange (os ++ o ∷ [])
+pub operands_pushed : (os : List Operand) (o : Operand) → ListedInRange os → OperandInRange o → ListedInRange (os ++ o ∷ [])
 operands_pushed [] o h new = (new, tt)
 operands_pushed (p ∷ os) o h new = (h.0, operands_pushed os o h.1 new)
 
-pub operand_at : (os : List Operand) (i : ℕ) (o : Operand) → OperandsInRange os → slice_get os i ≡ Some o → OperandInRange o
+pub operand_at : (os : List Operand) (i : ℕ) (o : Operand) → ListedInRange os → slice_get os i ≡ Some o → OperandInRange o
 operand_at [] i o h at = absurd (cc)
 operand_at (p ∷ os) zero o h at = let same : p ≡ o = cc in subst OperandInRange same h.0
 operand_at (p ∷ os) (suc i) o h at = operand_at os i o h.1 at
 
-pub operand_set : (os : List Operand) (i : ℕ) (o : Operand) → OperandsInRange os → OperandInRange o → OperandsInRange (slice_set os i o)
+pub operand_set : (os : List Operand) (i : ℕ) (o : Operand) → ListedInRange os → OperandInRange o → ListedInRange (slice_set os i o)
 operand_set [] i o h new = tt
 operand_set (p ∷ os) zero o h new = (new, h.1)
 operand_set (p ∷ os) (suc i) o h new = (h.0, operand_set os i o h.1 new)

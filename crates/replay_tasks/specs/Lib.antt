@@ -1,3 +1,4 @@
 pub mod Outcomes
 pub mod Tasks
 pub mod Effects
+pub mod Numbers

@@ -24,9 +24,11 @@ use Rattle.replay_tasks.specs.declared.outcome.Outcome.{Outcome}
 use Rattle.replay_tasks.specs.declared.outcome.Outcome.TheVariants as outcome
 use Rattle.replay_tasks.specs.declared.outcome.Purpose.{Purpose}
 use Rattle.replay_tasks.specs.declared.outcome.Purpose.TheVariants as purpose
-use Rattle.replay_terms.specs.Views.{operand_view, term_view, NumbersInRange}
+use Rattle.replay_terms.specs.Views.{operands_view, term_view, NumbersInRange}
 use Rattle.replay_terms.specs.declared.operand.Operand.{Operand as OperandInMemory}
 use Rattle.replay_terms.specs.declared.operand.Operand.TheVariants as operands
+use Rattle.replay_terms.specs.declared.operand.Operands.{Operands as OperandsInMemory}
+use Rattle.replay_terms.specs.declared.operand.Operands.TheVariants as all
 use Rattle.replay_tasks.specs.declared.task.Task.{Task as TaskInMemory}
 use Rattle.replay_tasks.specs.declared.task.Task.TheVariants as task
 use Rattle.replay_terms.specs.declared.term.Term.{Term as TermInMemory}
@@ -38,7 +40,7 @@ task_view (task.Set a) = SetScalar a.line a.name.now (term_view a.term)
 task_view (task.SetElement a) = SetElement a.line a.name.now (term_view a.index) (term_view a.number)
 task_view (task.SetNull to) = SetNull (target_view to)
 task_view (task.MakeArray T x n) = MakeArray (element_value T) x.now n
-task_view (task.Invoke i) = Invoke i.line (purpose_view i.line i.purpose) (function_value i.function) (map operand_view i.operands.items)
+task_view (task.Invoke i) = Invoke i.line (purpose_view i.line i.purpose) (function_value i.function) (operands_view i.operands)
 task_view (task.Branch c) = Branch c.line (term_view c.test) (block_tree c.block.now) (else_tree c.line c.otherwise)
 task_view (task.Loop i) = Loop i.line (expr_tree i.test.now) (term_view i.term) (block_tree i.body.now)
 task_view task.Return = Return
@@ -159,9 +161,14 @@ OperandInRange (operands.Number t) = NumbersInRange t
 OperandInRange (operands.Passed x) = Unit {0}
 OperandInRange (operands.Given a) = Unit {0}
 
-abbrev pub OperandsInRange : List OperandInMemory → Type 0
-OperandsInRange [] = Unit {0}
-OperandsInRange (o ∷ rest) = OperandInRange o × OperandsInRange rest
+abbrev pub ListedInRange : List OperandInMemory → Type 0
+ListedInRange [] = Unit {0}
+ListedInRange (o ∷ rest) = OperandInRange o × ListedInRange rest
+
+abbrev pub OperandsInRange : OperandsInMemory → Type 0
+OperandsInRange (all.Given args) = Unit {0}
+OperandsInRange (all.Last args t) = NumbersInRange t
+OperandsInRange (all.Listed os) = ListedInRange os.items
 
 -- the same of the two branches of an `if` whose test is a call
 abbrev pub PurposeInRange : Purpose → Type 0
@@ -175,7 +182,7 @@ TaskInRange (task.Set a) = NumbersInRange a.term
 TaskInRange (task.SetElement a) = NumbersInRange a.index × NumbersInRange a.number
 TaskInRange (task.SetNull to) = Unit {0}
 TaskInRange (task.MakeArray T x n) = Unit {0}
-TaskInRange (task.Invoke i) = OperandsInRange i.operands.items × PurposeInRange i.purpose
+TaskInRange (task.Invoke i) = OperandsInRange i.operands × PurposeInRange i.purpose
 TaskInRange (task.Branch c) = NumbersInRange c.test × BlockInRange (block_tree c.block.now) × ElseInRange c.otherwise
 TaskInRange (task.Loop i) = ExprInRange (expr_tree i.test.now) × NumbersInRange i.term × BlockInRange (block_tree i.body.now)
 TaskInRange task.Return = Unit {0}

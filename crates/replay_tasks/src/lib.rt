@@ -13,6 +13,6 @@ pub use put::{put_given, set_variables};
 pub use statements::Statements;
 pub use step::{plain_step, reduced};
 pub use task::{
-    Assignment, Choice, ElementAssignment, Evaluation, Invocation, Iteration, Task, loop_task,
-    task_of,
+    Assignment, Choice, ElementAssignment, Evaluation, Invocation, Iteration, Task, end_task,
+    loop_task, task_of,
 };

@@ -1,10 +1,11 @@
 -- Values, terms and variables that lie in memory, as those of the language.
-use Rattle.std.specs.Prelude.{◌≡◌, ◌<◌, ◌≤◌, ◌+◌, ℕ, ℤ, not, length, List, [], ◌∷◌, map, slice_get, slice_set, Option, Some, None}
+use Rattle.std.specs.Prelude.{◌≡◌, ◌<◌, ◌≤◌, ◌+◌, ℕ, ℤ, not, length, List, [], ◌∷◌, ◌++◌, map, slice_get, slice_set, Option, Some, None}
 use Rattle.std.specs.Option.{option_map}
 use Rattle.std.specs.Borrow.{Bor}
 use Rattle.base.specs.Limits.{most_copied, most_views}
 use Rattle.base.specs.Bytes.{Identifier, ByName, lookup}
 use Rattle.base.specs.Element.{ElementType, element_value}
+use Rattle.syntax.specs.declared.call.Argument.{Argument as ArgumentInMemory}
 use Rattle.syntax.specs.Views.{argument_tree, constant_tree, function_tree, prefix_tree, binary_tree}
 use Rattle.syntax.specs.Limits.{number_limit}
 use Rattle.classes.specs.FieldViews.{field_id_view}
@@ -30,6 +31,10 @@ use Rattle.replay_terms.specs.declared.given.Lent.TheVariants as lent
 use Rattle.replay_terms.specs.declared.method.MethodId.{MethodId as MethodInMemory}
 use Rattle.replay_terms.specs.declared.operand.Operand.{Operand as OperandInMemory}
 use Rattle.replay_terms.specs.declared.operand.Operand.TheVariants as operand
+use Rattle.replay_terms.specs.declared.operand.OperandRef.{OperandRef}
+use Rattle.replay_terms.specs.declared.operand.OperandRef.TheVariants as lying
+use Rattle.replay_terms.specs.declared.operand.Operands.{Operands as OperandsInMemory}
+use Rattle.replay_terms.specs.declared.operand.Operands.TheVariants as operands
 use Rattle.replay_terms.specs.declared.reduction.Reduction.{Reduction as ReductionInMemory}
 use Rattle.replay_terms.specs.declared.reduction.Reduction.TheVariants as reduction
 use Rattle.replay_terms.specs.declared.sight.Indexed.{Indexed}
@@ -338,6 +343,22 @@ abbrev pub operand_view : OperandInMemory → Operand
 operand_view (operand.Number t) = NumberOperand (term_view t)
 operand_view (operand.Passed x) = PassedName x.now
 operand_view (operand.Given a) = task.Given (argument_tree a.now)
+
+-- the same where it lies
+abbrev pub operand_ref_view : OperandRef → Operand
+operand_ref_view (lying.Number t) = NumberOperand (term_view t.now)
+operand_ref_view (lying.Passed x) = PassedName x.now
+operand_ref_view (lying.Given a) = task.Given (argument_tree a.now)
+
+-- an argument that is looked up in the call's own step
+abbrev pub looked_up : ArgumentInMemory → Operand
+looked_up a = task.Given (argument_tree a)
+
+-- the arguments of a call before its own step
+abbrev pub operands_view : OperandsInMemory → List Operand
+operands_view (operands.Given args) = map looked_up args.now
+operands_view (operands.Last args t) = map looked_up args.now ++ NumberOperand (term_view t) ∷ []
+operands_view (operands.Listed os) = map operand_view os.items
 
 -- what a call gives
 abbrev pub given_view : Given → CallResult

@@ -18,7 +18,7 @@ pub use buffers::BuffersInUse;
 pub use given::{Given, Lent, is_zero, static_result};
 pub use method::{MethodId, passed};
 pub use name::is_same;
-pub use operand::Operand;
+pub use operand::{Operand, OperandRef, Operands};
 pub use reduction::{Reduction, reduce};
 pub use sight::{Indexed, held_reference, number_in, place_in};
 pub use statics::{StaticReference, Statics, as_reference, is_among, null_statics};

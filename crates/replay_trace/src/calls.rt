@@ -5,38 +5,43 @@ use crate::line::Line;
 use crate::terms::{constant_of, put_part};
 use replay_arguments::{Locals, Shared};
 use replay_tasks::{Invocation, Purpose, Target, Task};
-use replay_terms::{Content, Operand, Statics, Term, Value, Variables};
+use replay_terms::{Content, OperandRef, Operands, Statics, Term, Value, Variables};
 use std::alloc::AllocError;
 use syntax::{Argument, ExprRef, Function, Name, Parameter, Shape};
 
 /// Whether a number of a call is to be worked out before it is made.
-fn is_unready(variables: &Variables<'_>, operand: &Operand<'_>) -> bool {
+fn is_unready(variables: &Variables<'_>, operand: OperandRef<'_, '_>) -> bool {
     match operand {
-        Operand::Number(term) => !matches!(term, Term::Done(_)),
-        Operand::Passed(name) => matches!(variables.content_of(name), Some(Content::Number(_))),
-        Operand::Given(_) => false,
+        OperandRef::Number(term) => !matches!(term, Term::Done(_)),
+        OperandRef::Passed(name) => matches!(variables.content_of(name), Some(Content::Number(_))),
+        OperandRef::Given(_) => false,
     }
 }
 
 /// The place of the first number of a call that is to be worked out.
-pub(crate) fn first_unready(variables: &Variables<'_>, operands: &[Operand<'_>]) -> Option<usize> {
-    for (place, operand) in operands.iter().enumerate() {
-        if is_unready(variables, operand) {
-            return Some(place);
+pub(crate) fn first_unready(variables: &Variables<'_>, operands: &Operands<'_>) -> Option<usize> {
+    for place in 0..operands.count() {
+        if let Some(operand) = operands.get(place) {
+            if is_unready(variables, operand) {
+                return Some(place);
+            }
         }
     }
     None
 }
 
 /// Adds the part of an operand that is worked out next. Whether its value is still to be told.
-pub(crate) fn put_operand_part(line: &mut Line, operand: &Operand<'_>) -> Result<bool, AllocError> {
+pub(crate) fn put_operand_part(
+    line: &mut Line,
+    operand: OperandRef<'_, '_>,
+) -> Result<bool, AllocError> {
     match operand {
-        Operand::Number(term) => put_part(line, term),
-        Operand::Passed(name) => {
+        OperandRef::Number(term) => put_part(line, term),
+        OperandRef::Passed(name) => {
             line.text(name.as_bytes())?;
             Ok(true)
         }
-        Operand::Given(_) => Ok(false),
+        OperandRef::Given(_) => Ok(false),
     }
 }
 
@@ -99,15 +104,15 @@ fn put_operand(
     objects: Objects<'_>,
     statics: &Statics<'_>,
     variables: &Variables<'_>,
-    operand: &Operand<'_>,
+    operand: OperandRef<'_, '_>,
 ) -> Result<(), AllocError> {
     match operand {
-        Operand::Number(term) => {
+        OperandRef::Number(term) => {
             put_part(line, term)?;
             Ok(())
         }
-        Operand::Passed(name) => put_named(line, objects, statics, variables, name),
-        Operand::Given(argument) => put_given(line, objects, statics, variables, argument),
+        OperandRef::Passed(name) => put_named(line, objects, statics, variables, name),
+        OperandRef::Given(argument) => put_given(line, objects, statics, variables, argument),
     }
 }
 
@@ -121,9 +126,11 @@ pub(crate) fn put_call(
 ) -> Result<(), AllocError> {
     line.text(call.function.prototype().name)?;
     line.text(b"(env")?;
-    for operand in &call.operands {
-        line.text(b", ")?;
-        put_operand(line, objects, statics, variables, operand)?;
+    for place in 0..call.operands.count() {
+        if let Some(operand) = call.operands.get(place) {
+            line.text(b", ")?;
+            put_operand(line, objects, statics, variables, operand)?;
+        }
     }
     line.text(b")")
 }

@@ -9,7 +9,7 @@ use functions::Functions;
 use replay_arguments::{Locals, Shared};
 use replay_steps::{Activation, Work};
 use replay_tasks::{ElementAssignment, End, Evaluation, Invocation, Purpose, Target, Task};
-use replay_terms::{Content, Operand, Term, Value};
+use replay_terms::{Content, OperandRef, Term, Value};
 use replay_threads::{State, Thread};
 use semantics::{Ending, ObjectId};
 use std::alloc::AllocError;
@@ -272,8 +272,8 @@ fn latest_number(task: &Task<'_>, place: usize) -> Option<Value> {
         return None;
     };
     match call.operands.get(place)? {
-        Operand::Number(term) => latest_value(term),
-        Operand::Passed(_) | Operand::Given(_) => None,
+        OperandRef::Number(term) => latest_value(term),
+        OperandRef::Passed(_) | OperandRef::Given(_) => None,
     }
 }
 

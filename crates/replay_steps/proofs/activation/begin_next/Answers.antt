@@ -6,14 +6,14 @@ use Rattle.replay_steps.proofs.activation.begin_next.Goals as goal
 pub returns-in_default-clause-tasks : goal.returns-in_default-clause-tasks
 returns-in_default-clause-tasks c =
     let old = c.args.work.now in
-    let new : Work = record old { task = c.put_task.new.place } in
-    none_begun old new c.put_task.ensures refl refl
+    let new : Work = record old { task = c.end_task.new.place } in
+    none_begun old new c.end_task.ensures refl refl
 
 pub returns-in_default-clause-range : goal.returns-in_default-clause-range
 returns-in_default-clause-range c =
     let old = c.args.work.now in
-    let new : Work = record old { task = c.put_task.new.place } in
-    record { range = none_range old new c.requires c.put_task.ensures refl refl; next = λ none. c.in_default.ensures.none }
+    let new : Work = record old { task = c.end_task.new.place } in
+    record { range = none_range old new c.requires c.end_task.ensures refl refl; next = λ none. c.in_default.ensures.none }
 
 pub returns-clause-tasks : goal.returns-clause-tasks
 returns-clause-tasks c =

@@ -4,8 +4,6 @@ use Rattle.semantics.specs.Arguments.{Actual, actuals, passed_value}
 use Rattle.replay_arguments.specs.Actuals.{actual_view}
 use Rattle.replay_arguments.specs.Shares.{shared_view, sight_in}
 use Rattle.replay_tasks.specs.declared.task.Task.TheVariants as task
-use Rattle.replay_terms.specs.Views.{operand_view}
-use Rattle.replay_terms.specs.declared.operand.Operand.{Operand}
 use Rattle.replay_steps.proofs.CallerLemmas.{calls_from, none_called}
 use Rattle.replay_steps.proofs.callers.entering_of.Goals as goal
 
@@ -18,5 +16,5 @@ returns c =
     let a = c.args.activation.now in
     let i = c.in-Invoke.i in
     let sight = sight_in s a.locals.variables in
-    let looked_up = ap (map actual_view) c.deref-2.ensures.value ∙ c.in_ok-actuals.ensures ∙ ap (λ (os : List Operand). actuals sight (function_value i.function) (map operand_view os)) c.deref.ensures.value in
+    let looked_up = ap (map actual_view) c.deref.ensures.value ∙ c.in_ok-actuals.ensures in
     calls_from s a c.args.line c.args.function.now i (search rules) c.requires _ (c.in_ok-arguments.ensures ∙ ap (λ (args : List Actual). map passed_value (drop 2 args)) looked_up)

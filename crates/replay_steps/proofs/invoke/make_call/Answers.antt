@@ -1,10 +1,8 @@
 use Rattle.std.proofs.Common.{List, IfOk, map, ap, ◌∙◌, subst}
 use Rattle.jni.specs.Table.{function_value}
-use Rattle.semantics.specs.Arguments.{Actual, actuals}
-use Rattle.replay_terms.specs.declared.operand.Operand.{Operand}
+use Rattle.semantics.specs.Arguments.{Actual}
 use Rattle.replay_arguments.specs.Actuals.{actual_view}
-use Rattle.replay_terms.specs.Views.{operand_view}
-use Rattle.replay_arguments.specs.Shares.{shared_view, sight_in}
+use Rattle.replay_arguments.specs.Shares.{shared_view}
 use Rattle.replay_steps.specs.Calls.{MakesCall}
 use Rattle.replay_steps.specs.Steps.{Scene, scene_of}
 use Rattle.replay_steps.proofs.invoke.make_call.Goals as goal
@@ -18,5 +16,5 @@ returns-clause-step c =
     let f = function_value i.function in
     let before : Scene = scene_of turn s locals c.args.pending.now in
     let after : Scene = scene_of turn (shared_view c.call.new.shared) c.call.new.locals c.call.new.pending in
-    let looked_up = ap (map actual_view) c.deref-2.ensures.value ∙ c.in_ok-actuals.ensures ∙ ap (λ (os : List Operand). actuals (sight_in s locals.variables) f (map operand_view os)) c.deref.ensures.value in
+    let looked_up = ap (map actual_view) c.deref.ensures.value ∙ c.in_ok-actuals.ensures in
     subst (λ (args : List Actual). IfOk c.call.result (λ o. MakesCall turn.refused before i.line i.purpose f args o after)) looked_up c.call.ensures.step

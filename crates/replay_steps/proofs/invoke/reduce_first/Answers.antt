@@ -2,7 +2,7 @@ use Rattle.std.proofs.Common.{◌≡◌, ◌+◌, true, List, length, map, refl,
 use Rattle.std.specs.Prelude.{slice_set}
 use Rattle.std.proofs.lemmas.Option.{slice_get_read}
 use Rattle.replay_terms.specs.declared.operand.Operand.{Operand}
-use Rattle.replay_steps.specs.Calls.{ReducesFirst, ReducesOne}
+use Rattle.replay_steps.specs.Calls.{ReducesListed, ReducesOne}
 use Rattle.semantics.specs.Effect.{is_ready}
 use Rattle.replay_terms.specs.Views.{operand_view}
 use Rattle.replay_arguments.specs.Shares.{shared_view, sight_in}
@@ -29,7 +29,7 @@ returns-then-is_some-clause-step c =
     let new = c.reduce_one-reduction.new.operand in
     let at = slice_get_read os (length os) c.loop-place.place o refl (omega (arith, c.loop-place-test.true, c.loop-place.auto.operands)) c.index-operands-place.is in
     let step = subst (λ (p : Operand). ReducesOne sight p took new) (sym c.index-operands-place.is) c.reduce_one-reduction.ensures.step in
-    subst (λ (xs : List Operand). ReducesFirst sight xs took (slice_set os c.loop-place.place new)) c.loop-place.invariant.0
+    subst (λ (xs : List Operand). ReducesListed sight xs took (slice_set os c.loop-place.place new)) c.loop-place.invariant.0
     (first_step sight os c.loop-place.place o new took (sym c.is_some.ensures ∙ c.if-is_some.true) at c.loop-place.invariant.1 step)
 
 pub returns-then-is_some-clause-numbers : goal.returns-then-is_some-clause-numbers

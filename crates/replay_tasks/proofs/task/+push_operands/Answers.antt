@@ -8,7 +8,7 @@ use Rattle.jni.specs.Table.{parameter_value}
 use Rattle.semantics.specs.Task.{Operand, operand}
 use Rattle.replay_terms.specs.declared.operand.Operand.{Operand as OperandInMemory}
 use Rattle.replay_terms.specs.Views.{operand_view}
-use Rattle.replay_tasks.specs.Tasks.{OperandsInRange}
+use Rattle.replay_tasks.specs.Tasks.{ListedInRange}
 use Rattle.std.proofs.lemmas.Result.{IfOk-weaker}
 use Rattle.replay_tasks.proofs.RangeLemmas.{after_first, first_is, operand_first, operands_pushed, rest_in_range, shorter}
 use Rattle.replay_tasks.proofs.task.+push_operands.Goals as goal
@@ -18,7 +18,7 @@ push_operands-requires t c = (
   omega (arith, c.decreases, shorter c.args.parameters.now c.in-len1-up.len_at_least),
   (
     rest_in_range c.args.arguments.now c.requires.numbers,
-    subst OperandsInRange (sym c.in_ok-push-in-len1-up-arguments.ensures.items)
+    subst ListedInRange (sym c.in_ok-push-in-len1-up-arguments.ensures.items)
         (operands_pushed c.args.operands.now.items c.in_ok-operand_of-in-len1-up-arguments.field-0 c.requires.range c.in_ok-operand_of-in-len1-up-arguments.ensures.range),
   ),
 )

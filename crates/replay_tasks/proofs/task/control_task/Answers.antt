@@ -10,4 +10,4 @@ pub returns-in-IfElse : goal.returns-in-IfElse
 returns-in-IfElse c = record { view = rw c.in-IfElse.is c.if_task-in-IfElse.ensures.view; range = c.if_task-in-IfElse.ensures.range }
 
 pub returns-in-While : goal.returns-in-While
-returns-in-While c = record { view = rw c.in-While.is c.loop_task.ensures.view; range = c.loop_task.ensures.range }
+returns-in-While c = record { view = rw c.in-While.is c.begin_loop.ensures.view; range = c.begin_loop.ensures.range }
