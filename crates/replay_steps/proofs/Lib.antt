@@ -8,3 +8,4 @@ mod CallerLemmas
 mod AttemptLemmas
 pub mod SameLists
 mod FinishedTasks
+mod FieldLemmas

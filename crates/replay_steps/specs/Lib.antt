@@ -4,3 +4,4 @@ pub mod Activations
 pub mod Callers
 pub mod Waits
 pub mod Attempts
+pub mod FieldCalls

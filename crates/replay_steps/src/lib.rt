@@ -4,6 +4,7 @@
 mod activation;
 mod attempt;
 mod callers;
+mod field_calls;
 mod invoke;
 mod step;
 mod wait;
@@ -11,4 +12,5 @@ mod wait;
 pub use activation::{Activation, Outer, Work, advance, attempt_step, work_of};
 pub use attempt::Attempt;
 pub use callers::{Entering, entering_of, resume};
+pub use field_calls::attempt_field;
 pub use wait::waits;
