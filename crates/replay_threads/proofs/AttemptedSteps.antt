@@ -1,13 +1,20 @@
 -- Steps of terms are steps of their threads, and entries of the journal.
-use Rattle.std.proofs.Common.{◌≡◌, ◌≤◌, ℕ, zero, suc, false, List, [], ◌∷◌, length, Option, Some, None, refl, sym, ap, ◌∙◌, arith}
+use Rattle.std.proofs.Common.{◌≡◌, ◌≤◌, ℕ, zero, suc, Bool, true, false, List, [], ◌∷◌, length, Option, Some, None, refl, sym, ap, ◌∙◌, subst, arith}
 use Rattle.std.specs.Global.{Vec}
 use Rattle.std.specs.Prelude.{slice_get, slice_set}
+use Rattle.class_rules.specs.Class.{Classes}
 use Rattle.semantics.specs.State.{in_use}
 use Rattle.semantics.specs.Thread.{Shared}
 use Rattle.semantics.specs.Views.{name_of}
+use Rattle.semantics.specs.World.{World}
 use Rattle.semantics.specs.declared.event.Event.TheVariants as event
+use Rattle.semantics.specs.declared.object_id.ObjectId.{ObjectId}
 use Rattle.replay_arguments.specs.Shares.{shared_view}
+use Rattle.replay_arguments.specs.declared.shared.Shared.{Shared as SharedInMemory}
+use Rattle.replay_steps.specs.Activations.{Advances}
 use Rattle.replay_steps.specs.Attempts.{AttemptsCall}
+use Rattle.replay_steps.specs.FieldCalls.{AttemptsField}
+use Rattle.replay_steps.specs.Steps.{Scene, scene_with}
 use Rattle.replay_steps.specs.declared.activation.Activation.{Activation}
 use Rattle.replay_steps.specs.declared.attempt.Attempt.{Attempt}
 use Rattle.replay_steps.specs.declared.attempt.Attempt.TheVariants as attempt
@@ -15,8 +22,8 @@ use Rattle.replay_steps.proofs.SameLists.{holding, same_list}
 use Rattle.replay_tasks.specs.declared.outcome.Outcome.TheVariants as outcome
 use Rattle.replay_threads.specs.declared.state.State.{State}
 use Rattle.replay_threads.specs.declared.thread.Thread.{Thread}
-use Rattle.replay_threads.specs.States.{AreInRange, AttemptsTurn, IsLiveAt}
-use Rattle.replay_threads.specs.Threads.{AttemptsStep}
+use Rattle.replay_threads.specs.States.{AreInRange, AttemptsFieldTurn, AttemptsTurn, IsLiveAt}
+use Rattle.replay_threads.specs.Threads.{AttemptsNumber, AttemptsStep, TakesStep}
 use Rattle.replay_threads.proofs.StateLemmas.{takes}
 use Rattle.replay_threads.proofs.ThreadLemmas.{ended_step}
 
@@ -33,6 +40,20 @@ module _ (s : Shared) (t : Thread) (a new : Activation) (is : t.activation ≡ S
   attempted attempt.Left same =
       ap (λ (b : Activation). let u : Thread = record t { activation = Some b } in u) same
       ∙ ap (λ (o : Option Activation). let u : Thread = record t { activation = o } in u) (sym is)
+
+module _ (classes : Classes) (s s' : Shared) (t : Thread) (a new : Activation) (is : t.activation ≡ Some a) (none : t.pending ≡ None) where
+  -- a thread reads or writes a number of an object
+  pub field_attempted : (took : Bool) → AttemptsField classes s a took s' new → AttemptsNumber classes s t took s' (record t { activation = Some new })
+  field_attempted true does = λ unit in_use k x h live.
+      let left : Thread = record t { activation = Some new } in
+      let scene : Shared → Activation → Option ObjectId → Scene = λ shared b pending. scene_with unit classes in_use k shared b.locals.variables b.locals.frames (name_of pending) in
+      let step = subst (λ (pending : Option ObjectId). Advances false (scene s a pending) a.work outcome.Stays (scene s' new pending) new.work) (sym none) (does unit in_use k) in
+      ended_step unit classes in_use k false s s' t a new t.pending x is h outcome.Stays (Some event.Quiet) s' left (refl, refl, refl) step
+  field_attempted false same = (
+    same.0,
+    ap (λ (b : Activation). let u : Thread = record t { activation = Some b } in u) same.1
+        ∙ ap (λ (o : Option Activation). let u : Thread = record t { activation = o } in u) (sym is),
+  )
 
 -- a thread that is put where it was
 put_back : (ts : List Thread) (i : ℕ) (t : Thread) → slice_get ts i ≡ Some t → slice_set ts i t ≡ ts
@@ -54,3 +75,22 @@ module _ (m : State) (k place : ℕ) (t after : Thread) (range : AreInRange m.th
   turn_attempted attempt.Left same =
       ap (λ (v : Vec Thread). let n : State = record m { threads = v } in n)
       (same_list m.threads (slice_set m.threads.items place after) ok (ap (slice_set m.threads.items place) same ∙ put_back m.threads.items place t at))
+
+-- what threads share in memory is what they see of it
+same_shared : (x y : SharedInMemory) → shared_view x ≡ shared_view y → x ≡ y
+same_shared x y same = ap (λ (s : Shared). let z : SharedInMemory = record { store = s.heap; statics = s.statics; globals = s.globals; monitors = s.monitors } in z) same
+
+module _ (m : State) (k place : ℕ) (t after : Thread) (shared : SharedInMemory) (range : AreInRange m.threads.items) (at : slice_get m.threads.items place ≡ Some t) (here : IsLiveAt m k place)
+    (ok : (m.threads.len ≡ length (slice_set m.threads.items place after)) × (m.threads.len ≤ m.threads.cap)) (classes : Classes) (known : classes ≡ m.world.now.classes) where
+  abbrev left_state : State
+  left_state = record m { shared = shared; threads = holding m.threads (slice_set m.threads.items place after) ok }
+
+  -- an entry is the step of its thread
+  pub field_turn_attempted : (took : Bool) → AttemptsNumber classes (shared_view m.shared) t took (shared_view shared) after → AttemptsFieldTurn m k took left_state
+  field_turn_attempted true does = λ unit w s h.
+      let step = subst (λ (T : Classes). TakesStep unit T (in_use s) k false (shared_view m.shared) t (Some event.Quiet) (shared_view shared) after) (known ∙ ap (λ (v : World). v.classes) (sym h.world)) (does unit (in_use s) k) in
+      takes unit w m s h range k false place t after (Some event.Quiet) left_state (omega (arith, here.counted)) at (here.live t at) here.runs (sym (here.free unit w s h range)) step refl refl refl refl
+  field_turn_attempted false same =
+      ap (λ (x : SharedInMemory). let n : State = record m { shared = x; threads = holding m.threads (slice_set m.threads.items place after) ok } in n) (same_shared shared m.shared same.0)
+      ∙ ap (λ (v : Vec Thread). let n : State = record m { threads = v } in n)
+      (same_list m.threads (slice_set m.threads.items place after) ok (ap (slice_set m.threads.items place) same.1 ∙ put_back m.threads.items place t at))

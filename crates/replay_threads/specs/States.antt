@@ -75,6 +75,11 @@ AttemptsTurn old k attempt.Reduced new = (unit : SourceUnit) → TakesEntry unit
 AttemptsTurn old k attempt.Stuck new = (unit : SourceUnit) → TakesEntry unit old (entry.Step k false) false new
 AttemptsTurn old k attempt.Left new = new ≡ old
 
+-- the same where it changes what threads share: it is possible and leaves this, or all is as it was
+abbrev pub AttemptsFieldTurn : StateInMemory → ℕ → (took : Bool) → StateInMemory → Type 0
+AttemptsFieldTurn old k true new = (unit : SourceUnit) → TakesEntry unit old (entry.Step k false) true new
+AttemptsFieldTurn old k false new = new ≡ old
+
 -- ---- clearings
 
 -- whether the weak references to these objects may be cleared

@@ -251,3 +251,9 @@ abbrev pub AttemptsStep : Shared → ThreadInMemory → Attempt → ThreadInMemo
 AttemptsStep shared old attempt.Reduced new = StepsAnywhere shared old (Some event.Quiet) new
 AttemptsStep shared old attempt.Stuck new = StepsAnywhere shared old None new
 AttemptsStep shared old attempt.Left new = new ≡ old
+
+-- a thread took its step, whose turn ever it is, with nothing refused, or all is as it was
+abbrev pub AttemptsNumber : Classes → Shared → ThreadInMemory → (took : Bool) → Shared → ThreadInMemory → Type 0
+AttemptsNumber classes shared old true after new =
+    (unit : SourceUnit) (in_use : BuffersInUse) (k : ℕ) → TakesStep unit classes in_use k false shared old (Some event.Quiet) after new
+AttemptsNumber classes shared old false after new = (after ≡ shared) × (new ≡ old)

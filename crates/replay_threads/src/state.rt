@@ -1,6 +1,6 @@
 //! The state of a replay, and what an entry does to it.
 
-ghost use Rattle.std.specs.Prelude.{◌≡◌, ℕ, ◌<◌, ◌*◌, [], IfOk, IfSome, IfNone, is_some, map, ◌≤◌, flat_map, length, sum_by};
+ghost use Rattle.std.specs.Prelude.{◌≡◌, ℕ, ◌<◌, ◌*◌, [], false, IfOk, IfSome, IfNone, is_some, map, ◌≤◌, flat_map, length, sum_by};
 ghost use Rattle.base.specs.Limits.{most_activations, most_copied, most_views};
 ghost use Rattle.syntax.specs.Limits.{IsTree};
 ghost use Rattle.syntax.specs.Views.{unit_tree};
@@ -8,14 +8,14 @@ ghost use Rattle.type_rules.specs.TypeRules.{IsWellTyped};
 ghost use Rattle.semantics.specs.Journal.{Step, Clearing};
 ghost use Rattle.semantics.specs.Views.{names_of};
 ghost use Rattle.syntax.specs.Tree.{SourceUnit};
-ghost use Rattle.replay_threads.specs.States.{AreInRange, AttemptsTurn, IsLiveAt, TakesEntry, TakesNone, IsNoted, AreStandings, Waits, call_copies, call_views, copied_in, in_use_by, variables_of, viewed_in};
+ghost use Rattle.replay_threads.specs.States.{AreInRange, AttemptsFieldTurn, AttemptsTurn, IsLiveAt, TakesEntry, TakesNone, IsNoted, AreStandings, Waits, call_copies, call_views, copied_in, in_use_by, variables_of, viewed_in};
 ghost use Rattle.replay_threads.specs.Threads.{ThreadInRange, last_first};
 ghost use Rattle.semantics.specs.Thread.{lengths_copied, objects_viewed};
 ghost use Rattle.replay_terms.specs.Views.{in_use_view};
 ghost use Rattle.report.specs.ThreadStatus.{standing_view};
 
 use crate::clearing::may_clear;
-use crate::thread::{Thread, is_waiting, take_step, try_step};
+use crate::thread::{Thread, is_waiting, take_step, try_field, try_step};
 use functions::Functions;
 use replay_arguments::{Shared, Turn};
 use replay_steps::{Activation, Attempt};
@@ -236,6 +236,45 @@ fn attempt_turn(alloc: Global, state: &mut State<'_>, place: usize) -> Result<At
     try_step(alloc, &state.shared, &mut state.threads[place])
 }
 
+/// The same where it reads or writes a number of an object; false where there is more to do, and then all is as it was.
+#[inline(always)]
+fn attempt_field_turn(
+    alloc: Global,
+    state: &mut State<'_>,
+    place: usize,
+) -> Result<bool, AllocError>
+    requires range { AreInRange state.old.threads.items }
+    requires there { place < length state.old.threads.items }
+    ensures step { IfOk result (λ took. (k : ℕ) → IsLiveAt state.old k place → AttemptsFieldTurn state.old k took state.new) }
+    ensures range { IfOk result (λ _. AreInRange state.new.threads.items) }
+{
+    let classes = state.world.classes();
+    try_field(alloc, classes, &mut state.shared, &mut state.threads[place])
+}
+
+/// The same, whatever the step does, with nothing refused.
+#[inline(always)]
+fn take_longer_turn<'a>(
+    alloc: Global,
+    functions: &Functions<'a>,
+    state: &mut State<'a>,
+    k: u8,
+    place: usize,
+) -> Result<bool, AllocError>
+    requires tree { IsTree (unit_tree functions.now) }
+    requires well_typed { IsWellTyped (unit_tree functions.now) }
+    requires range { AreInRange state.old.threads.items }
+    requires live { IsLiveAt state.old k place }
+    ensures step { IfOk result (λ possible.
+        TakesEntry (unit_tree functions.now) state.old (Step k false) possible state.new) }
+    ensures range { IfOk result (λ _. AreInRange state.new.threads.items) }
+{
+    if attempt_field_turn(alloc, state, place)? {
+        return Ok(true);
+    }
+    take_whole_turn(alloc, functions, state, k, place, false)
+}
+
 /// The same, whatever the step does.
 #[inline(always)]
 fn take_turn<'a>(
@@ -260,7 +299,7 @@ fn take_turn<'a>(
     match attempt_turn(alloc, state, place)? {
         Attempt::Reduced => Ok(true),
         Attempt::Stuck => Ok(false),
-        Attempt::Left => take_whole_turn(alloc, functions, state, k, place, false),
+        Attempt::Left => take_longer_turn(alloc, functions, state, k, place),
     }
 }
 

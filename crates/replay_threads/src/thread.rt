@@ -14,7 +14,7 @@ ghost use Rattle.semantics.specs.Views.{name_of};
 ghost use Rattle.class_rules.specs.ClassIds.{number_of};
 ghost use Rattle.class_rules.specs.Grown.{IsGrown};
 ghost use Rattle.semantics.specs.World.{Invocation};
-ghost use Rattle.replay_threads.specs.Threads.{argument_content, AreCalling, AttemptsStep, BeginsNext, IsBegun, EndsStep, HasCalled, HasLeft, HasPushed, HasResumed, HasReturned, TakesTurn, ThreadInRange, ThreadWaits, WorkInRange, event_of, last_first};
+ghost use Rattle.replay_threads.specs.Threads.{argument_content, AreCalling, AttemptsNumber, AttemptsStep, BeginsNext, IsBegun, EndsStep, HasCalled, HasLeft, HasPushed, HasResumed, HasReturned, TakesTurn, ThreadInRange, ThreadWaits, WorkInRange, event_of, last_first};
 ghost use Rattle.replay_steps.specs.Callers.{IsCalling};
 ghost use Rattle.replay_tasks.specs.Outcomes.{result_view};
 ghost use Rattle.replay_tasks.specs.Tasks.{StatementsInRange};
@@ -30,7 +30,8 @@ use functions::Functions;
 use replay_arguments::{Locals, Shared, Turn};
 use replay_objects::{Frames, Names, Store};
 use replay_steps::{
-    Activation, Attempt, Entering, advance, attempt_step, entering_of, resume, waits, work_of,
+    Activation, Attempt, Entering, advance, attempt_field, attempt_step, entering_of, resume,
+    waits, work_of,
 };
 use replay_tasks::{CallResult, Outcome};
 use replay_terms::{Content, Value, Variables};
@@ -509,6 +510,29 @@ pub(crate) fn try_step<'a>(
     match &mut thread.activation {
         Some(activation) => attempt_step(alloc, shared, activation),
         None => Ok(Attempt::Left),
+    }
+}
+
+/// Lets a thread take its next step, where that reads or writes a number of an object; false where there is more to do, and then all is as it
+/// was.
+#[inline(always)]
+pub(crate) fn try_field<'a>(
+    alloc: Global,
+    classes: &ClassTable,
+    shared: &mut Shared<'a>,
+    thread: &mut Thread<'a>,
+) -> Result<bool, AllocError>
+    requires range { ThreadInRange thread.old }
+    requires grown { IsGrown classes.now }
+    ensures step { IfOk result (λ took. AttemptsNumber classes.now (shared_view shared.old) thread.old took (shared_view shared.new) thread.new) }
+    ensures range { IfOk result (λ _. ThreadInRange thread.new) }
+{
+    if thread.pending.is_some() {
+        return Ok(false);
+    }
+    match &mut thread.activation {
+        Some(activation) => attempt_field(alloc, classes, shared, activation),
+        None => Ok(false),
     }
 }
 

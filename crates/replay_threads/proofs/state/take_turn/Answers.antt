@@ -25,8 +25,8 @@ returns-in-Stuck-clause-step c =
     subst (λ (b : Bool). TakesEntry unit m (entry.Step c.args.k b) false new) (sym c.if-refused.false)
     (subst (λ (r : Attempt). AttemptsTurn m c.args.k r new) c.in-Stuck.is (c.in_ok-attempt_turn.ensures.step c.args.k c.requires.live) unit)
 
-pub take_whole_turn-requires-in-Left-clause-live : goal.take_whole_turn-requires-in-Left-clause-live
-take_whole_turn-requires-in-Left-clause-live c =
+pub take_longer_turn-requires-clause-live : goal.take_longer_turn-requires-clause-live
+take_longer_turn-requires-clause-live c =
     let m = c.args.state.now in
     let new = c.attempt_turn.new.state in
     let same : new ≡ m = subst (λ (r : Attempt). AttemptsTurn m c.args.k r new) c.in-Left.is (c.in_ok-attempt_turn.ensures.step c.args.k c.requires.live) in
@@ -38,5 +38,5 @@ returns-in-Left-clause-step c =
     let new = c.attempt_turn.new.state in
     let unit = unit_tree c.args.functions.now in
     let same : new ≡ m = subst (λ (r : Attempt). AttemptsTurn m c.args.k r new) c.in-Left.is (c.in_ok-attempt_turn.ensures.step c.args.k c.requires.live) in
-    subst (λ (b : Bool). IfOk c.take_whole_turn-in-Left.result (λ possible. TakesEntry unit m (entry.Step c.args.k b) possible c.take_whole_turn-in-Left.new.state)) (sym c.if-refused.false)
-    (subst (λ (x : State). IfOk c.take_whole_turn-in-Left.result (λ possible. TakesEntry unit x (entry.Step c.args.k false) possible c.take_whole_turn-in-Left.new.state)) same c.take_whole_turn-in-Left.ensures.step)
+    subst (λ (b : Bool). IfOk c.take_longer_turn.result (λ possible. TakesEntry unit m (entry.Step c.args.k b) possible c.take_longer_turn.new.state)) (sym c.if-refused.false)
+    (subst (λ (x : State). IfOk c.take_longer_turn.result (λ possible. TakesEntry unit x (entry.Step c.args.k false) possible c.take_longer_turn.new.state)) same c.take_longer_turn.ensures.step)
