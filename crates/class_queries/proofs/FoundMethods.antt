@@ -1,18 +1,21 @@
 -- Methods that are looked for in a class and then in its superclasses.
-use Rattle.std.proofs.Common.{◌≡◌, ℕ, zero, suc, ◌+◌, ◌<◌, Bool, true, false, List, [], ◌∷◌, ◌++◌, drop, subst, length, flat_map, filter, get_or, drop-cons, nat_eq, Option, Some, None, is_some, refl, sym, ap, ◌∙◌, arith, true≢false}
+use Rattle.std.proofs.Common.{◌≡◌, ℕ, zero, suc, ◌+◌, ◌<◌, Bool, true, false, List, [], ◌∷◌, ◌++◌, drop, subst, length, flat_map, filter, nat_eq, Option, Some, None, is_some, refl, sym, ap, ◌∙◌, arith, true≢false}
 use Rattle.std.specs.Prelude.{◌&&◌, ◌==◌, not, slice_get, codes, if◌then◌else◌}
-use Rattle.std.specs.List.{list_all, position_from}
+use Rattle.std.specs.List.{list_all}
 use Rattle.std.specs.Option.{IsSome, option_map, option_map_or, option_and_then}
 use Rattle.std.specs.Str.{bytes_eq}
+use Rattle.std.proofs.lemmas.Bool.{and_from, and_parts, and_right}
 use Rattle.std.proofs.lemmas.Bool.Decides.{nat_tests}
 use Rattle.std.proofs.lemmas.Iterator.Adapters.{position_from-zero}
 use Rattle.std.proofs.lemmas.Slice.Eq.{bytes_eq-Decides}
 use Rattle.base.specs.Bytes.{Identifier}
-use Rattle.base.specs.Options.{option_filter}
+use Rattle.base.proofs.Truths.{same_truth}
 use Rattle.class_rules.specs.ClassIds.{number_of}
 use Rattle.class_rules.specs.declared.class_id.ClassId.{ClassId}
 use Rattle.class_rules.specs.Class.{Class, Classes, class_name, class_named, superclass, above, ancestry_within}
 use Rattle.class_rules.specs.Mangling.{is_class_name, is_simple_name, mangle, escaped_byte, slash, unescaped, after_first, split_last, is_unmangled, unmangle, IsInverse}
+use Rattle.class_rules.proofs.FoundClasses.{found_from}
+use Rattle.class_rules.proofs.Unescaping.{unmangle-parts}
 use Rattle.syntax.specs.Parts.{functions_of}
 use Rattle.syntax.specs.Tree.{Function, SourceUnit}
 use Rattle.semantics.specs.Activation.{class_of_function}
@@ -20,27 +23,10 @@ use Rattle.semantics.specs.Method.{is_method_of, method_signature}
 
 -- ---- names
 
-same_truth : (a b : Bool) → (a ≡ true → b ≡ true) → (b ≡ true → a ≡ true) → a ≡ b
-same_truth true b f g = sym (f refl)
-same_truth false true f g = absurd (let e : false ≡ true = g refl in cc)
-same_truth false false f g = refl
-
-both : (s t : Bool) → (s && t) ≡ true → (s ≡ true) × (t ≡ true)
-both true t h = (refl, h)
-both false t h = absurd (true≢false (sym h))
-
-and_true : (s t : Bool) → s ≡ true → t ≡ true → (s && t) ≡ true
-and_true true t h k = k
-and_true false t h k = h
-
-and_false : (a : Bool) → (a && false) ≡ false
-and_false true = refl
-and_false false = refl
-
 -- a path of two parts is divided at its last slash
 none_in : (m : List ℕ) → list_all (λ b. not (b == 47)) m ≡ true → split_last m ≡ None
 none_in [] h = refl
-none_in (c ∷ rest) h = let parts = both (not (c == 47)) (list_all (λ b. not (b == 47)) rest) h in
+none_in (c ∷ rest) h = let parts = and_parts (not (c == 47)) (list_all (λ b. not (b == 47)) rest) h in
     ap (λ o. after_first c o rest) (none_in rest parts.1) ∙ other (c == 47) parts.0
   where
     other : (b : Bool) → not b ≡ true → ◌≡◌ {A = Option (List ℕ × List ℕ)} (if b then Some ([], rest) else None) None
@@ -85,18 +71,6 @@ parted (c ∷ rest) parts h = by_rest (split_last rest) refl h (parted rest)
             subst (IsParted (c ∷ rest)) is (ap (λ n. n ∷ rest) slash, undivided rest e)
         by_byte false t p = absurd (cc)
 
-kept : {A : Type 0} (test : A → Bool) (o : Option A) → is_some (option_filter test o) ≡ true → option_filter test o ≡ o
-kept test None h = refl
-kept {A = A} test (Some x) h = go (test x) refl
-  where
-    go : (b : Bool) → test x ≡ b → option_filter test (Some x) ≡ Some x
-    go true e = ap (λ t. if t then Some x else None) e
-    go false e = let no : false ≡ true = sym (ap (λ t. is_some (if t then Some x else None)) e) ∙ h in absurd cc
-
-unmangled_parts : (name : List ℕ) → is_some (unmangle name) ≡ true → unmangle name ≡ split_last (unescaped (drop 5 name))
-unfolding unmangle
-unmangled_parts name h = kept (is_unmangled name) (split_last (unescaped (drop 5 name))) h
-
 -- a mangled name that stands for this path, whose method has no slash
 pub is_name : IsInverse → (name path c m : List ℕ) → drop 5 name ≡ path
     → ((bytes_eq (unescaped path) (c ++ 47 ∷ m) && list_all (λ b. not (b == 47)) m) && is_some (unmangle name)) ≡ is_unmangled name (c, m)
@@ -113,26 +87,26 @@ is_name inverse name path c m after = same_truth _ _ forward backward
 
     forward : ((A && B) && C) ≡ true → is_unmangled name (c, m) ≡ true
     forward h =
-        let first = both (A && B) C h in
-        let second = both A B first.0 in
+        let first = and_parts (A && B) C h in
+        let second = and_parts A B first.0 in
         let is : unescaped path ≡ c ++ 47 ∷ m = (bytes_eq-Decides (unescaped path) (c ++ 47 ∷ m)).0 second.0 in
-        let made = (inverse name c m).0 (unmangled_parts name first.1 ∙ ap (λ p. split_last (unescaped p)) after ∙ ap split_last is ∙ joined c m second.1) in
-        and_true (is_class_name c && is_simple_name m) (bytes_eq (mangle c m) name) (and_true (is_class_name c) (is_simple_name m) made.0 made.1) ((bytes_eq-Decides (mangle c m) name).1 (sym made.2))
+        let made = (inverse name c m).0 (unmangle-parts name first.1 ∙ ap (λ p. split_last (unescaped p)) after ∙ ap split_last is ∙ joined c m second.1) in
+        and_from (is_class_name c && is_simple_name m) (bytes_eq (mangle c m) name) (and_from (is_class_name c) (is_simple_name m) made.0 made.1) ((bytes_eq-Decides (mangle c m) name).1 (sym made.2))
 
     backward : is_unmangled name (c, m) ≡ true → ((A && B) && C) ≡ true
     backward h =
-        let first = both (is_class_name c && is_simple_name m) (bytes_eq (mangle c m) name) h in
-        let second = both (is_class_name c) (is_simple_name m) first.0 in
+        let first = and_parts (is_class_name c && is_simple_name m) (bytes_eq (mangle c m) name) h in
+        let second = and_parts (is_class_name c) (is_simple_name m) first.0 in
         let found : unmangle name ≡ Some (c, m) = (inverse name c m).1 (second.0, second.1, sym ((bytes_eq-Decides (mangle c m) name).0 first.1)) in
         let there : is_some (unmangle name) ≡ true = ap is_some found in
-        let parts = parted (unescaped path) (c, m) (ap (λ p. split_last (unescaped p)) (sym after) ∙ sym (unmangled_parts name there) ∙ found) in
-        and_true (A && B) C (and_true A B ((bytes_eq-Decides (unescaped path) (c ++ 47 ∷ m)).1 parts.0) parts.1) there
+        let parts = parted (unescaped path) (c, m) (ap (λ p. split_last (unescaped p)) (sym after) ∙ sym (unmangle-parts name there) ∙ found) in
+        and_from (A && B) C (and_from A B ((bytes_eq-Decides (unescaped path) (c ++ 47 ∷ m)).1 parts.0) parts.1) there
 
 -- a name without the prefix is no mangled one
 pub no_name : (name c m : List ℕ) → ((xs : List ℕ) → bytes_eq (codes "Java_" ++ xs) name ≡ false) → is_unmangled name (c, m) ≡ false
 no_name name c m none =
     ap (λ t. (is_class_name c && is_simple_name m) && t) (none (flat_map escaped_byte (c ++ 47 ∷ m)))
-    ∙ and_false (is_class_name c && is_simple_name m)
+    ∙ and_right (is_class_name c && is_simple_name m) false refl
 
 -- what comes after the prefix
 pub after_prefix : (name path : List ℕ) → ((xs : List ℕ) → bytes_eq (codes "Java_" ++ xs) name ≡ bytes_eq xs path) → drop 5 name ≡ path
@@ -179,18 +153,6 @@ module _ (unit : SourceUnit) (T : Classes) (c : ℕ) (name : Identifier) (text :
 
 -- ---- the class of a method
 
--- a class that is there is found by its name
-found_from : (test : Class → Bool) (n : ℕ) (cs : Classes) (i : ℕ) (c : Class) → slice_get cs i ≡ Some c → test c ≡ true → (j : ℕ) × (position_from test n cs ≡ Some j)
-found_from test n [] i c there passes = absurd (cc)
-found_from test n (d ∷ cs) zero c there passes =
-    let same : d ≡ c = cc in
-    (n, ap (λ (b : Bool). if b then Some n else position_from test (n + 1) cs) (ap test same ∙ passes))
-found_from test n (d ∷ cs) (suc i) c there passes = by_test (test d) (found_from test (n + 1) cs i c there passes)
-  where
-    by_test : (b : Bool) → (j : ℕ) × (position_from test (n + 1) cs ≡ Some j) → (j : ℕ) × ((if b then Some n else position_from test (n + 1) cs) ≡ Some j)
-    by_test true later = (n, refl)
-    by_test false later = later
-
 -- a class that has a number is there
 pub numbered : (o : Option ClassId) → IsSome (number_of o) → IsSome o
 numbered None h = h
@@ -213,25 +175,19 @@ named cs (suc i) h = by_place (slice_get cs i) refl h
 -- a method of a class is a native method of its namesake
 module _ (inverse : IsInverse) (T : Classes) (f : Function) (c : ℕ) (name : Identifier) (text : List ℕ) (is : is_method_of T c name text f ≡ true) where
   abbrev parts : ((is_class_name (class_name T c) && is_simple_name name) ≡ true) × (bytes_eq (mangle (class_name T c) name) f.name ≡ true)
-  parts = both (is_class_name (class_name T c) && is_simple_name name) (bytes_eq (mangle (class_name T c) name) f.name) (both (is_unmangled f.name (class_name T c, name)) (bytes_eq (method_signature f) text) is).0
+  parts = and_parts (is_class_name (class_name T c) && is_simple_name name) (bytes_eq (mangle (class_name T c) name) f.name) (and_parts (is_unmangled f.name (class_name T c, name)) (bytes_eq (method_signature f) text) is).0
 
   pub is_named : is_class_name (class_name T c) ≡ true
-  is_named = (both (is_class_name (class_name T c)) (is_simple_name name) parts.0).0
+  is_named = (and_parts (is_class_name (class_name T c)) (is_simple_name name) parts.0).0
 
   pub of_namesake : (d : ℕ) → class_named T (class_name T c) ≡ Some d → class_of_function T f ≡ Some d
   of_namesake d found =
-      let unmangled : unmangle f.name ≡ Some (class_name T c, name) = (inverse f.name (class_name T c) name).1 (is_named, (both (is_class_name (class_name T c)) (is_simple_name name) parts.0).1, sym ((bytes_eq-Decides (mangle (class_name T c) name) f.name).0 parts.1)) in
+      let unmangled : unmangle f.name ≡ Some (class_name T c, name) = (inverse f.name (class_name T c) name).1 (is_named, (and_parts (is_class_name (class_name T c)) (is_simple_name name) parts.0).1, sym ((bytes_eq-Decides (mangle (class_name T c) name) f.name).0 parts.1)) in
       ap (λ (o : Option (Identifier × Identifier)). option_and_then (class_named T) (option_map (λ (p : Identifier × Identifier). p.0) o)) unmangled ∙ found
 
 -- nothing was found
 pub none_found : {A B : Type 0} (f : A → B) (o : Option A) (p : Option B) → o ≡ None → option_map f o ≡ p → p ≡ None
 none_found f o p h e = sym e ∙ ap (option_map f) h
-
--- an item at a place, and those after it
-pub item_here : {A : Type 0} (items : List A) (i : ℕ) (x y : A) → i < length items → x ≡ get_or items i x → x ≡ y → drop i items ≡ y ∷ drop (i + 1) items
-item_here items i x y below at is =
-    let e : suc i ≡ i + 1 = omega arith in
-    drop-cons items i x below ∙ ap (λ z. z ∷ drop (suc i) items) (sym at ∙ is) ∙ ap (λ n. y ∷ drop n items) e
 
 -- no path is left where no byte is
 pub no_path : (bytes : List ℕ) → nat_eq (length bytes) 0 ≡ bytes_eq (unescaped bytes) []

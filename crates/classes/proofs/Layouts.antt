@@ -7,6 +7,7 @@ use Rattle.std.proofs.lemmas.Option.{slice_get-map}
 use Rattle.std.proofs.lemmas.Grind.{flat_map-append}
 use Rattle.std.proofs.lemmas.List.{append-nil, reverse-append, length-map}
 use Rattle.std.proofs.lemmas.Bool.{and_parts}
+use Rattle.base.proofs.Lists.{get_right}
 use Rattle.class_rules.specs.Class.{Field, Class, Classes, class_at, superclass, above, ancestry_within}
 use Rattle.class_rules.specs.Fields.{FieldId, own_fields, layout}
 use Rattle.classes.specs.FieldViews.{declared_as}
@@ -57,19 +58,6 @@ layout-few T h (suc n) c = by_super (superclass T c) refl (layout-few T h n)
     by_super None e up = omega (arith, ap length (layout-top T c (suc n) n (omega arith) e), own-few T c h)
     by_super (Some s) e up = omega (arith, ap length (layout-above T c (suc n) n s (omega arith) e), length-append (layout_within n T s) (own_fields T c), own-few T c h, up s)
 
--- a place in the first part of a list, or in the second
-pub get-front : {A : Type 0} (xs ys : List A) (i : ℕ) → i < length xs → slice_get (xs ++ ys) i ≡ slice_get xs i
-get-front [] ys i h = absurd (omega arith)
-get-front (x ∷ xs) ys zero h = refl
-get-front (x ∷ xs) ys (suc i) h = get-front xs ys i (omega (arith, h))
-
-pub get-back : {A : Type 0} (xs ys : List A) (i : ℕ) → length xs ≤ i → slice_get (xs ++ ys) i ≡ slice_get ys (i - length xs)
-get-back [] ys i h = let e : i ≡ i - 0 = omega arith in ap (slice_get ys) e
-get-back (x ∷ xs) ys zero h = absurd (omega arith)
-get-back (x ∷ xs) ys (suc i) h =
-    let e : i - length xs ≡ suc i - suc (length xs) = omega arith in
-    get-back xs ys i (omega (arith, h)) ∙ ap (slice_get ys) e
-
 pub layout-small : (T : Classes) → IsTable T → (c : ℕ) → length (layout T c) ≤ 16384
 layout-small T t c = omega (arith, layout-few T t.few_fields (length T) c, t.few)
 
@@ -108,7 +96,7 @@ at-own T n m c place count fields e is counted within after = by_super (supercla
         let low : length front ≤ place = omega (arith, own, counted, parts, sum, after, within) in
         let same : place - length front ≡ place - (count - length fields) = omega (arith, own, counted, parts, sum, after, within) in
         ap (λ w. slice_get w place) whole
-        ∙ get-back front (own_fields T c) place low
+        ∙ get_right front (own_fields T c) place low
         ∙ ap (slice_get (own_fields T c)) same
         ∙ own-at T c fields (place - (count - length fields)) is
 

@@ -11,6 +11,7 @@ use Rattle.std.proofs.lemmas.Cmp.{nat_list_eq_equiv}
 use Rattle.std.proofs.lemmas.Slice.Eq.{bytes_eq-Decides}
 use Rattle.std.proofs.lemmas.Bool.{and_parts, or_parts, not-true}
 use Rattle.base.specs.Bytes.{Identifier}
+use Rattle.base.proofs.Lists.{all_at}
 use Rattle.classes.specs.declared.class.FieldType.{FieldType as FieldTypeInMemory}
 use Rattle.class_rules.specs.Class.{Field, Class, Classes}
 use Rattle.class_rules.specs.Fields.{signature}
@@ -105,12 +106,6 @@ module _ (T : Classes) (name : Identifier) (text : List ℕ) where
           absurd (cc)
 
 -- ---- what the classes of a table declare
-
--- what holds of all holds of one
-pub all_at : {A : Type 0} (holds : A → Bool) (xs : List A) (i : ℕ) (x : A) → list_all holds xs ≡ true → slice_get xs i ≡ Some x → holds x ≡ true
-all_at holds [] i x h at = absurd (cc)
-all_at holds (y ∷ xs) zero x h at = let is : y ≡ x = cc in ap holds (sym is) ∙ (and_parts (holds y) (list_all holds xs) h).0
-all_at holds (y ∷ xs) (suc i) x h at = all_at holds xs i x (and_parts (holds y) (list_all holds xs) h).1 at
 
 pub declared_differ : (T : Classes) (c : ℕ) (s : Bool) → list_all declares_once T ≡ true → field_names_differ (declared_as T c s) ≡ true
 declared_differ T zero s h = refl

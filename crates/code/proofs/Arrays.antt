@@ -2,9 +2,9 @@
 use Rattle.std.proofs.Common.{◌≡◌, ℕ, zero, suc, ◌+◌, ◌-◌, ◌<◌, ◌≤◌, List, [], ◌∷◌, ◌++◌, length, take, drop, replicate, Some, refl, sym, ap, ◌∙◌, arith}
 use Rattle.std.specs.Prelude.{slice_get}
 use Rattle.std.proofs.lemmas.List.{length-take-le, length-replicate}
+use Rattle.base.proofs.Lists.{get_left, get_right}
 use Rattle.code.specs.declared.instr.LocalArray.{LocalArray}
 use Rattle.code.specs.Effect.{cleared}
-use Rattle.code.proofs.Lists.{get_left, get_right}
 
 get_take : {X : Type 0} (n : ℕ) (a : List X) (place : ℕ) → place < n → slice_get (take n a) place ≡ slice_get a place
 get_take zero a place h = absurd (omega arith)

@@ -6,6 +6,7 @@ use Rattle.std.specs.Option.{option_and_then}
 use Rattle.std.proofs.lemmas.List.{take_all}
 use Rattle.std.proofs.Math.ListN.{get_or-append}
 use Rattle.std.proofs.Math.Seq.{get_or-append_seam}
+use Rattle.std.proofs.lemmas.Option.{slice_get_within}
 use Rattle.code.specs.declared.instr.Instr.{Instr}
 use Rattle.code.specs.declared.slots.SlotCounts.{SlotCounts}
 use Rattle.code.specs.Depth.{depth_after, depths, depth_at, IsDepthTable, EndsByLeaving, Lands, JumpsLand, within_slots, IsValid}
@@ -82,11 +83,6 @@ valid_of instrs slots stays ends jumps within = let end = known (depths instrs 0
 
 -- ---- jumps
 
-inside_of : {X : Type 0} (xs : List X) (k : ℕ) (x : X) → slice_get xs k ≡ Some x → k < length xs
-inside_of [] k x at = absurd (cc)
-inside_of (y ∷ xs) zero x at = omega arith
-inside_of (y ∷ xs) (suc k) x at = let within : k < length xs = inside_of xs k x at in omega arith
-
 -- the jump at one place more lands
 pub lands_more : (instrs : List Instr) (table : List ℕ) (place : ℕ) (here : Instr) → slice_get instrs place ≡ Some here → Lands instrs place (slice_index table place) here
     → ((k : ℕ) (i : Instr) → k < place → slice_get instrs k ≡ Some i → Lands instrs k (slice_index table k) i)
@@ -98,7 +94,7 @@ lands_more instrs table place here at lands before k i h =
 pub all_land : (instrs : List Instr) (table : List ℕ) (end : ℕ) → IsDepthTable instrs table → length instrs ≤ end
     → ((k : ℕ) (i : Instr) → k < end → slice_get instrs k ≡ Some i → Lands instrs k (slice_index table k) i) → JumpsLand instrs
 all_land instrs table end is past each place depth i at here =
-    let within : place < length instrs = inside_of instrs place i at in
+    let within : place < length instrs = slice_get_within instrs place i at in
     let in_table : place < length table = omega (arith, is.places) in
     let word = is.words place in_table in
     let same : slice_index table place ≡ depth = cc in

@@ -1,4 +1,3 @@
-pub mod Lists
 pub mod Depths
 pub mod Effects
 pub mod Runs

@@ -6,10 +6,10 @@ use Rattle.std.specs.Option.{option_and_then}
 use Rattle.std.proofs.Math.Seq.{take-append-add}
 use Rattle.std.proofs.lemmas.Bool.{ltb-true, ltb-false}
 use Rattle.std.proofs.lemmas.List.{take-append-le, take_all}
+use Rattle.base.proofs.Lists.{get_left, get_right}
 use Rattle.code.specs.declared.instr.Instr.{Instr}
 use Rattle.code.specs.declared.instr.Instr.TheVariants.{JumpIfFalseOrPop, JumpIfTrueOrPop, JumpIfFalse, Jump, JumpBack, Return}
 use Rattle.code.specs.Depth.{depth_after, depths, HasDepth, Lands, Moves, JumpsLand}
-use Rattle.code.proofs.Lists.{get_left, get_right}
 
 -- ---- lists of instructions
 

@@ -1,6 +1,6 @@
 -- What is seen of buffers, and what their elements are.
-use Rattle.std.proofs.Common.{◌≡◌, ℕ, zero, suc, ℤ, ◌<◌, ◌^◌, List, [], ◌∷◌, replicate, Option, Some, None, refl, ap, ◌∙◌, subst}
-use Rattle.std.specs.Prelude.{slice_get, slice_set, FitsSigned}
+use Rattle.std.proofs.Common.{◌≡◌, ℕ, zero, suc, ℤ, ◌<◌, ◌^◌, List, replicate, Option, Some, None, refl, ap, ◌∙◌, subst}
+use Rattle.std.specs.Prelude.{slice_get, FitsSigned}
 use Rattle.std.specs.Int.{w32}
 use Rattle.base.specs.Bytes.{Identifier, lookup}
 use Rattle.base.specs.Element.{ElementType}
@@ -116,9 +116,3 @@ shows_kept code known old new slots same statics shows = record {
 -- so they do with another heap
 pub shows_with_heap : (code : Listing) (known : Known) (own : Identifier → Option ℕ) (s : Shared) (t : Thread) (heap : Heap) (slots : Slots) → Shows code known (visible_to own s t) slots → Shows code known (visible_to own (record s { heap = heap }) t) slots
 shows_with_heap code known own s t heap slots shows = shows_kept code known (visible_to own s t) (visible_to own (record s { heap = heap }) t) slots (heap_changes own s t heap) refl shows
-
--- what is there already stays
-pub set_same : {A : Type 0} (xs : List A) (i : ℕ) (a : A) → slice_get xs i ≡ Some a → slice_set xs i a ≡ xs
-set_same [] i a h = refl
-set_same {A = A} (x ∷ xs) zero a h = let same : a ≡ x = cc in ap (λ (y : A). y ∷ xs) same
-set_same {A = A} (x ∷ xs) (suc i) a h = ap (λ (ys : List A). x ∷ ys) (set_same xs i a h)

@@ -9,13 +9,13 @@ use Rattle.std.proofs.lemmas.Bool.{eqb-true}
 use Rattle.std.proofs.lemmas.Bool.Decides.{not_from_Decides, Decides-eqb}
 use Rattle.std.proofs.lemmas.Slice.Eq.{bytes_eq-Decides}
 use Rattle.base.specs.Bytes.{Identifier, lookup}
+use Rattle.base.proofs.Lists.{get_set_other}
 use Rattle.type_rules.specs.ExprTypes.{ExprType, Jint, Ref, Global, Weak, FieldId, MethodId, Buffer, Array}
 use Rattle.type_rules.specs.ExprTypes as ty
 use Rattle.code.specs.Depth.{Listing}
 use Rattle.code_meaning.specs.Layout.{Slot, Known}
 use Rattle.code_meaning.specs.Fits.{IsOwn}
 use Rattle.code_meaning.specs.Slots.{Visible, Slots, ShowsNumber, ShowsSlot, Shows}
-use Rattle.semantics.proofs.AccountLaws.{get-set_other}
 
 -- ---- any change
 
@@ -89,7 +89,7 @@ module _ (code : Listing) (known : Known) (visible : Visible) (slots : Slots) (s
   other_kept i j level o alone before is =
       elim (j == i) as (λ b. (j == i) ≡ b → slice_get (slice_set slots.owners i None) j ≡ Some (Some level)) [
         | true ↦ λ e. absurd (let c : None ≡ Some level = sym (alone (eqb-true j i e)) ∙ is in cc)
-        | false ↦ λ e. get-set_other slots.owners i j None (not_from_Decides (j == i) (Decides-eqb j i) e) ∙ before level is
+        | false ↦ λ e. get_set_other slots.owners i j None (not_from_Decides (j == i) (Decides-eqb j i) e) ∙ before level is
       ] refl
 
   lost_kept : (x : Identifier) (i : ℕ) → ((y : Identifier) → lookup y known ≡ Some (record { ty = Ref; index = i }) → y ≢ x → visible.owner y ≡ None)

@@ -1,5 +1,5 @@
 -- What the slots show once a variable is set.
-use Rattle.std.proofs.Common.{◌≡◌, ◌≢◌, ℕ, zero, suc, ℤ, pos, lit<, ◌+◌, ◌<◌, ◌≤◌, Bool, true, false, List, [], ◌∷◌, length, Option, Some, None, refl, sym, ap, ◌∙◌, subst, arith, if◌then◌else◌}
+use Rattle.std.proofs.Common.{◌≡◌, ◌≢◌, ℕ, ℤ, pos, lit<, ◌+◌, ◌<◌, ◌≤◌, Bool, true, false, List, ◌∷◌, length, Option, Some, None, refl, sym, ap, ◌∙◌, subst, arith, if◌then◌else◌}
 use Rattle.std.specs.Prelude.{slice_get, slice_set, nat_lt, ◌==◌, FitsSigned}
 use Rattle.std.specs.Int.{w32, cast_unsigned}
 use Rattle.std.specs.Option.{option_map}
@@ -10,6 +10,7 @@ use Rattle.std.proofs.lemmas.Slice.Eq.{bytes_eq-Decides}
 use Rattle.std.proofs.lemmas.Bool.Decides.{not_from_Decides, Decides-eqb}
 use Rattle.base.specs.Bytes.{Identifier, lookup}
 use Rattle.base.specs.Element.{ElementType}
+use Rattle.base.proofs.Lists.{get_set_other, get_set_same}
 use Rattle.type_rules.specs.ExprTypes.{ExprType, Jint, Ref, Global, Weak, FieldId, MethodId, Buffer, Array}
 use Rattle.type_rules.specs.ExprTypes as ty
 use Rattle.type_rules.specs.TypeGroups.{IsNumberType}
@@ -20,7 +21,6 @@ use Rattle.semantics.specs.Task.{VariableKind, ScalarKind, ReferenceKind, FieldK
 use Rattle.semantics.specs.Value.{Value, Gives, convert}
 use Rattle.semantics.specs.Variable as variable
 use Rattle.semantics.specs.Variable.{NoBuffer, StaticReference, Empty, Statics, as_argument, assign}
-use Rattle.semantics.proofs.AccountLaws.{get-set_other}
 use Rattle.code.specs.declared.instr.NullableVariable.{NullableVariable}
 use Rattle.code.specs.declared.instr.NullableVariable.TheVariants as nullable
 use Rattle.code.specs.Depth.{Listing}
@@ -32,13 +32,6 @@ use Rattle.code_meaning.specs.Slots.{word_of, ValueHasType, Visible, IsAsBefore,
 use Rattle.code_meaning.specs.Fits.{IsPlaceOf, IsBufferType, IsHandleType, IsOwn, IndexWithin, IsStaticType}
 use Rattle.code_meaning.specs.Stands.{AreAmong, IsSlotOf}
 use Rattle.code_meaning.proofs.StaticPlaces.{StaticStays, statics_stay, assigned_stays, assigned_place, assigned_held}
-
--- ---- a slot is written
-
-pub get-set_same : {A : Type 0} (xs : List A) (i : ℕ) (w : A) → i < length xs → slice_get (slice_set xs i w) i ≡ Some w
-get-set_same [] i w below = absurd (omega arith)
-get-set_same (x ∷ xs) zero w below = refl
-get-set_same (x ∷ xs) (suc i) w below = get-set_same xs i w (omega arith)
 
 -- ---- names
 
@@ -176,9 +169,9 @@ shows_set code known old new slots x s v shows own n fits set =
     let below : s.index < length slots.numbers = omega (arith, number_below code known x s n own, shows.numbers) in
     with_changed code known old new slots (record slots { numbers = slice_set slots.numbers s.index (word_of v) }) x s shows own.own set.others (λ y other. statics_stay old.statics new.statics set.statics y)
     (length-set slots.numbers s.index (word_of v)) refl refl refl
-    (λ k outside. get-set_other slots.numbers s.index k (word_of v) (λ e. outside (subst (IsPlaceOf s) (sym e) (number_place s n))))
+    (λ k outside. get_set_other slots.numbers s.index k (word_of v) (λ e. outside (subst (IsPlaceOf s) (sym e) (number_place s n))))
     (λ i other. (refl, refl)) (λ i other. refl) refl (λ i other. refl)
-    (number_shown new x (record slots { numbers = slice_set slots.numbers s.index (word_of v) }) s s.ty n (record { value = v; is = set.is; kind = set.kind; ty = fits; word = get-set_same slots.numbers s.index (word_of v) below }))
+    (number_shown new x (record slots { numbers = slice_set slots.numbers s.index (word_of v) }) s s.ty n (record { value = v; is = set.is; kind = set.kind; ty = fits; word = get_set_same slots.numbers s.index (word_of v) below }))
 
 -- ---- a local reference, a field ID or a method ID is set
 
@@ -189,14 +182,14 @@ with_reference : (code : Listing) (known : Known) (old new : Visible) (slots : S
 with_reference code known old new slots x i r owners shows own set count others owner =
     let below : i < length slots.references = omega (arith, own.within, shows.references) in
     with_changed code known old new slots (record slots { references = slice_set slots.references i r; owners = owners }) x (record { ty = Ref; index = i }) shows own.own set.others (λ y other. statics_stay old.statics new.statics set.statics y)
-    refl (length-set slots.references i r) count refl (λ k outside. refl) (λ j other. (get-set_other slots.references i j r (other refl), others j (other refl))) (λ j other. refl) refl (λ j other. refl)
-    (record { reference = r; is = set.reference; is_null = set.is_null; no_number = set.number; kind = set.kind; there = get-set_same slots.references i r below; owner = owner })
+    refl (length-set slots.references i r) count refl (λ k outside. refl) (λ j other. (get_set_other slots.references i j r (other refl), others j (other refl))) (λ j other. refl) refl (λ j other. refl)
+    (record { reference = r; is = set.reference; is_null = set.is_null; no_number = set.number; kind = set.kind; there = get_set_same slots.references i r below; owner = owner })
 
 pub shows_referred : (code : Listing) (known : Known) (old new : Visible) (slots : Slots) (x : Identifier) (i : ℕ) (r : Reference) → Shows code known old slots → IsSlotOf code known x (record { ty = Ref; index = i }) → IsReferred old x r new
     → Shows code ((x, record { ty = Ref; index = i }) ∷ known) new (record slots { references = slice_set slots.references i r; owners = slice_set slots.owners i (new.owner x) })
 shows_referred code known old new slots x i r shows own set =
     let below : i < length slots.owners = omega (arith, own.within, shows.owners) in
-    with_reference code known old new slots x i r (slice_set slots.owners i (new.owner x)) shows own set (length-set slots.owners i (new.owner x)) (λ j other. get-set_other slots.owners i j (new.owner x) other) (λ n level is owner. get-set_same slots.owners i (new.owner x) below ∙ ap (λ (o : Option ℕ). Some o) owner)
+    with_reference code known old new slots x i r (slice_set slots.owners i (new.owner x)) shows own set (length-set slots.owners i (new.owner x)) (λ j other. get_set_other slots.owners i j (new.owner x) other) (λ n level is owner. get_set_same slots.owners i (new.owner x) below ∙ ap (λ (o : Option ℕ). Some o) owner)
 
 pub shows_field_set : (code : Listing) (known : Known) (old new : Visible) (slots : Slots) (x : Identifier) (i : ℕ) (f : Option source.FieldId) → Shows code known old slots → IsSlotOf code known x (record { ty = FieldId; index = i }) → IsFieldSet old x f new
     → Shows code ((x, record { ty = FieldId; index = i }) ∷ known) new (record slots { fields = slice_set slots.fields i (option_map OfField f) })
@@ -204,8 +197,8 @@ shows_field_set code known old new slots x i f shows own set =
     let h : Option Handle = option_map OfField f in
     let below : i < length slots.fields = omega (arith, own.within, shows.fields) in
     with_changed code known old new slots (record slots { fields = slice_set slots.fields i h }) x (record { ty = FieldId; index = i }) shows own.own set.others (λ y other. statics_stay old.statics new.statics set.statics y)
-    refl refl refl (length-set slots.fields i h) (λ k outside. refl) (λ j other. (refl, refl)) (λ j other. get-set_other slots.fields i j h (other tt)) refl (λ j other. refl)
-    (record { field = f; is = set.field; is_null = set.is_null; no_number = set.number; kind = set.kind; there = get-set_same slots.fields i h below })
+    refl refl refl (length-set slots.fields i h) (λ k outside. refl) (λ j other. (refl, refl)) (λ j other. get_set_other slots.fields i j h (other tt)) refl (λ j other. refl)
+    (record { field = f; is = set.field; is_null = set.is_null; no_number = set.number; kind = set.kind; there = get_set_same slots.fields i h below })
 
 pub shows_method_set : (code : Listing) (known : Known) (old new : Visible) (slots : Slots) (x : Identifier) (i : ℕ) (m : Option method.MethodId) → Shows code known old slots → IsSlotOf code known x (record { ty = MethodId; index = i }) → IsMethodSet old x m new
     → Shows code ((x, record { ty = MethodId; index = i }) ∷ known) new (record slots { fields = slice_set slots.fields i (option_map OfMethod m) })
@@ -213,8 +206,8 @@ shows_method_set code known old new slots x i m shows own set =
     let h : Option Handle = option_map OfMethod m in
     let below : i < length slots.fields = omega (arith, own.within, shows.fields) in
     with_changed code known old new slots (record slots { fields = slice_set slots.fields i h }) x (record { ty = MethodId; index = i }) shows own.own set.others (λ y other. statics_stay old.statics new.statics set.statics y)
-    refl refl refl (length-set slots.fields i h) (λ k outside. refl) (λ j other. (refl, refl)) (λ j other. get-set_other slots.fields i j h (other tt)) refl (λ j other. refl)
-    (record { method = m; is = set.method; is_null = set.is_null; no_number = set.number; kind = set.kind; there = get-set_same slots.fields i h below })
+    refl refl refl (length-set slots.fields i h) (λ k outside. refl) (λ j other. (refl, refl)) (λ j other. get_set_other slots.fields i j h (other tt)) refl (λ j other. refl)
+    (record { method = m; is = set.method; is_null = set.is_null; no_number = set.number; kind = set.kind; there = get_set_same slots.fields i h below })
 
 -- ---- a buffer is set
 
@@ -223,8 +216,8 @@ pub shows_buffer_set : (code : Listing) (known : Known) (old new : Visible) (slo
 shows_buffer_set code known old new slots x t writable i b shows own set =
     let below : i < length slots.buffers = omega (arith, own.within, shows.buffers) in
     with_changed code known old new slots (record slots { buffers = slice_set slots.buffers i b }) x (record { ty = Buffer t writable; index = i }) shows own.own set.others (λ y other. statics_stay old.statics new.statics set.statics y)
-    refl refl refl refl (λ k outside. refl) (λ j other. (refl, refl)) (λ j other. refl) (length-set slots.buffers i b) (λ j other. get-set_other slots.buffers i j b (other tt))
-    (record { buffer = b; is = set.buffer; is_null = set.is_null; kind = set.kind; there = get-set_same slots.buffers i b below })
+    refl refl refl refl (λ k outside. refl) (λ j other. (refl, refl)) (λ j other. refl) (length-set slots.buffers i b) (λ j other. get_set_other slots.buffers i j b (other tt))
+    (record { buffer = b; is = set.buffer; is_null = set.is_null; kind = set.kind; there = get_set_same slots.buffers i b below })
 
 -- one that has its slot already
 pub shows_buffer_again : (code : Listing) (known : Known) (old new : Visible) (slots : Slots) (x : Identifier) (t : ElementType) (writable : Bool) (i : ℕ) (b : variable.Buffer) → Shows code known old slots → lookup x known ≡ Some (record { ty = Buffer t writable; index = i })
@@ -371,10 +364,10 @@ element_set : (old new : Visible) (numbers : List ℕ) (t : ElementType) (x : Id
 element_set old new numbers t x start index k z word inside is fits set old_element true e =
     let same : k ≡ index = eqb-true k index e in
     subst (λ (n : ℕ). ShowsElement (new.sight.element x n) (slice_set numbers (start + index) word) (start + n)) (sym same)
-    (record { number = convert t z; is = set.is; fits = fits; word = get-set_same numbers (start + index) word inside ∙ ap (λ (w : ℕ). Some w) is })
+    (record { number = convert t z; is = set.is; fits = fits; word = get_set_same numbers (start + index) word inside ∙ ap (λ (w : ℕ). Some w) is })
 element_set old new numbers t x start index k z word inside is fits set old_element false e =
     let other : k ≢ index = not_from_Decides (k == index) (Decides-eqb k index) e in
-    record { number = old_element.number; is = set.elements k other ∙ old_element.is; fits = old_element.fits; word = get-set_other numbers (start + index) (start + k) word (λ s. other (omega (arith, s))) ∙ old_element.word }
+    record { number = old_element.number; is = set.elements k other ∙ old_element.is; fits = old_element.fits; word = get_set_other numbers (start + index) (start + k) word (λ s. other (omega (arith, s))) ∙ old_element.word }
 
 -- an element is written
 pub shows_element_set : (code : Listing) (known : Known) (old new : Visible) (slots : Slots) (t : ElementType) (x : Identifier) (size start index : ℕ) (z : ℤ) (word : ℕ) → Shows code known old slots → lookup x known ≡ Some (record { ty = Array t size; index = start })
@@ -386,7 +379,7 @@ shows_element_set code known old new slots t x size start index z word shows at 
     fewer_shown code known ((x, record { ty = Array t size; index = start }) ∷ known) new (record slots { numbers = slice_set slots.numbers (start + index) word }) (known_among x (record { ty = Array t size; index = start }) known at)
     (with_changed code known old new slots (record slots { numbers = slice_set slots.numbers (start + index) word }) x (record { ty = Array t size; index = start }) shows own.own set.others (λ y other. statics_stay old.statics new.statics set.statics y)
     (length-set slots.numbers (start + index) word) refl refl refl
-    (λ k outside. get-set_other slots.numbers (start + index) k word (λ e. outside (omega (arith, e), omega (arith, e, below))))
+    (λ k outside. get_set_other slots.numbers (start + index) k word (λ e. outside (omega (arith, e), omega (arith, e, below))))
     (λ i other. (refl, refl)) (λ i other. refl) refl (λ i other. refl)
     (record {
       few = array.few;

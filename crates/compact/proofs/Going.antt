@@ -4,11 +4,12 @@ use Rattle.std.specs.Prelude.{slice_get, IsSome}
 use Rattle.std.specs.List.{Contains}
 use Rattle.std.proofs.lemmas.Bool.{cases_eq, both_ways}
 use Rattle.std.proofs.lemmas.List.{length-map}
+use Rattle.base.proofs.Lists.{Contains-from_get, none_in}
 use Rattle.heap.specs.declared.value.Value.TheVariants.{Block as Reference}
 use Rattle.heap.specs.Heap.{Block, Space, IsAddress, bare, block_at, pins_at, values_at, addresses}
 use Rattle.heap.specs.Marks.{Marks, noted, is_kept}
 use Rattle.heap.specs.Marking.{unmarked, IsUnderWay}
-use Rattle.heap.proofs.Counting.{marks_fit, none_in}
+use Rattle.heap.proofs.Counting.{marks_fit}
 use Rattle.heap.proofs.Places.{place_of}
 use Rattle.heap.proofs.UnderWay.{marked_noted, some_is}
 use Rattle.compact.specs.Reach.{AreAddresses, Refers, IsClosed}
@@ -17,7 +18,6 @@ use Rattle.compact.specs.Placing.{IsLowest}
 use Rattle.compact.specs.Same.{IsSameWeakly, MovesBy}
 use Rattle.compact.specs.Slices.{AreNoted, IsKeptBy, IsWhole, count_of}
 use Rattle.compact.proofs.Adding.{Adds-noted, kept-noted}
-use Rattle.compact.proofs.Blocks.{Contains-from_get}
 
 -- ---- marks
 

@@ -3,6 +3,7 @@ use Rattle.std.proofs.Common.{◌≡◌, ℕ, zero, suc, ◌+◌, ◌<◌, ◌�
 use Rattle.std.specs.List.{Contains}
 use Rattle.std.proofs.lemmas.Bool.{cases_eq, cases_lt, both_ways}
 use Rattle.std.proofs.lemmas.List.{get_or_past, get_or-set_same, get_or-set_other, length-set}
+use Rattle.base.proofs.Lists.{none_in}
 use Rattle.heap.specs.Marks.{is_kept}
 use Rattle.heap.specs.Marking.{unmarked}
 
@@ -30,9 +31,6 @@ all_unmarked (true ∷ ms) none = absurd (none 0 refl)
 all_unmarked (false ∷ ms) none =
     let rest = all_unmarked ms (λ a k. none (suc a) k) in
     omega arith
-
-pub none_in : (x : ℕ) → Contains [] x → ⊥
-none_in x c = let within : c.0 < 0 = c.1 in absurd (omega arith)
 
 in_rest : (x y : ℕ) (xs : List ℕ) (k : ℕ) → k < length (x ∷ xs) → get_or (x ∷ xs) k y ≡ y → (x ≡ y → ⊥) → Contains xs y
 in_rest x y xs zero l e ne = absurd (ne e)

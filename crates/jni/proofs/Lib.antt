@@ -1,2 +1,3 @@
 mod Places
 mod Names
+pub mod MethodCalls

@@ -30,6 +30,8 @@ use Rattle.semantics.specs.Term.{Term, Done, Read, Binary, term_of}
 use Rattle.semantics.specs.Task.{Task, SetScalar, Branch, ReturnValue, Target, Declared, Assigned, Tested, Dropped, VariableKind, ScalarKind, ReferenceKind, FieldKind, MethodKind, BufferKind, kind_of, set_task, invocation, call_task, right_side_task, if_task, task_of, tasks_of, operand, passed_operand, PassedName, Given, Operand}
 use Rattle.code_meaning.specs.Layout.{Slot, Known, Layout, new_slot, closed, layout_after, block_layout}
 use Rattle.code_meaning.specs.Coding.{nullable_of, store_of, write_code, of_slot, operand_of, passed_variable, passed_code, passed_rest, address_operand, term_code, expr_code, value_code, right_code, assign_code, returned_code, return_code, paths_code, turn_code, loop_code, if_code, stmt_code, block_code, named_call_code, operand_code, argument_code, arguments_code, argument_text, arguments_texts, result_target}
+use Rattle.code_meaning.specs.Slots as value
+use Rattle.code_meaning.specs.Fits as rule
 use Rattle.code_meaning.specs.Fits.{HasElements, IsUntouched, NumberFits, IndexWithin, IsLaidOut, HaveOwnSlots, HasRoomFor, IsVariable, TakesLocal, TakesGlobal, NameFits, ArrayFits, BufferFits, ArgumentFits, ValueFits, RightFits, TestFits, ReturnFits, StmtFits, BlockFits, CallFits, ReferenceFits, FieldFits, MethodFits, PassedFits, ResultFits, AnyReferenceFits, IsStaticType}
 use Rattle.code_meaning.specs.Stands.{held, IsBegun, IsUnderWay, HasAt, AreAmong, IsSlotOf, kind_of_type, GoesTo, ResultStands, ResultGoes, StaticStands, TargetStands, operand_text, operands_texts, target_name, BlockStands, TasksStand, named_operand, OperandStands, AreUntouched, operand_rest, operands_rest}
 use Rattle.code_meaning.proofs.SlotLaws.{known_among, known_again, all_among}
@@ -44,11 +46,11 @@ number_begins known t s h = record { ty = h.ty; begun = untouched_begun t h.unto
 
 -- a number for a variable is worked out before the variable is set
 set_is : (known : Known) (line : ℕ) (target : Target) (x : Identifier) (e : Expr) (s : ExprType) → NumberFits known (term_of e) s → set_task line target x e ≡ SetScalar line x (term_of e)
-set_is known line target x (tree.Named tree.Null) s h = absurd h.ty
+set_is known line target x (tree.Named tree.Null) s h = elim h.ty [ ]
 set_is known line target x e s h = refl
 
 pub value_is : (known : Known) (line : ℕ) (slot : Slot) (e : Expr) (s : ExprType) → NumberFits known (term_of e) s → value_code known line slot e ≡ expr_code known line e ++ instr.Store slot.index ∷ []
-value_is known line slot (tree.Named tree.Null) s h = absurd h.ty
+value_is known line slot (tree.Named tree.Null) s h = elim h.ty [ ]
 value_is known line slot e s h = refl
 
 -- a buffer for an access is a buffer
@@ -455,7 +457,7 @@ if_stands code line (TestCall c) then' else' l slots_else place tail at test fit
         else' = else';
         is = refl;
         paths = λ gave_zero.
-            branch_stands code line (Done (Truth gave_zero)) (truth_word gave_zero ∷ []) then' else' l slots_else (place + length T) tail (has_back code.instrs place T W at) (record { ty = refl; begun = tt; operands = refl })
+            branch_stands code line (Done (Truth gave_zero)) (truth_word gave_zero ∷ []) then' else' l slots_else (place + length T) tail (has_back code.instrs place T W at) (record { ty = rule.done value.truth; begun = tt; operands = refl })
             fits fits' laid laid' room room' after;
       },
     )
@@ -531,7 +533,7 @@ returned_stands code line (Read x) l place tail at (s, found, inl e) =
 returned_stands code line (Read x) l place tail at (s, found, inr e) =
     let there : lookup x l.known ≡ Some (record { ty = Jint; index = s.index }) = found ∙ ap (λ (r : ExprType). Some (record { ty = r; index = s.index })) e in
     let load : term_code l.known line (Read x) ++ instr.ReturnJint ∷ [] ≡ of_slot returned_code (lookup x l.known) = rw there refl in
-    inl (record { ty = (s.index, there, tt); begun = tt; operands = refl }, subst (HasAt code.instrs place) (sym load) at)
+    inl (record { ty = rule.read (s.index, there, tt); begun = tt; operands = refl }, subst (HasAt code.instrs place) (sym load) at)
 returned_stands code line t l place tail at fits = inl (number_begins l.known t Jint fits, at)
 
 -- a new variable is of its slot's kind

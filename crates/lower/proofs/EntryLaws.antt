@@ -18,6 +18,7 @@ use Rattle.semantics.specs.Variable.{Variable, Scalar, LocalRef, StaticReference
 use Rattle.code.specs.Depth.{Listing}
 use Rattle.code.proofs.Arrays.{get_replicate}
 use Rattle.code_meaning.specs.Layout.{Slot, Known, parameter_slot, parameter_slots, numbers_after, references_after, numbers_of, references_of, entry_names, entry_layout}
+use Rattle.code_meaning.specs.Slots as value
 use Rattle.code_meaning.specs.Slots.{visible_to, type_of_array, kind_of_variable, Slots, ShowsSlot, Shows, ArgumentFits, ArgumentsFit, argument_word, argument_reference, EntrySlots, AreShared, AreOfLowest, ShowsStatic}
 use Rattle.code_meaning.specs.Fits.{AreStatics, IsStaticType}
 use Rattle.code_meaning.proofs.StaticLaws.{null_of}
@@ -130,7 +131,7 @@ module _ (statics : Known) (f : Function) (code : Listing) (known : AreStatics s
 
   found_shown : (x : Identifier) (s : Slot) → Found slots s (lookup x ((f.class_name, LocalRef 1 (Some class)) ∷ parameter_variables (zip f.parameters arguments))) → ShowsSlot (visible_to own shared (entered thread calls f class arguments)) x slots s s.ty
   found_shown x s (inl (z, i, is, variable, fits, there)) =
-      subst (λ (t : Slot). ShowsSlot (visible_to own shared (entered thread calls f class arguments)) x slots t t.ty) (sym is) (record { value = Int z; is = ap scalar variable; kind = ap kind_of_variable variable; ty = (fits, refl); word = there })
+      subst (λ (t : Slot). ShowsSlot (visible_to own shared (entered thread calls f class arguments)) x slots t t.ty) (sym is) (record { value = Int z; is = ap scalar variable; kind = ap kind_of_variable variable; ty = value.int fits; word = there })
   found_shown x s (inr (q, i, is, variable, there)) =
       subst (λ (t : Slot). ShowsSlot (visible_to own shared (entered thread calls f class arguments)) x slots t t.ty) (sym is) (record {
         reference = q;

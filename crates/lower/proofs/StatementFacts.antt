@@ -25,6 +25,7 @@ use Rattle.type_rules.proofs.TypeCases.{indexed, index_is_value}
 use Rattle.type_rules.proofs.TypeTests.{word_is, jint_is, flag_is, truth_is, ref_is, global_is, weak_is, field_is, method_is, array_is, null_is, first_passed}
 use Rattle.type_rules.proofs.CallParameters.{parameters_count, modes_of_all}
 use Rattle.lower.proofs.TypeFacts.{scope_of, slot_of_name, HasNoTruth, IsFine, elements, number_fits}
+use Rattle.lower.proofs.TermSteps.{read_variable}
 
 -- ---- types by their tests
 
@@ -349,7 +350,7 @@ module _ (known : Known) where
 
     return_number : (t : Term) → NumberFits known t Jint → ReturnFits known t
     return_number (term.Named tree.Null) h = tt
-    return_number (Read x) h = (record { ty = Jint; index = h.ty.0 }, h.ty.1, inr refl)
+    return_number (Read x) h = let there = read_variable h.ty in (record { ty = Jint; index = there.0 }, there.1, inr refl)
     return_number t h = h
 
     return_reference : (e : Expr) → (is_null e || is_ref (name_type (scope_of known) e)) ≡ true → ReturnFits known (term_of e)

@@ -18,11 +18,10 @@ use Rattle.code.specs.declared.instr.Plain.TheVariants as plain
 use Rattle.code.specs.Depth.{Listing}
 use Rattle.code.specs.Effect.{plain_of, cleared}
 use Rattle.code.proofs.Effects.{KeepsSlots, plain_keeps}
-use Rattle.semantics.specs.Effect.{Effect, goes_on, with_value, effect_of}
-use Rattle.semantics.specs.Sight.{Sight}
+use Rattle.semantics.specs.Effect.{goes_on, effect_of}
 use Rattle.semantics.specs.Task.{Task, SetScalar, SetNull, MakeArray, Print, Target, Declared, Assigned, VariableKind, ScalarKind, ReferenceKind, FieldKind, MethodKind, BufferKind}
 use Rattle.semantics.specs.Term.{Term, Done, reduce}
-use Rattle.semantics.specs.Value.{Value, Word, Int, Flag, Truth, Gives}
+use Rattle.semantics.specs.Value.{Value, Int, Gives}
 use Rattle.code_meaning.specs.Layout.{Slot, Known}
 use Rattle.code_meaning.specs.Coding.{nullable_of, term_code}
 use Rattle.code_meaning.specs.Slots.{word_of, is_empty, is_no_buffer, Visible, Slots, ShowsSlot, Shows, SeesBuffers}
@@ -31,7 +30,7 @@ use Rattle.code_meaning.specs.Stands.{held, IsBegun, HasAt, IsUnderWay, kind_of_
 use Rattle.code_meaning.specs.Does.{AtEnd, Works, CanBeNull, kind_of_target, IsStoredIn, DoesEffect}
 use Rattle.code_meaning.proofs.SlotLaws.{fewer_shown, number_below, shows_set, KindFits, shows_nulled, shows_made}
 use Rattle.lower.proofs.CodePlaces.{has_back}
-use Rattle.lower.proofs.TermSteps.{IsOpen, LeadsOver, TermGoes, TermTraps, IsStuck, steps_term}
+use Rattle.lower.proofs.TermSteps.{IsOpen, LeadsOver, TermGoes, TermTraps, IsStuck, int_in_range, steps_term, value_type}
 
 -- where a path over these instructions leads
 pub at_path : (P : ℕ → Type 0) (place : ℕ) (path : Plain) (skipped : List Instr) → LeadsOver path skipped → P (place + 1 + length skipped) → AtEnd P place path
@@ -84,7 +83,7 @@ module _ (code : Listing) (known : Known) (place : ℕ) (stack : List ℕ) (slot
     pub step_inside : IsOpen t → TermHasType known t s → IsBegun t → stack ≡ held t ++ base → HasAt code.instrs place (term_code known line t ++ rest_of) → ((u : Term) → IsTrue (list_any task_returns (task u ∷ rest))) → Further
         → DoesEffect code known place stack slots visible rest (goes_on line task (reduce visible.sight t))
     step_inside o well_typed begun operands at returns further =
-        let st = steps_term known line slots visible shows.each sees t s o well_typed begun in
+        let st = steps_term known line slots visible shows.each sees o well_typed begun in
         outcome_does st.here st.more st.code operands at returns further st.outcome
 
   -- the same where the expression is alone on the stack
@@ -104,12 +103,10 @@ module _ (code : Listing) (known : Known) (place : ℕ) (stack : List ℕ) (slot
     at = h.stand.0.1.0;
     word = cast_unsigned w32 z;
     top = h.stand.0.0.operands;
-    is = to_z-of_z h.stand.0.0.ty.0;
+    is = to_z-of_z (int_in_range (value_type h.stand.0.0.ty));
     stands = record { stand = subst (λ n. TasksStand code known n [] rest) none_left h.stand.1; returns = h.returns };
   }
-  put_step line (Done (Word n)) rest h = absurd (let e : Jint ≡ ty.Word = h.stand.0.0.ty.1 in cc)
-  put_step line (Done (Flag b)) rest h = absurd (let e : Jint ≡ ty.Flag = h.stand.0.0.ty in cc)
-  put_step line (Done (Truth b)) rest h = absurd (let e : Jint ≡ ty.Truth = h.stand.0.0.ty in cc)
+  put_step line (Done v) rest h = elim (value_type h.stand.0.0.ty) [ ]
   put_step line t rest h =
       step_inside line t Jint [] (instr.PutJint ∷ []) (Print line) rest tt h.stand.0.0.ty h.stand.0.0.begun (alone t h.stand.0.0.operands) h.stand.0.1 (λ u. h.returns)
       (λ p u well_typed begun at size.
@@ -128,7 +125,7 @@ module _ (code : Listing) (known : Known) (place : ℕ) (stack : List ℕ) (slot
         at = d.value.1.0;
         plain = rw (d.value.0.operands, lt-ltb d.slot.index (length slots.numbers) below) refl;
         names = d.further.0;
-        shows = λ new set. fewer_shown code d.further.0 ((x, d.slot) ∷ known) new (record slots { numbers = slice_set slots.numbers d.slot.index (word_of v) }) d.further.1 (shows_set code known visible new slots x d.slot v shows d.own d.number d.value.0.ty set);
+        shows = λ new set. fewer_shown code d.further.0 ((x, d.slot) ∷ known) new (record slots { numbers = slice_set slots.numbers d.slot.index (word_of v) }) d.further.1 (shows_set code known visible new slots x d.slot v shows d.own d.number (value_type d.value.0.ty) set);
         stands = record { stand = subst (λ n. TasksStand code d.further.0 n [] rest) none_left d.further.2; returns = h.returns };
       }
 

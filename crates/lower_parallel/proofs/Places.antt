@@ -1,11 +1,6 @@
 -- What is at the places of a list, each element seen by a function.
 use Rattle.std.proofs.Common.{◌≡◌, ℕ, zero, suc, ◌<◌, List, [], ◌∷◌, length, get_or, set, map, refl, ap, arith}
 
-pub at_place : {X Y : Type 0} (f : X → Y) (xs : List X) (k : ℕ) (x : X) (d : Y) → k < length xs → get_or (map f xs) k d ≡ f (get_or xs k x)
-at_place f [] k x d h = absurd (omega arith)
-at_place f (y ∷ xs) zero x d h = refl
-at_place f (y ∷ xs) (suc k) x d h = at_place f xs k x d (omega arith)
-
 pub set_there : {X Y : Type 0} (f : X → Y) (xs : List X) (k : ℕ) (x : X) (d : Y) → k < length xs → get_or (map f (set xs k x)) k d ≡ f x
 set_there f [] k x d h = absurd (omega arith)
 set_there f (y ∷ xs) zero x d h = refl

@@ -3,7 +3,6 @@ use Rattle.std.proofs.Common.{◌≡◌, ◌≢◌, ◌++◌, ℕ, zero, suc, �
 use Rattle.std.specs.Prelude.{slice_get, slice_index_or}
 use Rattle.std.proofs.lemmas.Option.{get_or_from_slice_get}
 use Rattle.syntax.specs.Views.{unit_tree}
-use Rattle.compact.proofs.Tight.{get_map}
 use Rattle.code_meaning.specs.Lowered.{Lowered}
 use Rattle.semantics.specs.Object.{sizes}
 use Rattle.semantics.specs.Run.{made}
@@ -35,6 +34,7 @@ use Rattle.machine.proofs.OwnerSteps.{Found}
 use Rattle.machine.proofs.Steps.{made_is, no_room_yet, shared_agrees, steady, the_thread, waits_here}
 use Rattle.machine.proofs.TakenBuffers.{others}
 use Rattle.std.proofs.Common.{length}
+use Rattle.base.proofs.Lists.{get_map}
 
 -- nothing changes where what is there is put
 set_there : (ts : List Thread) (i : ℕ) (t : Thread) → slice_get ts i ≡ Some t → set ts i t ≡ ts

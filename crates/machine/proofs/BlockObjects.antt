@@ -1,17 +1,17 @@
 -- The objects that are read off the blocks are those of the heap that the blocks stand for.
-use Rattle.std.proofs.Common.{◌≡◌, ℕ, ℤ, zero, suc, ◌+◌, ◌-◌, ◌<◌, ◌≤◌, Bool, true, false, cond, eqb, List, [], ◌∷◌, length, map, set, get_or, Option, Some, None, refl, sym, ap, ◌∙◌, subst, arith, IsSome, ⊎_elim}
-use Rattle.std.specs.Prelude.{slice_get, find, unwrap_or}
+use Rattle.std.proofs.Common.{◌≡◌, ℕ, ℤ, zero, suc, ◌+◌, ◌-◌, ◌<◌, ◌≤◌, List, [], ◌∷◌, length, map, set, get_or, Option, Some, None, refl, sym, ap, ◌∙◌, subst, arith, IsSome, ⊎_elim}
+use Rattle.std.specs.Prelude.{slice_get, unwrap_or}
 use Rattle.std.specs.Option.{option_map, option_map_or}
 use Rattle.std.specs.Int.{w32, cast_signed}
 use Rattle.std.proofs.Math.Facts.{to_z-of_z}
 use Rattle.std.proofs.lemmas.Bool.{cases_eq}
 use Rattle.std.proofs.lemmas.List.{length-map}
 use Rattle.std.proofs.lemmas.Option.{slice_get-get_or}
-use Rattle.std.proofs.lemmas.Bool.Decides.{eqb_tells}
 use Rattle.heap.specs.declared.value.Value.{Value}
 use Rattle.heap.specs.declared.value.Value.TheVariants.{Number as Word, Null, Block as Address}
 use Rattle.heap.specs.Heap.{Block, Space, IsAddress, block_at, class_at, name_at, values_at, addresses}
 use Rattle.heap.proofs.Names.{one_address}
+use Rattle.heap.proofs.Places.{place_in}
 use Rattle.semantics.specs.Object.{Object, ObjectValue, Number, Refers, Reference}
 use Rattle.semantics.specs.Heap.{Heap, object_at, class_of, values_of}
 use Rattle.machine_scenes.specs.HeapAgrees.{ValueAgrees, ValuesAgree, HeapAgrees}
@@ -170,17 +170,6 @@ placed_none s table empty = record {
   placed = λ j a n less at name. absurd (omega (arith, less));
   only = λ i a at. absurd (let none : Some a ≡ None = empty i (Some a) at in cc);
 }
-
-place_in : (bs : List Block) (a : ℕ) → IsSome (find (λ (b : Block). eqb b.address a) bs) → (k : ℕ) × (k < length bs) × (slice_get (map (λ (b : Block). b.address) bs) k ≡ Some a)
-place_in [] a some = absurd (cc)
-place_in (b ∷ bs) a some =
-    ⊎_elim
-    (λ (t : (eqb b.address a ≡ true) × (b.address ≡ a)). (0, omega arith, ap (λ (n : ℕ). Some n) t.1))
-    (λ (t : (eqb b.address a ≡ false) × (b.address ≡ a → ⊥)).
-    let later = place_in bs a (subst (λ (o : Option Block). IsSome o) (ap (λ (k : Bool). cond k (Some b) (find (λ (c : Block). eqb c.address a) bs)) t.0) some) in
-    let within : later.0 < length bs = later.1 in
-    (suc later.0, omega arith, later.2))
-    (eqb_tells b.address a)
 
 -- when all blocks are in the table, it has them all
 pub table_filled : (s : Space) (table : List (Option ℕ)) (place : ℕ) → ArePlaced s table place → length s.blocks ≤ place → HasBlocks s table

@@ -3,12 +3,12 @@
 use Rattle.std.proofs.Common.{◌≡◌, ℕ, ◌-◌, append-nil, ◌⊎◌, inl, inr, length, List, [], ◌++◌, Option, Some, None, sym, ap, ◌∙◌, subst, arith}
 use Rattle.std.specs.Prelude.{◌≢◌, Contains, slice_get}
 use Rattle.std.specs.Option.{option_map}
+use Rattle.base.proofs.Lists.{get_map}
 use Rattle.heap.specs.Layout.{Extent, layout_of}
 use Rattle.heap.proofs.Names.{one_address}
 use Rattle.heap.specs.Heap.{Block, end_of, left_of, name_at}
 use Rattle.compact.specs.Same.{size_of}
 use Rattle.compact.specs.Reach.{IsKept}
-use Rattle.compact.proofs.Tight.{get_map}
 use Rattle.code_meaning.specs.Lowered.{Lowered}
 use Rattle.semantics.specs.Journal.{Entry}
 use Rattle.semantics.specs.declared.printed.Printed.{Printed}

@@ -2,6 +2,7 @@
 use Rattle.std.proofs.Common.{◌≡◌, ℕ, zero, suc, false, inl, arith, ◌+◌, ◌<◌, ◌≤◌, List, [], ◌∷◌, ◌++◌, replicate, Option, Some, None, refl, sym, ap, subst}
 use Rattle.std.specs.Prelude.{slice_get, slice_set}
 use Rattle.std.proofs.lemmas.Option.{slice_get_within}
+use Rattle.base.proofs.Lists.{get_set_same, set_same}
 use Rattle.semantics.specs.declared.event.Ending.TheVariants.{Unfinished}
 use Rattle.semantics.specs.declared.event.Event.{Event}
 use Rattle.semantics.specs.Journal.{Entry, Step, steps_in}
@@ -19,8 +20,6 @@ use Rattle.semantics.specs.Thread.{Shared}
 use Rattle.semantics.specs.World.{World}
 use Rattle.semantics_safety.specs.Owners.{ThreadOwners}
 use Rattle.code_meaning.specs.Lowered.{Lowered}
-use Rattle.code_meaning.proofs.BufferLaws.{set_same}
-use Rattle.machine_answers.proofs.SetPlaces.{get_set_same}
 use Rattle.machine_scenes.specs.Buffers.{Acquired}
 use Rattle.machine_scenes.specs.declared.activation.Activation.{Activation}
 use Rattle.machine_scenes.specs.declared.store.Store.{Store}

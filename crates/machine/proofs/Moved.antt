@@ -6,6 +6,7 @@ use Rattle.std.proofs.lemmas.Bool.{false≢true}
 use Rattle.std.proofs.lemmas.List.{length-map}
 use Rattle.std.proofs.lemmas.List.Concat.{flat_map-cons}
 use Rattle.std.proofs.lemmas.List.Sums.{sum_by-cons}
+use Rattle.base.proofs.Lists.{get-from_contains, get_map}
 use Rattle.heap.specs.declared.value.Value.{Value}
 use Rattle.heap.specs.Layout.{Extent, extent_of, layout_of, top_of}
 use Rattle.heap.proofs.Extents.{top_is}
@@ -17,7 +18,7 @@ use Rattle.heap.proofs.Relocated.{ends_below}
 use Rattle.compact.specs.Reach as compact
 use Rattle.compact.specs.Reach.{IsClosed, IsKept, Refers}
 use Rattle.compact.specs.Reach.IsKept.{root, pinned, referred}
-use Rattle.compact.proofs.Tight.{get_map, some_block}
+use Rattle.compact.proofs.Tight.{some_block}
 use Rattle.tables.specs.References.{references_in}
 use Rattle.code_meaning.specs.Lowered.{Lowered}
 use Rattle.semantics.specs.Journal.{Entry, steps_in}
@@ -44,7 +45,6 @@ use Rattle.tables.specs.Keys.{value_at}
 use Rattle.tables.specs.Weaks.{weak_places}
 use Rattle.machine_scenes.specs.StoreAgrees.{StoreAgrees}
 use Rattle.machine_threads.specs.ThreadAgrees.{ThreadsAgree}
-use Rattle.compact.proofs.Blocks.{get-from_contains}
 use Rattle.machine_collections.specs.Clearing.{AreCleared, clearing_of}
 use Rattle.machine_collections.specs.Moving.{AreMovedTogether, AreReferred, moved_thread}
 use Rattle.machine_collections.specs.Roots.{ThreadsAreStacked, root_places, slots_of}

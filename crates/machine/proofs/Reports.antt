@@ -41,7 +41,6 @@ use Rattle.tables.specs.Elements.{OwnedNumbers}
 use Rattle.machine_scenes.specs.HeapAgrees.{IsNamed}
 use Rattle.machine.specs.Rows.{AreSeen}
 use Rattle.machine_collections.proofs.HeldViews.{name_pinned, pinned_block}
-use Rattle.compact.proofs.Tight.{get_map}
 use Rattle.heap.proofs.Lookups.{block_at-place}
 use Rattle.machine_collections.proofs.ReachableNames.{in_times, reachable_named, times_in}
 use Rattle.semantics.proofs.ReachableLemmas.{In, contains_in, in_append_cases, in_append_left, in_append_right, to_contains}
@@ -54,7 +53,7 @@ use Rattle.machine.specs.Run.{Run, Corresponds, WritesRun, AllRest, AreShown, Sh
 use Rattle.machine_collections.specs.Roots.{AreAddresses, pinned_names, root_places, ThreadsAreStacked}
 use Rattle.machine_scenes.specs.Given.{object_there}
 use Rattle.std.specs.Prelude.{Contains}
-use Rattle.compact.proofs.Blocks.{Contains-from_get}
+use Rattle.base.proofs.Lists.{Contains-from_get, get_map}
 use Rattle.machine_scenes.proofs.BlocksOfNames.{is_address}
 use Rattle.tables.specs.References.{references_in}
 use Rattle.machine_collections.proofs.GivenArguments.{given_named}

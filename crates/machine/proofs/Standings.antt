@@ -6,6 +6,7 @@ use Rattle.std.specs.Option.{option_map}
 use Rattle.std.proofs.lemmas.List.{length-map, take_all}
 use Rattle.std.proofs.lemmas.Option.{slice_get-map}
 use Rattle.std.proofs.lemmas.List.FromFn.{length-enumerate_from}
+use Rattle.base.proofs.Lists.{take_next}
 use Rattle.syntax.specs.Views.{unit_tree}
 use Rattle.semantics.specs.Journal.{Entry}
 use Rattle.semantics.specs.declared.printed.Printed.{Printed}
@@ -37,11 +38,6 @@ numbered_at (y ∷ ss) n zero x h =
 numbered_at (y ∷ ss) n (suc i) x h =
     let place : n + 1 + i ≡ n + suc i = omega arith in
     numbered_at ss (n + 1) i x h ∙ ap (λ (k : ℕ). Some (k, x)) place
-
-taken_more : {X : Type 0} (xs : List X) (i : ℕ) (x : X) → slice_get xs i ≡ Some x → take (suc i) xs ≡ take i xs ++ x ∷ []
-taken_more [] i x h = absurd (cc)
-taken_more (y ∷ xs) zero x h = let same : y ≡ x = cc in ap (λ z. z ∷ []) same
-taken_more (y ∷ xs) (suc i) x h = ap (λ l. y ∷ l) (taken_more xs i x h)
 
 all_more : {X : Type 0} (p : X → Bool) (xs : List X) (i : ℕ) (x : X) → slice_get xs i ≡ Some x → p x ≡ true → list_all p (take i xs) ≡ true → list_all p (take (suc i) xs) ≡ true
 all_more p [] i x h one so_far = absurd (cc)
@@ -132,12 +128,10 @@ module _ (p : Lowered) (world : World) (store : Store) (ts : List Thread) (print
     standing_more standings h =
         let before : standings ≡ take i (standings_in world.classes c.state) = known (λ r s. standings ≡ take i (standings_in r.world.classes s)) h in
         let f : ℕ × source.Thread → ThreadStanding = λ x. standing_of world.classes c.state x.0 x.1 c.state.stop in
-        let next : suc i ≡ i + 1 = omega arith in
-        subst (standings_told (standings ++ standing_at world.classes waits (option_map stop_view stop) k (ending_view t.ending) ∷ [])) next
-        (told (λ r s. (standings ++ standing_at world.classes waits (option_map stop_view stop) k (ending_view t.ending) ∷ []) ≡ take (suc i) (standings_in r.world.classes s))
+        told (λ r s. (standings ++ standing_at world.classes waits (option_map stop_view stop) k (ending_view t.ending) ∷ []) ≡ take (i + 1) (standings_in r.world.classes s))
         (ap (λ (l : List ThreadStanding). l ++ standing_at world.classes waits (option_map stop_view stop) k (ending_view t.ending) ∷ []) before
         ∙ ap (λ (x : ThreadStanding). take i (standings_in world.classes c.state) ++ x ∷ []) (sym standing_same)
-        ∙ sym (taken_more (standings_in world.classes c.state) i (f (k, the_thread.source)) (slice_get-map f (enumerate_from 1 c.state.threads) i ∙ ap (option_map f) placed))))
+        ∙ sym (take_next (standings_in world.classes c.state) i (f (k, the_thread.source)) (slice_get-map f (enumerate_from 1 c.state.threads) i ∙ ap (option_map f) placed)))
 
     resting_same : is_resting world.classes c.state (k, the_thread.source) ≡ (not (is_unfinished (ending_view t.ending)) || waits)
     resting_same = λ j. not (is_unfinished (the_thread.agrees.ending j)) || sym blocked j

@@ -8,8 +8,8 @@ use Rattle.semantics.specs.Thread.{BuffersInUse, Caller, Thread, copied_by, leng
 use Rattle.semantics.specs.World.{Invocation}
 use Rattle.machine_scenes.specs.Buffers.{Acquired, SameAcquired, acquired_by, beside, in_use_of}
 use Rattle.machine_scenes.specs.HeapAgrees.{times}
+use Rattle.machine_scenes.proofs.HeldSums.{times_append}
 use Rattle.machine_threads.specs.Callers.{beside_callers}
-use Rattle.machine_collections.proofs.RootNames.{times_append}
 use Rattle.std.proofs.Common.{map}
 
 -- what the buffers of these threads take

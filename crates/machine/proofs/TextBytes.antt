@@ -1,32 +1,18 @@
 -- The texts of a unit in memory are of bytes.
-use Rattle.std.proofs.Common.{◌≡◌, ℕ, Bool, true, List, [], ◌∷◌, ◌++◌, append-nil, sym, ap, ◌∙◌}
-use Rattle.std.specs.Prelude.{nat_lt}
+use Rattle.std.proofs.Common.{◌≡◌, Bool, true, List, [], ◌∷◌, ◌++◌, append-nil, sym, ap, ◌∙◌}
 use Rattle.std.specs.List.{AllByRecursion, list_all}
-use Rattle.std.proofs.lemmas.Bool.{ltb-true}
+use Rattle.std.proofs.lemmas.Bool.{and_parts}
 use Rattle.std.proofs.lemmas.List.Folds.{list_all-append}
 use Rattle.syntax.specs.Limits.{IsTree, text_of_bytes}
 use Rattle.syntax.specs.Parts.{functions_of, own_arguments, statements_of, statements_within}
 use Rattle.syntax.specs.Tree as tree
-use Rattle.syntax.specs.Tree.{Argument, Call, RightSide, FromExpr, FromCall, Test, TestExpr, TestCall, Stmt, Block, End, Next, Function, SourceUnit}
-use Rattle.semantics_typing.specs.Texts.{BlockHasTexts, CallHasTexts, HasTexts, IsText, IsTextual, StmtHasTexts}
-use Rattle.world_schedules.proofs.WordLaws.{both_true}
-
-byte_text : (bytes : List ℕ) → list_all (λ b. nat_lt b 256) bytes ≡ true → IsText bytes
-byte_text [] h = tt
-byte_text (b ∷ bytes) h = let p = both_true (nat_lt b 256) (list_all (λ b. nat_lt b 256) bytes) h in (ltb-true b 256 p.0, byte_text bytes p.1)
-
-textual : (a : Argument) → text_of_bytes a ≡ true → IsTextual a
-textual (tree.Text bytes) h = byte_text bytes h
-textual (tree.Value e) h = tt
-textual (tree.AddressOf x) h = tt
-
-all_textual : (args : List Argument) → list_all text_of_bytes args ≡ true → AllByRecursion IsTextual args
-all_textual [] h = tt
-all_textual (a ∷ args) h = let p = both_true (text_of_bytes a) (list_all text_of_bytes args) h in (textual a p.0, all_textual args p.1)
+use Rattle.syntax.specs.Tree.{Call, RightSide, FromExpr, FromCall, Test, TestExpr, TestCall, Stmt, Block, End, Next, Function, SourceUnit}
+use Rattle.semantics_typing.specs.Texts.{BlockHasTexts, CallHasTexts, HasTexts, StmtHasTexts}
+use Rattle.semantics_typing.proofs.TextsOfTrees.{arguments_are}
 
 -- a statement's own call
 of_call : (c : Call) → list_all text_of_bytes (c.arguments ++ []) ≡ true → CallHasTexts c
-of_call c h = all_textual c.arguments (ap (list_all text_of_bytes) (sym (append-nil c.arguments)) ∙ h)
+of_call c h = arguments_are c.arguments (ap (list_all text_of_bytes) (sym (append-nil c.arguments)) ∙ h)
 
 abbrev AreOfBytes : Stmt → Bool
 AreOfBytes s = list_all text_of_bytes (own_arguments s)
@@ -35,10 +21,10 @@ abbrev AllOfBytes : List Stmt → Type 0
 AllOfBytes ss = list_all AreOfBytes ss ≡ true
 
 two_parts : (xs ys : List Stmt) → AllOfBytes (xs ++ ys) → AllOfBytes xs × AllOfBytes ys
-two_parts xs ys h = both_true (list_all AreOfBytes xs) (list_all AreOfBytes ys) (sym (list_all-append AreOfBytes xs ys) ∙ h)
+two_parts xs ys h = and_parts (list_all AreOfBytes xs) (list_all AreOfBytes ys) (sym (list_all-append AreOfBytes xs ys) ∙ h)
 
 first_part : (s : Stmt) (ss : List Stmt) → AllOfBytes (s ∷ ss) → (AreOfBytes s ≡ true) × AllOfBytes ss
-first_part s ss h = both_true (AreOfBytes s) (list_all AreOfBytes ss) h
+first_part s ss h = and_parts (AreOfBytes s) (list_all AreOfBytes ss) h
 
 mutual
   block_texts : (b : Block) → AllOfBytes (statements_of b) → BlockHasTexts b
@@ -69,7 +55,7 @@ mutual
 
 functions_texts : (fs : List Function) → list_all (λ (f : Function). list_all AreOfBytes (statements_of f.body)) fs ≡ true → AllByRecursion (λ (f : Function). BlockHasTexts f.body) fs
 functions_texts [] h = tt
-functions_texts (f ∷ fs) h = let p = both_true (list_all AreOfBytes (statements_of f.body)) (list_all (λ (f : Function). list_all AreOfBytes (statements_of f.body)) fs) h in (block_texts f.body p.0, functions_texts fs p.1)
+functions_texts (f ∷ fs) h = let p = and_parts (list_all AreOfBytes (statements_of f.body)) (list_all (λ (f : Function). list_all AreOfBytes (statements_of f.body)) fs) h in (block_texts f.body p.0, functions_texts fs p.1)
 
 pub texts_are_bytes : (unit : SourceUnit) → IsTree unit → HasTexts unit
 texts_are_bytes unit h = functions_texts (functions_of unit) h.texts

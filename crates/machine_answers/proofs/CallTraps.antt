@@ -1,7 +1,6 @@
 -- What is checked of a call whose operands are given is what the source checks, and what is known of it then.
 use Rattle.std.proofs.Common.{length, ap, sym, ◌≡◌, ℕ, Bool, true, false, not, List, [], ◌∷◌, Option, Some, None, is_some, refl, ◌∙◌, subst}
 use Rattle.std.specs.Prelude.{◌&&◌, ◌||◌, IsSome}
-use Rattle.std.specs.Option.{option_map}
 use Rattle.std.specs.List.{AllZip, list_any}
 use Rattle.syntax.specs.Tree.{SourceUnit}
 use Rattle.syntax.specs.Views.{unit_tree}
@@ -12,7 +11,7 @@ use Rattle.classes.specs.declared.class.FieldHandle.{FieldHandle}
 use Rattle.code.specs.Call.{Call}
 use Rattle.code.specs.declared.instr.Operand.{Operand}
 use Rattle.code.specs.declared.instr.Operand.TheVariants as operand
-use Rattle.heap.specs.Heap.{Block, Space, IsAddress, block_at, name_at}
+use Rattle.heap.specs.Heap.{Space, IsAddress}
 use Rattle.jni.specs.JniFunction.{JniFunction, is_allowed_pending, parameters_for, prototype}
 use Rattle.semantics.specs.Arguments.{Actual, field_given}
 use Rattle.semantics.specs.CallSight.{ArgumentSight, sight_of_call}
@@ -42,25 +41,15 @@ use Rattle.machine_scenes.specs.Scenes.{Scene}
 use Rattle.machine_scenes.specs.declared.handle.MethodHandle.{MethodHandle}
 use Rattle.semantics.specs.CallStep.{target_element}
 use Rattle.semantics.specs.Method.{MethodId}
+use Rattle.semantics.proofs.CheckLaws.{fits_and_goes}
 use Rattle.machine_scenes.specs.Locals.{locals_after}
 use Rattle.tables.specs.Locals.{has_room}
 use Rattle.machine_scenes.specs.Given.{operand_at, field_at, field_there, method_at, operand_of, AreAddresses, AreHandles, IsGiven, ReferenceIsThere}
 use Rattle.machine_scenes.specs.HeapAgrees.{ReferenceAgrees}
+use Rattle.machine_scenes.proofs.BlocksOfNames.{block_there}
 use Rattle.machine_answers.proofs.CallChecks as checks
 
 -- ---- operands
-
--- where a reference is an address, a block is there
-is_address : (space : Space) (o : Option ℕ) (q : Reference) (a : ℕ) → ReferenceAgrees space o q → o ≡ Some a → IsAddress space a
-is_address space None q a h e = absurd (cc)
-is_address space (Some b) None a h e = absurd h
-is_address space (Some b) (Some n) a h e =
-    let same : b ≡ a = cc in
-    some_block (block_at space a) n (subst (λ (c : ℕ). name_at space c ≡ Some n) same h)
-  where
-    some_block : (o : Option Block) (n : ℕ) → option_map (λ (c : Block). c.birth) o ≡ Some n → IsSome o
-    some_block None n h = absurd (cc)
-    some_block (Some c) n h = refl
 
 -- where a method ID is a handle, it is that of a method
 is_method : (unit : SourceUnit) (classes : Classes) (o : Option MethodHandle) (m : Option MethodId) → MethodAgrees unit classes o m → MethodIsThere unit classes o
@@ -82,14 +71,14 @@ is_handle classes (Some g) (Some f) h agrees e =
 
 module _ (unit : SourceUnit) (classes : Classes) (space : Space) (references : References) (fields : List (Option Handle)) where
   one_address : (o : Operand) (a : Actual) → IsGiven unit classes space references fields o a → (b : ℕ) → operand_at references o ≡ Some b → IsAddress space b
-  one_address (operand.Local i) a h b e = is_address space (operand_at references (operand.Local i)) h.reference b h.agrees e
+  one_address (operand.Local i) a h b e = block_there space (operand_at references (operand.Local i)) h.reference b h.agrees e
   one_address (operand.Static i) a h b e = static_address (static_at references i) h.reference b h.agrees e
     where
       static_address : (x : Held) (r : StaticReference) (b : ℕ) → HeldAgrees space (held_argument x) r → held_address x ≡ Some b → IsAddress space b
       static_address x r b h e =
           let none : (c : ℕ) → ◌≡◌ {A = Option ℕ} None (Some c) → IsAddress space c = λ c e. absurd (cc) in
-          checks.by_argument space (λ x r. (c : ℕ) → held_address x ≡ Some c → IsAddress space c) none (λ a n e c is. is_address space (Some a) (Some n) c e is)
-          (λ a n e c is. is_address space (Some a) (Some n) c e is) none none x r h b e
+          checks.by_argument space (λ x r. (c : ℕ) → held_address x ≡ Some c → IsAddress space c) none (λ a n e c is. block_there space (Some a) (Some n) c e is)
+          (λ a n e c is. block_there space (Some a) (Some n) c e is) none none x r h b e
   one_address o a h b e = absurd (cc)
 
   one_handle : (o : Operand) (a : Actual) → IsGiven unit classes space references fields o a → (g : FieldHandle) → field_at fields o ≡ Some g → IsSome (field_of classes g)
@@ -122,12 +111,6 @@ pub all_passed : (p d m w r : Bool) → first_trap ((p, ExceptionPending) ∷ (d
 all_passed false false false false false h = record { pending = refl; deleted = refl; missing = refl; wrong = refl; room = refl }
 all_passed p d m w r h = absurd (cc)
 
--- neither of two holds
-pub neither : (a b : Bool) → (a || not b) ≡ false → (a ≡ false) × (b ≡ true)
-neither true b h = absurd (cc)
-neither false true h = (refl, refl)
-neither false false h = absurd (cc)
-
 pub same_pending : (space : Space) (o : Option ℕ) (q : Reference) → ReferenceAgrees space o q → is_some o ≡ is_some q
 same_pending space None None h = refl
 same_pending space None (Some n) h = absurd h
@@ -150,7 +133,7 @@ module _ (p : Lowered) (w : World) (store : Store) (pending : Option ℕ) (activ
   scene = scene_of (unit_tree p.unit) w.classes store activation k pending
 
   pub pending_there : ReferenceIsThere store.heap pending
-  pending_there a e = is_address store.heap pending s.pending a h.pending_agrees e
+  pending_there a e = block_there store.heap pending s.pending a h.pending_agrees e
 
   pub method_there : MethodIsThere (unit_tree p.unit) w.classes (method_at activation.slots.fields.items (operand_of call.operands 1))
   method_there = is_method (unit_tree p.unit) w.classes _ _ (checks.method_at_place (unit_tree p.unit) w.classes store.heap (references_of store activation) activation.slots.fields.items call.operands args 1 h.given)
@@ -182,7 +165,7 @@ module _ (p : Lowered) (w : World) (store : Store) (pending : Option ℕ) (activ
     passed = all_passed _ _ _ _ _ none
 
     fitting : (some_misfit w.classes store.heap (references_of store activation) (prototype f).parameters call.operands ≡ false) × (fit_together (unit_tree p.unit) w.classes store.heap (references_of store activation) activation.slots.fields.items call.operands (element_wanted call.target) f ≡ true)
-    fitting = neither _ _ passed.wrong
+    fitting = fits_and_goes _ _ passed.wrong
 
     -- where nothing is found, the arguments go together
     pub fits_where_none : fit_together (unit_tree p.unit) w.classes store.heap (references_of store activation) activation.slots.fields.items call.operands (element_wanted call.target) f ≡ true

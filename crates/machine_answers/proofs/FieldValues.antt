@@ -4,6 +4,7 @@ use Rattle.std.specs.Prelude.{FitsSigned, slice_get, slice_set}
 use Rattle.std.specs.Int.{w32}
 use Rattle.std.specs.Option.{option_map_or}
 use Rattle.std.proofs.lemmas.Bool.{ltb-false, ltb-true}
+use Rattle.base.proofs.Lists.{set_same}
 use Rattle.heap.specs.Heap.{Block, Space, name_at, values_at}
 use Rattle.heap.specs.declared.value.Value.{Value}
 use Rattle.heap.specs.declared.value.Value.TheVariants.{Number as Word, Null, Block as Address}
@@ -70,11 +71,6 @@ set_none : {A : Type 0} (xs : List A) (i : ℕ) (x : A) → length xs ≤ i → 
 set_none [] i x h = refl
 set_none (y ∷ xs) zero x h = absurd (omega (arith, h))
 set_none (y ∷ xs) (suc i) x h = ap (λ l. y ∷ l) (set_none xs i x (omega (arith, h)))
-
-set_same : {A : Type 0} (xs : List A) (i : ℕ) (x : A) → slice_get xs i ≡ Some x → slice_set xs i x ≡ xs
-set_same [] i x h = refl
-set_same (y ∷ xs) zero x h = let same : y ≡ x = cc in ap (λ z. z ∷ xs) (sym same)
-set_same (y ∷ xs) (suc i) x h = ap (λ l. y ∷ l) (set_same xs i x h)
 
 unchanged : (heap : Heap) (n i : ℕ) (o : Object) (u : ObjectValue) → object_at heap n ≡ Some o → length o.values ≤ i → with_value_at heap n i u ≡ heap
 unchanged heap zero i o u at past = absurd (cc (at))

@@ -1,16 +1,10 @@
 -- Items of a unit by their places.
-use Rattle.std.proofs.Common.{◌≡◌, ℕ, zero, suc, ◌+◌, ◌<◌, ◌≤◌, List, [], ◌∷◌, drop, drop-cons, length, map, get_or, Some, None, sym, ap, ◌∙◌, arith}
+use Rattle.std.proofs.Common.{◌≡◌, ℕ, zero, suc, ◌≤◌, List, [], ◌∷◌, drop, length, map, Some, None, ap}
 use Rattle.std.specs.Prelude.{slice_get}
 use Rattle.std.proofs.lemmas.List.{drop_all}
 use Rattle.syntax.specs.declared.unit.Item.{Item}
 use Rattle.syntax.specs.Parts.{functions_of}
 use Rattle.syntax.specs.Views.{item_tree, unit_tree}
-
--- the items from a place on begin with the one there
-pub item_here : {A : Type 0} (items : List A) (i : ℕ) (x y : A) → i < length items → x ≡ get_or items i x → x ≡ y → drop i items ≡ y ∷ drop (i + 1) items
-item_here items i x y below at is =
-    let e : suc i ≡ i + 1 = omega arith in
-    drop-cons items i x below ∙ ap (λ z. z ∷ drop (suc i) items) (sym at ∙ is) ∙ ap (λ n. y ∷ drop n items) e
 
 -- which is found there
 pub item_found : (items : List Item) (i : ℕ) (x : Item) (rest : List Item) → drop i items ≡ x ∷ rest → slice_get (map item_tree items) i ≡ Some (item_tree x)

@@ -17,7 +17,6 @@ pub mod Overlays
 pub mod PassedValues
 pub mod RegionAnswers
 pub mod RegionOperands
-pub mod SetPlaces
 pub mod SightArguments
 pub mod SightParts
 pub mod SightPlaces

@@ -9,20 +9,7 @@ use Rattle.class_rules.specs.BuiltIns.{built_ins, class_class, object_array_clas
 use Rattle.class_rules.specs.Class.{Class, ClassKind, Classes, Plain, above, ancestry_within, assignable, class_kind, elements_fit, superclass}
 use Rattle.class_rules.specs.Grown.{IsGrown, BuiltIns, WithClass, WithField, WithStatic}
 use Rattle.semantics.specs.World.{World, loaded_objects, class_object, fresh_object}
-
-changed_count : (classes : Classes) (c : ℕ) (change : Class → Class) → length (with_changed_class classes c change) ≡ length classes
-changed_count classes c change = length-map (enumerate_from 1 classes) (λ (d : ℕ × Class). cond (d.0 == c) (change d.1) d.1) ∙ length-enumerate_from 1 classes
-
-built_in_count : length built_ins ≡ 42
-unfolding built_ins
-built_in_count = refl
-
-pub grown_long : (classes : Classes) → IsGrown classes → 42 ≤ length classes
-grown_long classes BuiltIns = omega (arith, built_in_count)
-grown_long classes (WithClass before name s g low high own) =
-    omega (arith, grown_long before g, length-append before (new_class name (Some s) ∷ object_array_class (length before + 1, new_class name (Some s)) ∷ []))
-grown_long classes (WithField before c field g) = omega (arith, grown_long before g, changed_count before c (λ d. record d { fields = d.fields ++ field ∷ [] }))
-grown_long classes (WithStatic before c field g) = omega (arith, grown_long before g, changed_count before c (λ d. record d { statics = d.statics ++ field ∷ [] }))
+use Rattle.semantics_typing.proofs.TableKinds.{grown_long}
 
 -- java/lang/Class is below java/lang/Object alone, and no class of arrays
 record HasBase (classes : Classes) : Type 0 where

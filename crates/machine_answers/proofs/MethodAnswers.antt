@@ -1,6 +1,7 @@
 -- What calls of methods do.
-use Rattle.std.proofs.Common.{◌≡◌, Bool, true, false, ◌&&◌, drop, map, Option, Some, None, refl, sym, ap, ◌∙◌, subst}
+use Rattle.std.proofs.Common.{◌≡◌, Bool, true, ◌&&◌, drop, map, Option, Some, None, refl, sym, ap, ◌∙◌, subst}
 use Rattle.std.specs.Prelude.{◌==◌}
+use Rattle.std.proofs.lemmas.Bool.{and_parts}
 use Rattle.std.proofs.lemmas.List.{drop-map}
 use Rattle.syntax.specs.Tree.{ResultType}
 use Rattle.jni.specs.JniFunction.{JniFunction, CallStaticVoidMethod, CallStaticIntMethod, CallStaticObjectMethod, calls_method, prototype}
@@ -21,11 +22,6 @@ use Rattle.machine_answers.proofs.CallChecks.{method_at_place}
 use Rattle.machine_answers.proofs.CallTraps.{goes_together}
 use Rattle.machine_answers.specs.Answered.{TwoCalls, Passes, brought, Asked, Does, unit}
 use Rattle.machine_answers.proofs.TwoCalls.{fields, references}
-
--- both of two hold
-both_hold : (a b : Bool) → (a && b) ≡ true → (a ≡ true) × (b ≡ true)
-both_hold true b h = (refl, h)
-both_hold false b h = absurd (cc)
 
 module _ (both : TwoCalls) where
   open both use {p, w, store, pending, activation, call, others, k, owner, shared, s, target, args}
@@ -50,7 +46,7 @@ module _ (both : TwoCalls) where
   well_called f wants None (Some m) at given agrees well does = absurd agrees
   well_called f wants (Some h) None at given agrees well does = absurd agrees
   well_called f wants (Some h) (Some m) at given agrees well does =
-      let last = both_hold (m.class == object_given args 0 && wants m.function.result) (all_pass m.function.parameters (drop 2 (map of args))) well in
+      let last = and_parts (m.class == object_given args 0 && wants m.function.result) (all_pass m.function.parameters (drop 2 (map of args))) well in
       record { method = m; given = given; handle = h; at = at; is = agrees; passes = ap (all_pass m.function.parameters) (sym (drop-map of 2 args)) ∙ last.1; answer = does ∙ ap (λ (o : Option MethodId). as_called o) given }
 
   together : (f : JniFunction) → (h : Asked both f) → Passes both → go_together w.classes (sight_of_call shared s f args) (target_element s.variables target) f ≡ true

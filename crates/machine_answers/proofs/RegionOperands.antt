@@ -3,7 +3,7 @@ use Rattle.std.proofs.Common.{inl, inr, ◌≡◌, ℕ, ℤ, zero, suc, ◌+◌,
 use Rattle.std.specs.Prelude.{slice_get, FitsSigned}
 use Rattle.std.specs.Int.{w32, cast_unsigned}
 use Rattle.std.specs.List.{AllZip}
-use Rattle.std.proofs.lemmas.List.{take-map}
+use Rattle.std.proofs.lemmas.List.{drop-map, take-map}
 use Rattle.std.proofs.lemmas.Option.{slice_get-get_or, slice_get_within}
 use Rattle.base.specs.Bytes.{Identifier, lookup}
 use Rattle.base.specs.Element.{ElementType}
@@ -96,11 +96,6 @@ module _ (numbers : List ℕ) (array : ArraySlots) (elements : List ℤ) (words 
 
 -- ---- an object of numbers
 
-drop_map : {A B : Type 0} (f : A → B) (n : ℕ) (xs : List A) → drop n (map f xs) ≡ map f (drop n xs)
-drop_map f zero xs = refl
-drop_map f (suc n) [] = refl
-drop_map f (suc n) (x ∷ xs) = drop_map f n xs
-
 module _ (space : Space) where
   drop_agree : (n : ℕ) (ws : List Value) (us : List ObjectValue) → ValuesAgree space ws us → ValuesAgree space (drop n ws) (drop n us)
   drop_agree zero ws us h = h
@@ -140,7 +135,7 @@ module _ (space : Space) where
   -- the words of a part of an object
   pub words_there : (start n : ℕ) (ws : List Value) (us : List ObjectValue) → ValuesAgree space ws us → AreWordsOf (map word_in_cell (take n (drop start ws))) (take n (drop start (map number_in us)))
   words_there start n ws us h =
-      subst (λ (zs : List ℤ). AreWordsOf (map word_in_cell (take n (drop start ws))) zs) (sym (ap (take n) (drop_map number_in start us) ∙ take-map number_in n (drop start us)))
+      subst (λ (zs : List ℤ). AreWordsOf (map word_in_cell (take n (drop start ws))) zs) (sym (ap (take n) (drop-map number_in start us) ∙ take-map number_in n (drop start us)))
       (words_read n (drop start ws) (drop start us) (drop_agree start ws us h))
 
 -- values that fit places of numbers are numbers

@@ -19,6 +19,7 @@ use Rattle.semantics.specs.Task.{Target}
 use Rattle.semantics.specs.Thread.{Shared, Thread, BuffersInUse}
 use Rattle.semantics.specs.World.{World, loaded_objects}
 use Rattle.world_values.specs.SoundWorlds.{IsSound}
+use Rattle.semantics_typing.proofs.TableKinds.{grown_long}
 use Rattle.code_meaning.specs.Does.{OperandFits}
 use Rattle.code_meaning.specs.Fits.{IsReferenceKind}
 use Rattle.code_meaning.specs.Lowered.{Lowered}
@@ -41,7 +42,7 @@ use Rattle.machine_answers.proofs.CallChecks.{class_is, reference_at_place}
 use Rattle.machine_scenes.proofs.Handles.{class_known}
 use Rattle.machine_scenes.proofs.BlocksOfNames.{Named, named}
 use Rattle.machine_answers.proofs.CallTraps.{none_deleted, none_lacking, none_unfit}
-use Rattle.machine_answers.proofs.LongTables.{classes_loaded, grown_long}
+use Rattle.machine_answers.proofs.LongTables.{classes_loaded}
 use Rattle.machine_answers.proofs.CallOperands.{GivenObject, class_object_is, object_at_place, is_class}
 use Rattle.machine_answers.specs.Answered.{TwoCalls, Asked, Passes, scene, unit}
 

@@ -1,6 +1,7 @@
 -- Arguments of which nothing is asked pass.
 use Rattle.std.proofs.Common.{◌≡◌, ℕ, Bool, true, false, not, ◌&&◌, ◌||◌, List, [], ◌∷◌, ◌++◌, Option, Some, None, refl, ap, ◌∙◌}
 use Rattle.std.specs.List.{list_all, list_any}
+use Rattle.std.proofs.lemmas.Bool.{and_parts, not-false, or_parts}
 use Rattle.base.specs.Element.{ElementType}
 use Rattle.syntax.specs.Tree.{SourceUnit}
 use Rattle.class_rules.specs.Class.{Classes}
@@ -19,21 +20,6 @@ use Rattle.machine_scenes.specs.declared.handle.Handle.{Handle}
 use Rattle.machine_scenes.specs.Given.{operand_at}
 use Rattle.machine_scenes.specs.Statics.{References}
 
--- both parts of a conjunction
-both : (a b : Bool) → (a && b) ≡ true → (a ≡ true) × (b ≡ true)
-both true b h = (refl, h)
-both false b h = absurd (cc)
-
--- neither part of a disjunction
-neither : (a b : Bool) → (a || b) ≡ false → (a ≡ false) × (b ≡ false)
-neither true b h = absurd (cc)
-neither false b h = (refl, h)
-
--- a truth that isn't denied
-undenied : (a : Bool) → not a ≡ false → a ≡ true
-undenied true h = refl
-undenied false h = absurd (cc)
-
 module _ (references : References) where
   -- what is no static isn't deleted
   undeleted : (o : Operand) → is_static o ≡ false → gives_deleted references o ≡ false
@@ -43,7 +29,7 @@ module _ (references : References) where
   none_deleted : (operands : List Operand) → list_any is_static operands ≡ false → list_any (gives_deleted references) operands ≡ false
   none_deleted [] h = refl
   none_deleted (o ∷ operands) h =
-      let h' = neither (is_static o) (list_any is_static operands) h in
+      let h' = or_parts (is_static o) (list_any is_static operands) h in
       ap (λ b. b || list_any (gives_deleted references) operands) (undeleted o h'.0) ∙ none_deleted operands h'.1
 
   -- a parameter that takes each reference may be NULL, and takes objects of each class
@@ -56,7 +42,7 @@ module _ (references : References) where
   none_missing fields [] operands h = refl
   none_missing fields (p ∷ parameters) [] h = refl
   none_missing fields (p ∷ parameters) (o ∷ operands) h =
-      let h' = both (takes_any p) (list_all takes_any parameters) h in
+      let h' = and_parts (takes_any p) (list_all takes_any parameters) h in
       ap (λ b. (not b && gives_null references fields o) || some_missing references fields parameters operands) (may_be p h'.0) ∙ none_missing fields parameters operands h'.1
 
   fits : (classes : Classes) (space : Space) (p : ParameterKind) (r : Option ℕ) → takes_any p ≡ true → misfits classes space p r ≡ false
@@ -69,7 +55,7 @@ module _ (references : References) where
   none_unfit classes space [] operands h = refl
   none_unfit classes space (p ∷ parameters) [] h = refl
   none_unfit classes space (p ∷ parameters) (o ∷ operands) h =
-      let h' = both (takes_any p) (list_all takes_any parameters) h in
+      let h' = and_parts (takes_any p) (list_all takes_any parameters) h in
       ap (λ b. b || some_misfit classes space references parameters operands) (fits classes space p (operand_at references o) h'.0) ∙ none_unfit classes space parameters operands h'.1
 
 -- a function that asks something of its arguments together asks something of each
@@ -108,8 +94,8 @@ is_first false x rest h = absurd (cc)
 pub nothing_asked : (unit : SourceUnit) (classes : Classes) (space : Space) (references : References) (fields : List (Option Handle)) (wanted : ElementType) (f : JniFunction) (operands : List Operand) → asks (prototype f).parameters operands ≡ false
     → (rest : List (Bool × Trap)) → first_trap (arguments_asked unit classes space references fields wanted f operands ++ rest) ≡ first_trap rest
 nothing_asked unit classes space references fields wanted f operands h rest =
-    let parts = neither (not (list_all takes_any (prototype f).parameters)) (list_any is_static operands) h in
-    let any = undenied (list_all takes_any (prototype f).parameters) parts.0 in
+    let parts = or_parts (not (list_all takes_any (prototype f).parameters)) (list_any is_static operands) h in
+    let any = not-false (list_all takes_any (prototype f).parameters) parts.0 in
     passed (list_any (gives_deleted references) operands) (some_missing references fields (prototype f).parameters operands) (some_misfit classes space references (prototype f).parameters operands || not (fit_together unit classes space references fields operands wanted f)) _ _ _ rest
     (none_deleted references operands parts.1)
     (none_missing references fields (prototype f).parameters operands any)

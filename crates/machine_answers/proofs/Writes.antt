@@ -6,6 +6,7 @@ use Rattle.std.proofs.lemmas.Bool.{cases_eq}
 use Rattle.std.proofs.lemmas.Bool.Decides.{eqb_tells}
 use Rattle.std.proofs.lemmas.Option.{slice_get_within}
 use Rattle.std.proofs.Math.ListN.{length-set}
+use Rattle.base.proofs.Lists.{get_set_other, get_set_same}
 use Rattle.heap.specs.Heap.{Block, Space, block_at, block_end, name_at, AreNamesUnique, IsLaidOut, LieFrom, with_changed, with_value}
 use Rattle.heap.specs.Layout.{layout_of}
 use Rattle.heap.proofs.Extents.{layout_values}
@@ -30,7 +31,6 @@ use Rattle.machine_scenes.specs.Statics.{all_held}
 use Rattle.machine_answers.specs.Answers.{WritesAt}
 use Rattle.machine_scenes.specs.HeapAgrees.{BlockAgrees, BlocksAgree, ValueAgrees, ValuesAgree}
 use Rattle.machine_scenes.proofs.BlocksOfNames.{Named, named}
-use Rattle.machine_answers.proofs.SetPlaces.{get_set_same, get_set_other}
 use Rattle.machine_scenes.proofs.Taken.{taken_changed}
 use Rattle.machine_scenes.proofs.Keeping.{none_made, slots_stay, statics_stay, values_stay, weaks_stay}
 use Rattle.machine_scenes.proofs.Noted.{keeps_noted, store_noted}

@@ -116,7 +116,7 @@ module _ (unit : SourceUnit) (classes : Classes) (store : Store) (o : Option Mar
   given_noted row.null_method = row.null_method
 
   buffer_given : (b : Buffer) (c : CallResult) → BufferIsGiven store owner b c → BufferIsGiven noted_store owner b c
-  buffer_given b (BufferResult s) h = buffer_noted store.heap o store.elements owner b s h
+  buffer_given b (BufferResult s) h = buffer_noted store.heap o h
   buffer_given b NullResult h = h
   buffer_given b c h = absurd h
 

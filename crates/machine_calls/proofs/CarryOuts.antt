@@ -1,5 +1,5 @@
 -- What is carried out is what the source's call leaves.
-use Rattle.std.proofs.Common.{◌≤◌, drop, take, ◌≡◌, ℕ, pos, negsuc, zero, suc, ◌-◌, ◌<◌, ◌^◌, Bool, true, false, List, [], ◌∷◌, ◌++◌, length, inl, inr, Option, Some, None, refl, sym, ap, ◌∙◌, subst, arith, append-nil, ◌+◌, length-append, append_assoc}
+use Rattle.std.proofs.Common.{◌≤◌, drop, take, ◌≡◌, ℕ, pos, negsuc, ◌-◌, ◌<◌, ◌^◌, Bool, true, false, List, [], ◌∷◌, ◌++◌, length, inl, inr, Option, Some, None, refl, sym, ap, ◌∙◌, subst, arith, append-nil, ◌+◌, length-append, append_assoc}
 use Rattle.std.specs.Global.{Vec}
 use Rattle.heap.specs.Heap.{name_at}
 use Rattle.heap.proofs.Staying.{stays_on}
@@ -19,7 +19,7 @@ use Rattle.machine_scenes.specs.Statics.{held as held_of, held_at, held_weakly, 
 use Rattle.machine_calls.proofs.StaticStores.{fresh_global, fresh_weak, keeps_but_statics, live_there, with_deleted, with_global, with_weak, with_weak_deleted}
 use Rattle.std.specs.Prelude.{slice_get, slice_set, nat_le, if◌then◌else◌}
 use Rattle.std.proofs.lemmas.Bool.{le-leb, leb-true}
-use Rattle.std.proofs.lemmas.Option.{slice_get_within}
+use Rattle.std.proofs.lemmas.Option.{slice_get-get_or, slice_get_within}
 use Rattle.syntax.specs.Tree.{SourceUnit}
 use Rattle.syntax.specs.Views.{unit_tree}
 use Rattle.class_rules.specs.BuiltIns.{string_class}
@@ -113,11 +113,6 @@ nothing_given : {unit : SourceUnit} {classes : Classes} {space : Space} {kind : 
 nothing_given row.nothing = refl
 nothing_given h = refl
 
-get_below : (xs : List ℕ) (i : ℕ) → i < length xs → (a : ℕ) × (slice_get xs i ≡ Some a)
-get_below [] i h = absurd (omega (arith, h))
-get_below (x ∷ xs) zero h = (x, refl)
-get_below (x ∷ xs) (suc i) h = get_below xs i (omega (arith, h))
-
 module _ (p : Lowered) (w : World) (store : Store) (pending : Option ℕ) (locals : LocalTable) (others : Acquired) (owner : ℕ) (shared : Shared) (s : Thread) (h : IsPossible p w store pending locals others shared s) (brought : Brought) where
   abbrev texts : List (List ℕ)
   texts = brought.texts
@@ -144,8 +139,8 @@ module _ (p : Lowered) (w : World) (store : Store) (pending : Option ℕ) (local
   error_there =
       let table = h.store_agrees.table in
       let within = slice_get_within (loaded_objects w) (length w.classes) (fresh_object w.classes 11) (loaded_error w) in
-      let found = get_below store.loaded.items (length w.classes) (omega (arith, within, table.counted)) in
-      subst (λ (o : Option ℕ). ReferenceAgrees store.heap o (Some (out_of_memory w.classes))) (sym found.1) (table.named (length w.classes) found.0 found.1)
+      let found = slice_get-get_or store.loaded.items (length w.classes) 0 (omega (arith, within, table.counted)) in
+      subst (λ (o : Option ℕ). ReferenceAgrees store.heap o (Some (out_of_memory w.classes))) (sym found) (table.named (length w.classes) _ found)
 
   -- the allocation was refused
   refuses : (a : Answer) (kind : ResultKind) (effect : CallEffect) → makes_objects effect ≡ true → left_of store.heap < sizes (made_by w.classes effect) → Carries a kind effect true store (slice_get store.loaded.items (length w.classes)) (failed kind)

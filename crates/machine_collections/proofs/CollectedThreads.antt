@@ -24,6 +24,7 @@ use Rattle.machine_scenes.specs.declared.buffer.Buffer.TheVariants as buffer
 use Rattle.machine_scenes.specs.declared.store.Store.{Store}
 use Rattle.machine_scenes.specs.Buffers.{AreViewed, BufferAgrees, viewed_in}
 use Rattle.machine_scenes.specs.HeapAgrees.{ValuesAgree, times}
+use Rattle.machine_scenes.proofs.HeldSums.{times_append}
 use Rattle.machine_threads.specs.declared.thread.Entering.{Entering}
 use Rattle.machine_threads.specs.declared.thread.PendingCall.{PendingCall}
 use Rattle.machine_threads.specs.declared.thread.Thread.{Thread}
@@ -40,7 +41,6 @@ use Rattle.machine_collections.proofs.GivenArguments.{due_moved, values_kept}
 use Rattle.machine_collections.proofs.HeldViews.{AgreeInSlots, slots_agree, view_at}
 use Rattle.machine_collections.proofs.KeptReferences.{AreKept, CallIsKept, CallersAreKept, ThreadsAreKept}
 use Rattle.machine_collections.proofs.ReachableNames.{in_times}
-use Rattle.machine_collections.proofs.RootNames.{times_append}
 
 -- ---- what is kept, frame by frame
 

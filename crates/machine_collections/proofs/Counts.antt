@@ -2,7 +2,7 @@
 use Rattle.std.proofs.Common.{◌≡◌, ℕ, ◌+◌, ◌≤◌, List, length, drop, ap, ◌∙◌, length-append, arith, Some}
 use Rattle.std.specs.Prelude.{flat_map, slice_get}
 use Rattle.std.proofs.lemmas.List.Concat.{flat_map-cons}
-use Rattle.machine_threads.proofs.Lists.{drop_next}
+use Rattle.base.proofs.Lists.{drop_next}
 use Rattle.machine_collections.proofs.MovedRoots.{drop_past}
 
 -- from a place on, by one element and those after it

@@ -20,11 +20,11 @@ use Rattle.semantics.proofs.ShownRows.{from_one-contains}
 use Rattle.machine_scenes.proofs.HeapLaws.{from_one-bounds}
 use Rattle.machine_collections.specs.Roots.{CallIsStacked, CallersAreStacked, ThreadIsStacked, ThreadsAreStacked, argument_places, call_places, loaded_places, root_places, slots_of, thread_places}
 use Rattle.machine_threads.proofs.EntryTables.{references_after}
-use Rattle.machine_threads.proofs.Reversed.{all_reversed, reversed_next}
-use Rattle.compact.proofs.Blocks.{Contains-from_get, get-from_contains}
-use Rattle.std.proofs.lemmas.List.{append-nil}
+use Rattle.machine_threads.proofs.Reversed.{all_reversed}
+use Rattle.std.proofs.lemmas.List.{append-nil, reverse-append}
 use Rattle.std.proofs.lemmas.List.Concat.{flat_map-cons}
 use Rattle.std.proofs.lemmas.Grind.{flat_map-append}
+use Rattle.base.proofs.Lists.{Contains-from_get, get-from_contains}
 use Rattle.machine_scenes.specs.MonitorsAgree.{AreThere, MonitorsAgree}
 use Rattle.monitors.specs.Monitors.{addresses}
 use Rattle.machine_collections.proofs.OwnedMonitors.{monitor_addresses, monitor_names, monitors_are, monitors_name, monitors_place}
@@ -201,7 +201,7 @@ pending_root s n k = in_append_right (below_roots s ++ given_roots s ++ frame_ro
 
 next_reversed : {A : Type 0} (f : A → List ℕ) (x : A) (xs : List A) → flat_map f (reverse (x ∷ xs)) ≡ flat_map f (reverse xs) ++ f x
 next_reversed {A} f x xs =
-    ap (flat_map f) (reversed_next x xs)
+    ap (flat_map f) (reverse-append (x ∷ []) xs)
     ∙ flat_map-append f (reverse xs) (x ∷ [])
     ∙ ap (λ (l : List ℕ). flat_map f (reverse xs) ++ l) (flat_map-cons f x [] ∙ append-nil (f x))
 

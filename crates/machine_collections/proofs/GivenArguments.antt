@@ -2,6 +2,7 @@
 use Rattle.std.proofs.Common.{◌≡◌, ℕ, zero, suc, ◌+◌, ◌<◌, arith, refl, List, [], ◌∷◌, length, map, Option, Some, None, sym, ap, ◌∙◌, set}
 use Rattle.std.specs.Prelude.{filter_map, slice_get}
 use Rattle.std.specs.Option.{option_map}
+use Rattle.base.proofs.Lists.{get_map}
 use Rattle.class_rules.specs.Class.{Classes}
 use Rattle.heap.specs.declared.value.Value.{Value}
 use Rattle.heap.specs.declared.value.Value.TheVariants.{Number as Word, Null, Block as Address}
@@ -19,7 +20,6 @@ use Rattle.machine_threads.specs.ThreadAgrees.{CallsToComeAgree, IsDue}
 use Rattle.machine_threads.specs.declared.thread.Entering.{Entering}
 use Rattle.machine_threads.specs.declared.thread.PendingCall.{PendingCall}
 use Rattle.compact.proofs.Fronts.{front, front_get, front_same, front_step}
-use Rattle.compact.proofs.Tight.{get_map}
 use Rattle.compact.specs.Same.{moved_value}
 use Rattle.machine_collections.specs.Moving.{AreMovedAt}
 use Rattle.machine_collections.specs.Roots.{argument_place, argument_places}

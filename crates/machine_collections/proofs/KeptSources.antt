@@ -1,44 +1,28 @@
 -- What isn't kept may be cleared, as what is kept holds all that can be reached.
 use Rattle.std.proofs.Common.{◌≡◌, ℕ, suc, ◌+◌, ◌<◌, Bool, true, false, List, [], ◌∷◌, ◌++◌, Some, refl, sym, subst, arith, inl, inr, ◌⊎◌}
 use Rattle.std.specs.Prelude.{◌≢◌, not, nat_lt, slice_index}
-use Rattle.std.specs.List.{list_all, list_any}
 use Rattle.std.specs.List.Sorted.{IsStrictlyIncreasing}
-use Rattle.std.proofs.lemmas.Bool.{and_from, false≢true, false_from_ne_true}
-use Rattle.std.proofs.lemmas.Bool.Decides.{nat_tests}
+use Rattle.std.proofs.lemmas.Bool.{and_from, false_from_ne_true, false≢true, lt-ltb, not-true}
 use Rattle.semantics.specs.Reachable.{is_in, roots, Reached, FromRoot, FromObject}
 use Rattle.semantics.specs.State.{State}
 use Rattle.semantics.specs.Step.{clearing_step}
 use Rattle.semantics.specs.WeakReferences.{are_rising, held_beside, may_clear, reached_with, weakly_held, with_cleared}
 use Rattle.semantics.specs.World.{World}
-use Rattle.semantics.proofs.ReachableLemmas.{In, contains_in, from_filter, in_append_cases, in_head, in_tail, reached_lists, to_contains}
+use Rattle.semantics.proofs.ReachableLemmas.{In, contains_in, from_filter, in_append_cases, reached_lists, to_contains}
+use Rattle.semantics.proofs.WeakLaws.{all_of, none_of}
 use Rattle.machine_collections.specs.Kept.{AreNotKept, HoldReachable}
 
 -- ---- lists of names
-
-all_of : (p : ℕ → Bool) (xs : List ℕ) → ((x : ℕ) → In xs x → p x ≡ true) → list_all p xs ≡ true
-all_of p [] h = refl
-all_of p (y ∷ ys) h = and_from (p y) (list_all p ys) (h y (in_head y ys)) (all_of p ys (λ x k. h x (in_tail y ys x k)))
-
-none_of : (p : ℕ → Bool) (xs : List ℕ) → ((x : ℕ) → In xs x → p x ≡ false) → list_any p xs ≡ false
-none_of p [] h = refl
-none_of p (y ∷ ys) h = rw (h y (in_head y ys), none_of p ys (λ x k. h x (in_tail y ys x k))) refl
-
-less : (m n : ℕ) → m < n → nat_lt m n ≡ true
-less m n h = grind (arith, nat_tests, h)
 
 rises : (n : ℕ) (names : List ℕ) → IsStrictlyIncreasing (n ∷ names) → are_rising (n ∷ names) ≡ true
 rises n [] h = refl
 rises n (m ∷ names) h =
     let rest : IsStrictlyIncreasing (m ∷ names) = λ k within. let next : suc k + 1 ≡ suc (k + 1) = omega arith in subst (λ (j : ℕ). slice_index (n ∷ m ∷ names) (suc k) < slice_index (n ∷ m ∷ names) j) next (h (suc k) (omega (arith, within))) in
-    and_from (nat_lt n m) (are_rising (m ∷ names)) (less n m (h 0 (omega arith))) (rises m names rest)
+    and_from (nat_lt n m) (are_rising (m ∷ names)) (lt-ltb n m (h 0 (omega arith))) (rises m names rest)
 
 rising : (names : List ℕ) → names ≢ [] → IsStrictlyIncreasing names → are_rising names ≡ true
 rising [] some h = absurd (some refl)
 rising (n ∷ names) some h = rises n names h
-
-is_false : (b : Bool) → not b ≡ true → b ≡ false
-is_false true h = absurd (false≢true h)
-is_false false h = refl
 
 never : (b : Bool) → b ≡ true → b ≡ false → ⊥
 never true h e = false≢true (sym e)
@@ -51,7 +35,7 @@ module _ (w : World) (s : State) (Kept : ℕ → Type 0) (names : List ℕ) (hol
   from_beside : (x : ℕ) → In (held_beside s names) x → ¬ (¬ (Kept x))
   from_beside x k out =
       let passed = from_filter (λ n. not (is_in names n)) (weakly_held s.shared.statics) x k in
-      never (is_in names x) (contains_in names x (cleared.all x (to_contains (weakly_held s.shared.statics) x passed.1) out)) (is_false (is_in names x) passed.0)
+      never (is_in names x) (contains_in names x (cleared.all x (to_contains (weakly_held s.shared.statics) x passed.1) out)) (not-true (is_in names x) passed.0)
 
   -- nor is what the roots and these lead to
   no_further : (n : ℕ) → Reached s.shared.heap (roots w s ++ held_beside s names) n → ¬ (¬ (Kept n))

@@ -15,6 +15,7 @@ use Rattle.semantics.proofs.ReachableLemmas.{In, in_append_cases, in_cases, in_h
 use Rattle.machine_scenes.specs.HeapAgrees.{BlockAgrees, BlocksAgree, IsNamed}
 use Rattle.machine_scenes.proofs.HeapLaws.{from_one-bounds}
 use Rattle.machine_scenes.proofs.Loaded.{agree_length}
+use Rattle.machine_collections.proofs.Rising.{from_passed}
 
 -- ---- lists without repetition
 
@@ -23,23 +24,11 @@ abbrev pub AreApart : List ℕ → Type 0
 AreApart [] = Unit {0}
 AreApart (x ∷ xs) = (In xs x → ⊥) × AreApart xs
 
--- what passes a test is among the others
-passed : (p : ℕ → Bool) (xs : List ℕ) (x : ℕ) → In (filter p xs) x → (p x ≡ true) × In xs x
-passed p [] x h = absurd (false≢true h)
-passed p (y ∷ ys) x h =
-    cond_both (p y) (y ∷ filter p ys) (filter p ys) (λ l. In l x → (p x ≡ true) × In (y ∷ ys) x)
-    (λ e k. ⊎_elim
-    (λ (same : y ≡ x). (subst (λ z. p z ≡ true) same e, subst (λ z. In (y ∷ ys) z) same (in_head y ys)))
-    (λ (later : In (filter p ys) x). let r = passed p ys x later in (r.0, in_tail y ys x r.1))
-    (in_cases y (filter p ys) x k))
-    (λ e k. let r = passed p ys x k in (r.0, in_tail y ys x r.1))
-    h
-
 apart_filter : (p : ℕ → Bool) (xs : List ℕ) → AreApart xs → AreApart (filter p xs)
 apart_filter p [] h = tt
 apart_filter p (x ∷ xs) h =
     cond_both (p x) (x ∷ filter p xs) (filter p xs) (λ l. AreApart l)
-    (λ e. (λ k. h.0 (passed p xs x k).1, apart_filter p xs h.1))
+    (λ e. (λ k. h.0 (from_passed p xs x k).1, apart_filter p xs h.1))
     (λ e. apart_filter p xs h.1)
 
 apart_push : (xs : List ℕ) (y : ℕ) → AreApart xs → (In xs y → ⊥) → AreApart (xs ++ y ∷ [])
@@ -118,7 +107,7 @@ names_within space heap [] [] h apart within = omega arith
 names_within space heap [] (n ∷ names) h apart within = absurd (false≢true (within n (in_head n names)))
 names_within space heap (b ∷ bs) names h apart within =
     let rest = names_within space heap bs (others b.birth names) h.1 (apart_filter (λ x. not (x == b.birth)) names apart)
-    (λ n k. let r = passed (λ x. not (x == b.birth)) names n k in later b.birth (births bs) n r.0 (within n r.1)) in
+    (λ n k. let r = from_passed (λ x. not (x == b.birth)) names n k in later b.birth (births bs) n r.0 (within n r.1)) in
     omega (arith, rest, sum_others (size_at heap) b.birth names apart, size_is space heap b h.0, sum_by-cons block_size b bs)
 
 -- blocks lie below the end

@@ -5,22 +5,16 @@ use Rattle.std.specs.Option.{option_map}
 use Rattle.std.proofs.lemmas.List.{length-map}
 use Rattle.std.proofs.lemmas.List.Concat.{flat_map-cons}
 use Rattle.std.proofs.lemmas.Option.{slice_get_within}
+use Rattle.base.proofs.Lists.{drop_next, get_front, get_map}
 use Rattle.tables.specs.References.{address_at}
 use Rattle.machine_threads.specs.declared.thread.Thread.{Thread}
-use Rattle.machine_threads.proofs.Lists.{drop_next}
 use Rattle.machine_scenes.specs.declared.store.Store.{Store}
 use Rattle.compact.proofs.Fronts.{front, front_get, front_same, front_step}
-use Rattle.compact.proofs.Tight.{get_map}
 use Rattle.machine_collections.specs.Moving.{AreMovedAt, moved_slots}
 use Rattle.machine_collections.specs.Roots.{loaded_places, root_places, thread_places}
 use Rattle.monitors.specs.Monitors.{addresses}
 
 -- ---- places
-
-get_front : {A : Type 0} (xs ys : List A) (i : ℕ) (x : A) → slice_get xs i ≡ Some x → slice_get (xs ++ ys) i ≡ Some x
-get_front [] ys i x h = absurd (cc)
-get_front (y ∷ xs) ys zero x h = h
-get_front (y ∷ xs) ys (suc i) x h = get_front xs ys i x h
 
 get_back : {A : Type 0} (xs ys : List A) (i : ℕ) (x : A) → slice_get ys i ≡ Some x → slice_get (xs ++ ys) (length xs + i) ≡ Some x
 get_back [] ys i x h = let e : 0 + i ≡ i = omega arith in subst (λ (n : ℕ). slice_get ys n ≡ Some x) (sym e) h

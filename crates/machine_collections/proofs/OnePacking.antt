@@ -1,8 +1,8 @@
 -- A layout is packed in one way.
 use Rattle.std.proofs.Common.{◌≡◌, ℕ, zero, suc, ◌+◌, ◌<◌, ◌≤◌, ◌⊎◌, inl, inr, [], ◌∷◌, Some, refl, sym, ap, ◌∙◌, subst, arith, Contains, ⊎_elim}
 use Rattle.std.specs.Prelude.{slice_get}
+use Rattle.base.proofs.Lists.{Contains-from_get, get-from_contains}
 use Rattle.heap.specs.Layout.{Extent, Layout, extent_end}
-use Rattle.compact.proofs.Blocks.{Contains-from_get, get-from_contains}
 use Rattle.machine_collections.specs.Packing.{IsLoose, IsPacked, RiseFrom, moved_to}
 use Rattle.machine_collections.proofs.PackedLayouts.{above_from, not_empty}
 

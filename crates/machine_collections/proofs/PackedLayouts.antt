@@ -4,6 +4,7 @@ use Rattle.std.specs.Prelude.{slice_get}
 use Rattle.std.specs.Option.{option_map, option_map_or}
 use Rattle.std.proofs.lemmas.List.{length-map}
 use Rattle.std.proofs.lemmas.Option.{slice_get-map}
+use Rattle.base.proofs.Lists.{Contains-from_get, get-from_contains, get_map}
 use Rattle.heap.specs.Heap.{Block, Space, IsAddress, IsLaidOut, LieFrom, block_at, block_end, block_size, name_at, pins_at}
 use Rattle.heap.specs.Layout.{Extent, Layout, extent_of, layout_of}
 use Rattle.heap.specs.Places.{end_at, size_at}
@@ -12,8 +13,7 @@ use Rattle.heap.proofs.Places.{place_of}
 use Rattle.compact.specs.Placing as compact
 use Rattle.compact.specs.Placing.{HasLowest, MeetPinned}
 use Rattle.compact.specs.Same.{MovesBy, moved, moved_value}
-use Rattle.compact.proofs.Blocks.{Contains-from_get, get-from_contains}
-use Rattle.compact.proofs.Tight.{get_map, some_block}
+use Rattle.compact.proofs.Tight.{some_block}
 use Rattle.machine_collections.specs.Packing.{IsLoose, IsPacked, MeetViewed, RiseFrom, moved_to}
 
 -- ---- blocks and their extents

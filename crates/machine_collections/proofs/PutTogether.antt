@@ -2,12 +2,12 @@
 use Rattle.std.proofs.Common.{◌≡◌, ℕ, ◌≤◌, true, List, length, Option, Some, None, map, refl, sym, ap, ◌∙◌, subst}
 use Rattle.std.specs.Option.{option_flatten, option_map}
 use Rattle.std.proofs.lemmas.List.{length-map}
+use Rattle.base.proofs.Lists.{Contains-from_get}
 use Rattle.heap.specs.Heap.{Space, IsAddress, bare, name_at}
 use Rattle.heap.specs.Marks.{Marks, is_kept}
 use Rattle.compact.specs.Reach as compact
 use Rattle.compact.specs.Same.{IsSameWeakly, MovesBy}
 use Rattle.compact.specs.Slices as slices
-use Rattle.compact.proofs.Blocks.{Contains-from_get}
 use Rattle.compact.proofs.Going.{addresses_of, closed_of}
 use Rattle.semantics.specs.declared.object_id.ObjectId.{ObjectId}
 use Rattle.tables.specs.Keys.{value_at}

@@ -4,7 +4,8 @@ use Rattle.std.specs.Prelude.{filter, slice_index}
 use Rattle.std.specs.List.Sorted.{IsStrictlyIncreasing}
 use Rattle.std.proofs.lemmas.Bool.{both_ways, cond_both, false≢true}
 use Rattle.semantics.specs.Reachable.{from_one}
-use Rattle.semantics.proofs.ReachableLemmas.{In, in_append_cases, in_cases, in_head, in_tail}
+use Rattle.semantics.proofs.ReachableLemmas.{In, in_cases, in_head, in_tail}
+use Rattle.semantics.proofs.WeakLaws.{in_from_one}
 
 -- each of these is greater than the one before it, and the first than another number
 abbrev pub RiseFrom : ℕ → List ℕ → Type 0
@@ -119,15 +120,6 @@ one_rising low from (x ∷ xs) (y ∷ ys) h k there back =
 
 -- ---- the numbers from one on
 
--- each of them is one of these at most
-pub at_most : (count n : ℕ) → In (from_one count) n → n ≤ count
-at_most zero n k = absurd (false≢true k)
-at_most (suc count) n k =
-    ⊎_elim
-    (λ (l : In (from_one count) n). let less = at_most count n l in omega (arith, less))
-    (λ (r : In (suc count ∷ []) n). ⊎_elim (λ (e : suc count ≡ n). omega (arith, e)) (λ (none : In [] n). absurd (false≢true none)) (in_cases (suc count) [] n r))
-    (in_append_cases (from_one count) (suc count ∷ []) n k)
-
 pub from_one_rises : (count : ℕ) → RiseFrom 0 (from_one count)
 from_one_rises zero = tt
-from_one_rises (suc count) = rise_behind 0 (from_one count) (suc count) (from_one_rises count) (omega arith) (λ n k. let less = at_most count n k in omega (arith, less))
+from_one_rises (suc count) = rise_behind 0 (from_one count) (suc count) (from_one_rises count) (omega arith) (λ n k. let less = in_from_one count n k in omega (arith, less))

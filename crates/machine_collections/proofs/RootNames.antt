@@ -1,6 +1,6 @@
 -- The frames of threads have the names of those that they stand for, and roots are named place by place.
-use Rattle.std.proofs.Common.{◌≡◌, ℕ, zero, suc, ◌+◌, ◌<◌, Bool, true, false, List, [], ◌∷◌, ◌++◌, length, map, take, drop, reverse, Option, Some, None, refl, sym, ap, ◌∙◌, subst, arith, if◌then◌else◌}
-use Rattle.std.specs.Prelude.{slice_get, flat_map, ◌==◌}
+use Rattle.std.proofs.Common.{◌≡◌, ℕ, zero, suc, ◌+◌, ◌<◌, List, [], ◌∷◌, ◌++◌, length, map, take, drop, reverse, Option, Some, None, refl, sym, ap, ◌∙◌, subst, arith}
+use Rattle.std.specs.Prelude.{slice_get, flat_map}
 use Rattle.std.specs.List.{AllZip}
 use Rattle.std.proofs.lemmas.List.{reverse-append}
 use Rattle.std.proofs.lemmas.List.Concat.{flat_map-cons}
@@ -15,19 +15,11 @@ use Rattle.machine_threads.specs.declared.thread.Thread.{Thread}
 use Rattle.machine_scenes.specs.HeapAgrees.{NamesAgree, ReferenceAgrees, times}
 use Rattle.machine_scenes.specs.Locals.{FrameAgrees, FramesAgree}
 use Rattle.machine_scenes.specs.Given.{object_there, ReferenceIsThere}
+use Rattle.machine_scenes.proofs.HeldSums.{times_append}
 use Rattle.machine_collections.specs.Roots.{argument_places, reference_names, AreAddresses}
 use Rattle.machine_threads.proofs.EntryTables.{references_after}
 
 -- ---- names
-
--- how often a name is among some and others
-pub times_append : (n : ℕ) (xs ys : List ℕ) → times n (xs ++ ys) ≡ times n xs + times n ys
-times_append n [] ys = omega arith
-times_append n (m ∷ xs) ys = by_test (n == m) (times_append n xs ys)
-  where
-    by_test : (b : Bool) → times n (xs ++ ys) ≡ times n xs + times n ys → (if b then suc (times n (xs ++ ys)) else times n (xs ++ ys)) ≡ (if b then suc (times n xs) else times n xs) + times n ys
-    by_test true e = omega (arith, e)
-    by_test false e = e
 
 -- as often among both where it is among each
 pub times_both : (n : ℕ) (xs xs' ys ys' : List ℕ) → times n xs ≡ times n xs' → times n ys ≡ times n ys' → times n (xs ++ ys) ≡ times n (xs' ++ ys')
@@ -143,8 +135,3 @@ holds_more P (z ∷ xs) zero x at here before zero y less e = let same : x ≡ y
 holds_more P (z ∷ xs) zero x at here before (suc j) y less e = absurd (omega (arith, less))
 holds_more P (z ∷ xs) (suc i) x at here before zero y less e = before 0 y (omega arith) e
 holds_more P (z ∷ xs) (suc i) x at here before (suc j) y less e = holds_more P xs i x at here (λ k u l f. before (suc k) u (omega (arith, l)) f) j y (omega (arith, less)) e
-
-pub there_within : {A : Type 0} (xs : List A) (i : ℕ) (x : A) → slice_get xs i ≡ Some x → i < length xs
-there_within [] i x e = absurd (cc)
-there_within (y ∷ xs) zero x e = omega arith
-there_within (y ∷ xs) (suc i) x e = let less = there_within xs i x e in omega (arith, less)

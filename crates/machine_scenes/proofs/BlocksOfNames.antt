@@ -3,9 +3,9 @@ use Rattle.std.proofs.Common.{◌≡◌, ℕ, zero, suc, ◌<◌, ◌≤◌, Boo
 use Rattle.std.specs.Prelude.{slice_get, find}
 use Rattle.std.specs.Option.{option_map}
 use Rattle.heap.specs.Heap.{Block, Space, IsAddress, block_at, name_at}
-use Rattle.semantics.specs.Object.{Object}
+use Rattle.semantics.specs.Object.{Object, Reference}
 use Rattle.semantics.specs.Heap.{Heap, object_at}
-use Rattle.machine_scenes.specs.HeapAgrees.{BlockAgrees, BlocksAgree, HeapAgrees}
+use Rattle.machine_scenes.specs.HeapAgrees.{BlockAgrees, BlocksAgree, HeapAgrees, ReferenceAgrees}
 
 pub record Named (s : Space) (heap : Heap) (a n : ℕ) : Type 0 where
   pub block : Block
@@ -34,6 +34,12 @@ is_address s a n e = some (block_at s a) e
     some : (o : Option Block) → option_map (λ (b : Block). b.birth) o ≡ Some n → IsSome o
     some None e = absurd (cc)
     some (Some b) e = refl
+
+-- where a reference stands for an object, a block is there
+pub block_there : (space : Space) (o : Option ℕ) (q : Reference) (a : ℕ) → ReferenceAgrees space o q → o ≡ Some a → IsAddress space a
+block_there space None q a h e = absurd (cc)
+block_there space (Some b) None a h e = absurd h
+block_there space (Some b) (Some n) a h e = let same : b ≡ a = cc in subst (IsAddress space) same (is_address space b n h)
 
 pub get_below : (heap : Heap) (i : ℕ) (o : Object) → slice_get heap i ≡ Some o → i < length heap
 get_below [] i o e = absurd (cc)

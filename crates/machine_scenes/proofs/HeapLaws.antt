@@ -10,8 +10,9 @@ use Rattle.std.proofs.lemmas.List.Folds.{find-append}
 use Rattle.std.proofs.lemmas.Option.{slice_get_within}
 use Rattle.heap.specs.declared.value.Value.{Value}
 use Rattle.heap.specs.declared.value.Value.TheVariants.{Number as Word, Null, Block as Address}
-use Rattle.heap.specs.Heap.{Block, Space, block_end, end_from, end_of, LieFrom, IsLaidOut, block_at, name_at, with_block}
+use Rattle.heap.specs.Heap.{Block, Space, block_end, end_from, end_of, LieFrom, IsLaidOut, name_at, with_block}
 use Rattle.heap.proofs.Layouts.{from_below_end}
+use Rattle.heap.proofs.Spaces.{block_at-fresh}
 use Rattle.semantics.specs.Object.{Object, ObjectValue, Number, Refers}
 use Rattle.semantics.specs.Heap.{Heap, object_at}
 use Rattle.semantics.specs.Reachable.{from_one}
@@ -29,9 +30,6 @@ none_after from a (b ∷ bs) cells h e =
     (λ (t : (eqb b.address a ≡ false) × (b.address ≡ a → ⊥)). ap (λ (c : Bool). cond c (Some b) (find (λ (b : Block). eqb b.address a) bs)) t.0 ∙ none_after (block_end b) a bs cells h.1 e)
     (eqb_tells b.address a)
 
-eqb_same : (a : ℕ) → eqb a a ≡ true
-eqb_same a = ⊎_elim (λ (t : (eqb a a ≡ true) × (a ≡ a)). t.0) (λ (t : (eqb a a ≡ false) × (a ≡ a → ⊥)). absurd (t.1 refl)) (eqb_tells a a)
-
 -- what was at an address stays there
 keeps : (a n : ℕ) (o p : Option Block) → option_map (λ (b : Block). b.birth) o ≡ Some n → option_map (λ (b : Block). b.birth) (option_or o p) ≡ Some n
 keeps a n None p h = absurd (cc)
@@ -42,15 +40,8 @@ name_kept s b a n h =
     ap (option_map (λ (b : Block). b.birth)) (find-append (λ (b : Block). eqb b.address a) s.blocks (b ∷ []))
     ∙ keeps a n (find (λ (b : Block). eqb b.address a) s.blocks) (find (λ (b : Block). eqb b.address a) (b ∷ [])) h
 
--- the further block is at its address
-pub block_new : (s : Space) (b : Block) → IsLaidOut s → b.address ≡ end_of s → block_at (with_block s b) b.address ≡ Some b
-block_new s b laid at =
-    find-append (λ (c : Block). eqb c.address b.address) s.blocks (b ∷ [])
-    ∙ ap (λ (o : Option Block). option_or o (find (λ (c : Block). eqb c.address b.address) (b ∷ []))) (none_after 0 b.address s.blocks s.cells laid (omega arith))
-    ∙ ap (λ (t : Bool). cond t (Some b) None) (eqb_same b.address)
-
 pub name_new : (s : Space) (b : Block) → IsLaidOut s → b.address ≡ end_of s → name_at (with_block s b) b.address ≡ Some b.birth
-name_new s b laid at = ap (option_map (λ (b : Block). b.birth)) (block_new s b laid at)
+name_new s b laid at = ap (option_map (λ (b : Block). b.birth)) (block_at-fresh s b laid at)
 
 -- ---- what agreed agrees
 

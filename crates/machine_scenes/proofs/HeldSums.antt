@@ -10,6 +10,7 @@ use Rattle.semantics.specs.CallEffects.{begun_with, freed, with_freed}
 use Rattle.semantics.specs.Thread.{Thread, objects_viewed}
 use Rattle.semantics.specs.Variable as source
 use Rattle.semantics.specs.Variable.{Variable, Variables, Elements, LocalArray, NoBuffer, Copy, View, change, copied_length, viewed}
+use Rattle.semantics.proofs.BegunArrays.{begun_length}
 use Rattle.machine_scenes.specs.Buffers.{Acquired, SameAcquired, acquired_by, acquired_of, beside, nothing_acquired}
 use Rattle.machine_scenes.specs.HeapAgrees.{times}
 
@@ -75,12 +76,12 @@ module _ (count : List ℕ → ℕ) (none : count [] ≡ 0) (both : (xs ys : Lis
   views_changed x f vs v at = omega (arith, all_views (change x f vs), all_views vs, sum_changed (λ (u : Variable). count (viewed u)) x f vs v at)
 
 -- a variable takes what its buffer does
-copied_of : (t : ElementType) (b : source.Buffer) → copied_length (Elements t b) ≡ (acquired_of b).copied
+pub copied_of : (t : ElementType) (b : source.Buffer) → copied_length (Elements t b) ≡ (acquired_of b).copied
 copied_of t NoBuffer = refl
 copied_of t (Copy n zs) = refl
 copied_of t (View n) = refl
 
-viewed_of : (t : ElementType) (b : source.Buffer) → viewed (Elements t b) ≡ (acquired_of b).viewed
+pub viewed_of : (t : ElementType) (b : source.Buffer) → viewed (Elements t b) ≡ (acquired_of b).viewed
 viewed_of t NoBuffer = refl
 viewed_of t (Copy n zs) = refl
 viewed_of t (View n) = refl
@@ -103,10 +104,6 @@ module _ (x : Identifier) (f : Variable → Variable) (lengths_stay : (v : Varia
           → flat_map (λ (e : Identifier × Variable). viewed e.1) (cond t ((y, f v) ∷ vs) ((y, v) ∷ change x f vs)) ≡ flat_map (λ (e : Identifier × Variable). viewed e.1) ((y, v) ∷ vs)
       by_test true e = ap (λ (l : List ℕ). l ++ flat_map (λ (e : Identifier × Variable). viewed e.1) vs) (views_stay v)
       by_test false e = ap (λ (l : List ℕ). viewed v ++ l) e
-
-begun_length : (zs : List ℤ) (v : Variable) → copied_length (begun_with zs v) ≡ copied_length v
-begun_length zs (LocalArray t ys) = refl
-begun_length zs v = refl
 
 begun_views : (zs : List ℤ) (v : Variable) → viewed (begun_with zs v) ≡ viewed v
 begun_views zs (LocalArray t ys) = refl

@@ -9,11 +9,12 @@ use Rattle.heap.specs.Layout.{top_from}
 use Rattle.heap.specs.Marks.{with_new}
 use Rattle.heap.proofs.Extents.{top_is}
 use Rattle.heap.proofs.Layouts.{from_below_end, LieFrom-push}
+use Rattle.heap.proofs.Spaces.{block_at-fresh}
 use Rattle.semantics.specs.Object.{Object, ObjectValue, size, sizes}
 use Rattle.semantics.specs.Heap.{Heap}
 use Rattle.machine_scenes.specs.HeapAgrees.{ValuesAgree, IsTable, AreMade}
 use Rattle.machine_scenes.proofs.ObjectExtents.{laid_more, top_laid}
-use Rattle.machine_scenes.proofs.HeapLaws.{IsNext, block_new, agrees_with_block, table_push}
+use Rattle.machine_scenes.proofs.HeapLaws.{IsNext, agrees_with_block, table_push}
 use Rattle.machine_scenes.proofs.Taken.{unpinned_push}
 
 -- nothing has been made
@@ -83,4 +84,4 @@ changed_new s b change laid after same =
     ∙ ap (λ (a : ℕ). let t : Space = record s { blocks = s.blocks ++ change b ∷ []; marking = option_map (with_new a) s.marking } in t) (sym same)
 
 pub values_new : (s : Space) (b : Block) → IsLaidOut s → b.address ≡ end_of s → values_at (with_block s b) b.address ≡ b.values
-values_new s b laid after = ap (λ (o : Option Block). option_map_or (λ (b : Block). b.values) o []) (block_new s b laid after)
+values_new s b laid after = ap (λ (o : Option Block). option_map_or (λ (b : Block). b.values) o []) (block_at-fresh s b laid after)

@@ -9,6 +9,7 @@ use Rattle.std.proofs.lemmas.Bool.{le-leb, leb-false, leb-true, lt-leb, ltb-true
 use Rattle.std.proofs.lemmas.Bool.Decides.{Decides-eqb}
 use Rattle.std.proofs.lemmas.List.{drop-append-le, drop-set-add, drop-set-lt, get_or-set_other, get_or-take, length-append, length-drop, reverse-append, take-append-le, take-set-le, take_all}
 use Rattle.std.proofs.lemmas.List.Sums.{sum_by-cons, sum_by_push}
+use Rattle.std.proofs.lemmas.Option.{slice_get_past}
 use Rattle.heap.specs.Heap.{Space, name_at}
 use Rattle.jni.specs.JniFunction.{JniFunction, PopLocalFrame}
 use Rattle.semantics.specs.CallEffects as effects
@@ -18,9 +19,10 @@ use Rattle.semantics.specs.CallSight.{is_full}
 use Rattle.semantics.specs.Thread as source
 use Rattle.tables.specs.Locals.{AreStacked, Frame, FrameSlots, IsMade, LocalTable, by_frame, capacities, current_frame, end_of, ensured, has_room, level_among, level_of, popped, pushed, slots_by_frame, without}
 use Rattle.tables.specs.References.{IsPut, address_at, references_in}
+use Rattle.tables.proofs.FrameLaws.{within}
 use Rattle.machine_scenes.specs.HeapAgrees.{NamesAgree, SlotsAgree, times}
 use Rattle.machine_scenes.specs.Locals.{FrameAgrees, FramesAgree, IsKeyOf, locals_after}
-use Rattle.machine_scenes.proofs.GlobalLaws.{slots_deleted, slots_made}
+use Rattle.machine_scenes.proofs.GlobalLaws.{slots_deleted, slots_made, slot_there}
 
 -- ---- the current frame
 
@@ -45,11 +47,6 @@ table frames slots = record { frames = frames; slots = slots }
 set_end : (xs : List Frame) (x v : Frame) → slice_set (xs ++ x ∷ []) (length xs) v ≡ xs ++ v ∷ []
 set_end [] x v = refl
 set_end (y ∷ xs) x v = ap (λ (l : List Frame). y ∷ l) (set_end xs x v)
-
-none_past : {A : Type 0} (xs : List A) (i : ℕ) → length xs ≤ i → slice_get xs i ≡ None
-none_past [] i h = refl
-none_past (x ∷ xs) zero h = absurd (omega (arith, h))
-none_past (x ∷ xs) (suc i) h = none_past xs i (omega (arith, h))
 
 module _ (below : List Frame) (top : Frame) (slots : List (Option ℕ)) where
   abbrev whole : LocalTable
@@ -93,7 +90,7 @@ module _ (below : List Frame) (top : Frame) (slots : List (Option ℕ)) where
   first_within : AreStacked whole → top.first ≤ length slots
   first_within h =
       let at : slice_index_or (below ++ top ∷ []) (length below) (record { capacity = 0; first = 0 }) ≡ top = get_or-append_seam below top [] (record { capacity = 0; first = 0 }) in
-      let past : slice_get (below ++ top ∷ []) (length below + 1) ≡ None = none_past (below ++ top ∷ []) (length below + 1) (omega (arith, count)) in
+      let past : slice_get (below ++ top ∷ []) (length below + 1) ≡ None = slice_get_past (below ++ top ∷ []) (length below + 1) (omega (arith, count)) in
       let end : end_of whole (length below) ≡ length slots = ap (λ (o : Option Frame). option_map_or (λ (f : Frame). f.first) o (length slots)) past in
       let low = h.rising (length below) (omega (arith, count)) in
       omega (arith, low, end, ap (λ (f : Frame). f.first) at)
@@ -104,24 +101,6 @@ get_dropped : (first : ℕ) (slots : List (Option ℕ)) (i : ℕ) → slice_get 
 get_dropped zero slots i = let same : i ≡ 0 + i = omega arith in ap (slice_get slots) same
 get_dropped (suc first) [] i = refl
 get_dropped (suc first) (x ∷ slots) i = let same : suc (first + i) ≡ suc first + i = omega arith in get_dropped first slots i ∙ ap (slice_get (x ∷ slots)) same
-
--- a reference's slot
-live_slot : (slots : List (Option ℕ)) (place a : ℕ) → address_at slots place ≡ Some a → slice_get slots place ≡ Some (Some a)
-live_slot [] place a h = absurd (cc)
-live_slot (x ∷ slots) zero a h = ap (λ (o : Option ℕ). Some o) h
-live_slot (x ∷ slots) (suc place) a h = live_slot slots place a h
-
-live_within : (slots : List (Option ℕ)) (place a : ℕ) → address_at slots place ≡ Some a → place < length slots
-live_within [] place a h = absurd (cc)
-live_within (x ∷ slots) zero a h = omega arith
-live_within (x ∷ slots) (suc place) a h = omega (arith, live_within slots place a h)
-
-no_le : (n m : ℕ) → m < n → nat_le n m ≡ false
-no_le n m h = by_test (nat_le n m) refl
-  where
-    by_test : (b : Bool) → nat_le n m ≡ b → b ≡ false
-    by_test true e = absurd (omega (arith, h, leb-true n m e))
-    by_test false e = refl
 
 level_within : (fs : List Frame) (place : ℕ) → level_among fs place ≤ length fs
 level_within [] place = omega arith
@@ -369,7 +348,7 @@ module _ (space : Space) where
             let sums : place ≡ f.first + (place - f.first) = omega (arith, low) in
             let above : drop f.first (slice_set slots place None) ≡ slice_set (drop f.first slots) (place - f.first) None = ap (λ (i : ℕ). drop f.first (slice_set slots i None)) sums ∙ drop-set-add f.first slots (place - f.first) None in
             let under : take f.first (slice_set slots place None) ≡ take f.first slots = take-set-le f.first slots place None low in
-            let at : slice_get (drop f.first slots) (place - f.first) ≡ Some (Some a) = get_dropped f.first slots (place - f.first) ∙ ap (slice_get slots) (sym sums) ∙ live_slot slots place a there in
+            let at : slice_get (drop f.first slots) (place - f.first) ≡ Some (Some a) = get_dropped f.first slots (place - f.first) ∙ ap (slice_get slots) (sym sums) ∙ slot_there slots place a there in
             let index : length (g ∷ gs) - suc (length fs) ≡ 0 = omega (arith, count) in
             subst (λ (i : ℕ). Agree (slots_by_frame (f ∷ fs) (slice_set slots place None)) (less i (g ∷ gs))) (sym index) (
               record { capacity = h.0.capacity; references = subst (λ (l : List (Option ℕ)). SlotsAgree space l (without_one n g.references)) (sym above) (slots_deleted space (drop f.first slots) g.references (place - f.first) a n h.0.references at named) },
@@ -397,13 +376,13 @@ module _ (space : Space) where
     -- where a frame is made
     pub key_pushed : (capacity : ℕ) → IsKeyOf space (pushed locals capacity) key n level
     key_pushed capacity =
-        let within = live_within locals.slots key is.address is.there in
+        let in_table = within locals.slots key is.address is.there in
         record {
           address = is.address;
           there = is.there;
           name = is.name;
           of_level = level_is locals.frames (record { capacity = capacity; first = length locals.slots }) locals.slots key
-              ∙ ap (λ (b : Bool). if b then suc (length (reverse locals.frames)) else level_of locals key) (no_le (length locals.slots) key within)
+              ∙ ap (λ (b : Bool). if b then suc (length (reverse locals.frames)) else level_of locals key) (lt-leb (length locals.slots) key in_table)
               ∙ is.of_level;
         }
 

@@ -1,6 +1,7 @@
 -- The contracts of `enter`, `exit` and `drop_thread` say what the source's effects do.
 use Rattle.std.proofs.Common.{◌≡◌, ◌≢◌, ℕ, ◌+◌, ◌-◌, Bool, true, false, cond, not, eqb, List, [], ◌∷◌, Option, Some, None, refl, sym, ap, ◌∙◌, subst, ⊎_elim}
 use Rattle.std.specs.Prelude.{nat_lt, negsuc}
+use Rattle.std.proofs.lemmas.Bool.{eq-eqb, ne_eqb}
 use Rattle.std.proofs.lemmas.Bool.Decides.{eqb_tells}
 use Rattle.class_rules.specs.BuiltIns.{illegal_monitor_state}
 use Rattle.class_rules.specs.Class.{Classes}
@@ -22,19 +23,13 @@ module _ {P : Type 0} (n m : ℕ) where
   by_equal : (eqb n m ≡ true → n ≡ m → P) → (eqb n m ≡ false → n ≢ m → P) → P
   by_equal same other = ⊎_elim (λ (t : (eqb n m ≡ true) × (n ≡ m)). same t.0 t.1) (λ (t : (eqb n m ≡ false) × (n ≡ m → ⊥)). other t.0 t.1) (eqb_tells n m)
 
-equal : (n m : ℕ) → n ≡ m → eqb n m ≡ true
-equal n m e = by_equal n m (λ same e. same) (λ other apart. absurd (apart e))
-
-unequal : (n m : ℕ) → n ≢ m → eqb n m ≡ false
-unequal n m ne = by_equal n m (λ same e. absurd (ne e)) (λ other apart. other)
-
 -- ---- the source's monitors
 
 own_first : (s : source.Monitor) (ss : List source.Monitor) (n : ℕ) → s.object ≡ n → source.monitor_of (s ∷ ss) n ≡ Some s
-own_first s ss n e = ap (λ b. cond b (Some s) (source.monitor_of ss n)) (equal s.object n e)
+own_first s ss n e = ap (λ b. cond b (Some s) (source.monitor_of ss n)) (eq-eqb s.object n e)
 
 other_first : (s : source.Monitor) (ss : List source.Monitor) (n : ℕ) → s.object ≢ n → source.monitor_of (s ∷ ss) n ≡ source.monitor_of ss n
-other_first s ss n ne = ap (λ b. cond b (Some s) (source.monitor_of ss n)) (unequal s.object n ne)
+other_first s ss n ne = ap (λ b. cond b (Some s) (source.monitor_of ss n)) (ne_eqb s.object n ne)
 
 -- without that of an object
 without_here : (ss : List source.Monitor) (n : ℕ) → source.monitor_of (source.without_monitor ss n) n ≡ None
@@ -230,7 +225,7 @@ module _ (k : ℕ) (shared : source.Shared) (ms : List Monitor) (h : MonitorsAgr
       by_monitor : (o : Option Monitor) (p : Option source.Monitor) → source.monitor_of shared.monitors n ≡ p → MonitorAgrees o p → Busy ≡ entering k o → (s : source.Monitor) × (source.monitor_of shared.monitors n ≡ Some s) × (s.owner ≢ k)
       by_monitor None p is agrees answer = absurd (cc)
       by_monitor (Some m) None is agrees answer = absurd agrees
-      by_monitor (Some m) (Some s) is agrees answer = (s, is, λ own. by_tests (eqb m.owner k) (nat_lt m.count 255) (equal m.owner k (agrees.1 ∙ own)) answer)
+      by_monitor (Some m) (Some s) is agrees answer = (s, is, λ own. by_tests (eqb m.owner k) (nat_lt m.count 255) (eq-eqb m.owner k (agrees.1 ∙ own)) answer)
         where
           by_tests : (a b : Bool) → a ≡ true → Busy ≡ cond a (cond b Entered Limit) Busy → ⊥
           by_tests false b own e = cc

@@ -20,7 +20,7 @@ use Rattle.machine_scenes.specs.Buffers.{Acquired, SameAcquired, acquired_of, be
 use Rattle.machine_scenes.specs.HeapAgrees.{times}
 use Rattle.machine_scenes.specs.StoreAgrees.{StoreAgrees}
 use Rattle.machine_scenes.specs.declared.store.Store.{Store}
-use Rattle.machine_scenes.proofs.HeldSums.{times_append}
+use Rattle.machine_scenes.proofs.HeldSums.{times_append, copied_of, viewed_of}
 use Rattle.machine_scenes.proofs.Taken.{taken_same}
 
 -- what the buffers of these variables take
@@ -111,17 +111,6 @@ pub assigned_nothing : (x : Identifier) (v : Variable) (vs : Variables) → copi
 assigned_nothing x v vs copies views none = assigned_same x v vs (copies ∙ sym (copies_none (lookup x vs) none)) (views ∙ sym (views_none (lookup x vs) none))
 
 -- ---- a buffer
-
--- a variable takes what its buffer does
-copied_of : (t : ElementType) (b : source.Buffer) → copied_length (Elements t b) ≡ (acquired_of b).copied
-copied_of t NoBuffer = refl
-copied_of t (Copy n zs) = refl
-copied_of t (View n) = refl
-
-viewed_of : (t : ElementType) (b : source.Buffer) → viewed (Elements t b) ≡ (acquired_of b).viewed
-viewed_of t NoBuffer = refl
-viewed_of t (Copy n zs) = refl
-viewed_of t (View n) = refl
 
 counted_none : (count : List ℕ → ℕ) → count [] ≡ 0 → (o : Option Variable) → viewed_there o ≡ [] → counted (λ (u : Variable). count (viewed u)) o ≡ 0
 counted_none count none None h = refl

@@ -1,7 +1,8 @@
 -- The method that a call in progress calls is one of the unit's functions, and is given what the source's call gives it.
-use Rattle.std.proofs.Common.{◌≡◌, ℕ, ◌<◌, ◌≤◌, Bool, true, false, List, [], ◌∷◌, length, drop, map, Option, Some, None, refl, sym, ap, ◌∙◌, subst, arith}
-use Rattle.std.specs.Prelude.{reverse, slice_get, ◌&&◌}
+use Rattle.std.proofs.Common.{◌≡◌, ℕ, ◌<◌, ◌≤◌, true, List, [], ◌∷◌, length, drop, map, Option, Some, None, sym, ap, ◌∙◌, subst, arith}
+use Rattle.std.specs.Prelude.{reverse, slice_get}
 use Rattle.std.specs.Option.{option_and_then}
+use Rattle.std.proofs.lemmas.Bool.{and_parts}
 use Rattle.std.proofs.lemmas.List.{length-map}
 use Rattle.std.proofs.lemmas.Option.{slice_get_within}
 use Rattle.base.specs.Bytes.{Identifier}
@@ -64,10 +65,6 @@ use Rattle.world_values.specs.SoundWorlds.{IsSound}
 
 -- ---- what is given
 
-both_hold : (a b : Bool) → (a && b) ≡ true → (a ≡ true) × (b ≡ true)
-both_hold true b h = (refl, h)
-both_hold false b h = absurd (cc)
-
 -- what passes fits
 one_fits : (heap : Heap) (space : Space) (type : ParameterType) (a : Actual) (x : Value) → passes type (argument_seen heap (Some a)) ≡ true → ValueAgrees space x (passed_value a) → ArgumentFits type (passed_value a)
 one_fits heap space IntParameter (NumberActual z) (Word n) h agrees = agrees.0
@@ -82,7 +79,7 @@ all_fit heap space [] (a ∷ more) values h agree = absurd (cc)
 all_fit heap space (p ∷ ps) [] values h agree = absurd (cc)
 all_fit heap space (p ∷ ps) (a ∷ more) [] h agree = absurd agree
 all_fit heap space (p ∷ ps) (a ∷ more) (x ∷ values) h agree =
-    let parts = both_hold (passes p.type (argument_seen heap (Some a))) (all_pass ps (map (λ (b : Actual). argument_seen heap (Some b)) more)) h in
+    let parts = and_parts (passes p.type (argument_seen heap (Some a))) (all_pass ps (map (λ (b : Actual). argument_seen heap (Some b)) more)) h in
     (one_fits heap space p.type a x parts.0 agree.0, all_fit heap space ps more values parts.1 agree.1)
 
 -- a class that is found is among the objects made at load

@@ -1,6 +1,5 @@
 -- What is there: the call in progress that is lent, the return that comes next, the last caller, and the call that a caller has made.
-use Rattle.std.proofs.Common.{◌≡◌, ℕ, zero, suc, ◌<◌, false, List, [], ◌∷◌, ◌++◌, length, Option, Some, None, refl, sym, ap, ◌∙◌, subst, arith, ◌⊎◌, ⊎_elim}
-use Rattle.std.specs.Prelude.{◌==◌}
+use Rattle.std.proofs.Common.{◌≡◌, ℕ, ◌<◌, List, [], ◌∷◌, ◌++◌, length, Option, Some, None, refl, sym, ap, ◌∙◌, subst, arith, ◌⊎◌, ⊎_elim}
 use Rattle.code.specs.declared.instr.Instr.{Instr}
 use Rattle.code.specs.declared.instr.Instr.TheVariants as instr
 use Rattle.code.specs.declared.instr.ReferenceOperand.{ReferenceOperand}
@@ -17,11 +16,6 @@ running is same = is ∙ ap (λ (x : Activation). Some x) (sym same)
 -- an instruction that leaves a function
 pub returns_is : (i : Instr) → (i ≡ instr.Return) ⊎ ((i ≡ instr.ReturnJint) ⊎ ((o : ReferenceOperand) × (i ≡ instr.ReturnReference o))) → IsReturn i
 returns_is i h = ⊎_elim (λ e. subst IsReturn (sym e) tt) (λ rest. ⊎_elim (λ e. subst IsReturn (sym e) tt) (λ e. subst IsReturn (sym e.1) tt) rest) h
-
--- a number that isn't 0
-pub some_by : (n : ℕ) → (n == 0) ≡ false → 0 < n
-some_by zero h = absurd (cc)
-some_by (suc n) h = omega arith
 
 -- the last of a list that has some
 pub last_of : {A : Type 0} (xs : List A) → 0 < length xs → (front : List A) × (x : A) × (xs ≡ front ++ x ∷ [])

@@ -29,6 +29,7 @@ use Rattle.semantics.specs.Variable as source_variable
 use Rattle.semantics.specs.Variable.{Variables, Scalar, Elements, NoBuffer, Copy, View, assign, change}
 use Rattle.semantics.specs.World.{World}
 use Rattle.semantics_safety.specs.Owners.{Owners}
+use Rattle.semantics_safety.proofs.ChangeCalls.{changed_is}
 use Rattle.code.specs.Call.{Call, call_view}
 use Rattle.code.specs.Depth.{Listing}
 use Rattle.code.specs.Effect.{truth_word}
@@ -42,6 +43,7 @@ use Rattle.code_meaning.specs.Does.{ActualFits, IsOperand, OperandFits}
 use Rattle.code_meaning.specs.Fits.{HaveOwnSlots}
 use Rattle.code_meaning.specs.Layout.{Known, Slot}
 use Rattle.code_meaning.specs.Lowered.{Lowered}
+use Rattle.code_meaning.specs.Slots as value
 use Rattle.code_meaning.specs.Slots.{Shows, Slots, Visible, held_buffer, visible_to, word_of}
 use Rattle.code_meaning.specs.Stands.{IsBufferResult}
 use Rattle.code_meaning.proofs.SlotLaws.{fewer_shown, known_among, shows_buffer_again, shows_set}
@@ -70,7 +72,7 @@ use Rattle.machine_threads.specs.SlotsHold.{IsSmallCopy, slots_of}
 use Rattle.machine_steps.proofs.Acquisitions.{taken_by}
 use Rattle.machine_steps.proofs.AskedCalls.{CalledAs, called as called_at, r as ready_at}
 use Rattle.machine_steps.proofs.Calls.{Ready}
-use Rattle.machine_steps.proofs.Changes.{buffer_by_kind, change_is, is_buffer_set, is_set}
+use Rattle.machine_steps.proofs.Changes.{buffer_by_kind, is_buffer_set, is_set}
 use Rattle.machine_steps.proofs.CopiedArrays.{AreKept, Copied, Released, array_known, copied_taken, kept_or_copied, meant_after, shows_copied}
 use Rattle.machine_steps.proofs.OwnersLeft.{brings as brought_in, leaves_owners, left_own, of_source as answer_of}
 use Rattle.machine_steps.proofs.Receives.{IsNoBuffer, no_buffer, nothing_told, plain_static}
@@ -215,7 +217,7 @@ module _ (code : Listing) (known : Known) (own : Owners) (shared : Shared) (s : 
       let new : source.Thread = record s { variables = assign x (Scalar (Flag b)) s.variables } in
       fewer_shown code known ((x, slot) ∷ known) (visible_to own shared new) (record slots { numbers = slice_set slots.numbers i (truth_word b) }) (known_among x slot known at)
       (shows_set code known (visible_to own shared s) (visible_to own shared new) slots x slot (Flag b) shows
-      (record { within = omega (arith, slice_get_within slots.numbers i (word_of shown.value) shown.word, shows.numbers); own = owned x slot at }) tt refl
+      (record { within = omega (arith, slice_get_within slots.numbers i (word_of shown.value) shown.word, shows.numbers); own = owned x slot at }) tt value.flag
       (is_set own own shared s new x (λ y other. refl) (Flag b) refl))
 
   -- a buffer is given up
@@ -228,7 +230,7 @@ module _ (code : Listing) (known : Known) (own : Owners) (shared : Shared) (s : 
       let new : source.Thread = record s { variables = change x freed s.variables } in
       shows_buffer_again code known (visible_to own shared s) (visible_to own shared new) slots x t writable i NoBuffer shows at
       (record { within = omega (arith, slice_get_within slots.buffers i shown.buffer shown.there, shows.buffers); own = owned x slot at })
-      (is_buffer_set own own shared s new x (λ y other. refl) t NoBuffer (change_is x freed (Elements t variable.0) s.variables variable.1))
+      (is_buffer_set own own shared s new x (λ y other. refl) t NoBuffer (changed_is x freed (Elements t variable.0) s.variables variable.1))
 
 -- ---- buffers that the answer leaves
 

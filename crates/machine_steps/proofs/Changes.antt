@@ -1,67 +1,27 @@
 -- What can be seen once a variable has changed.
-use Rattle.std.proofs.Common.{◌≡◌, ◌≢◌, ℕ, zero, suc, ℤ, pos, ◌<◌, Bool, true, false, List, [], ◌∷◌, length, replicate, Option, Some, None, refl, sym, ap, ◌∙◌, subst, arith, if◌then◌else◌}
+use Rattle.std.proofs.Common.{◌≡◌, ◌≢◌, ℕ, zero, suc, ℤ, pos, ◌<◌, true, List, length, replicate, Option, Some, None, refl, sym, ap, ◌∙◌, arith}
 use Rattle.std.specs.Prelude.{slice_get, slice_set}
-use Rattle.std.specs.Str.{bytes_eq}
 use Rattle.std.proofs.lemmas.List.{length-replicate}
 use Rattle.std.proofs.lemmas.Option.{slice_get_past, slice_get_within}
-use Rattle.std.proofs.lemmas.Slice.Eq.{bytes_eq-Decides}
-use Rattle.base.specs.Bytes.{Identifier, ByName, lookup}
+use Rattle.base.specs.Bytes.{Identifier, lookup}
 use Rattle.base.specs.Element.{ElementType}
+use Rattle.base.proofs.Lists.{get_set_other, get_set_same}
 use Rattle.class_rules.specs.Fields.{FieldId}
 use Rattle.semantics.specs.Method.{MethodId}
 use Rattle.semantics.specs.Object.{Reference}
-use Rattle.semantics.specs.Sight.{scalar, holds_null, variable_is_null, elements_of, in_range, held_reference, held_field, held_method}
+use Rattle.semantics.specs.Sight.{scalar, holds_null, elements_of, in_range, held_reference, held_field, held_method}
 use Rattle.semantics.specs.Thread as source
 use Rattle.semantics.specs.Thread.{Shared}
 use Rattle.semantics.specs.Value.{Value, Gives, Stuck, outcome_then, convert}
 use Rattle.semantics.specs.Variable as variable
-use Rattle.semantics.specs.Variable.{Variable, Scalar, LocalRef, FieldHandle, MethodHandle, Elements, LocalArray, NoBuffer, Copy, View, Empty, Variables, assign, change}
+use Rattle.semantics.specs.Variable.{Variable, Scalar, LocalRef, FieldHandle, MethodHandle, Elements, LocalArray, NoBuffer, Empty, Variables, assign}
 use Rattle.semantics.specs.Task.{VariableKind, ScalarKind, ReferenceKind, FieldKind, BufferKind, MethodKind}
 use Rattle.semantics_safety.specs.Owners.{Owners}
-use Rattle.code_meaning.specs.Slots.{visible_to, type_of_array, kind_of_variable, held_buffer, is_no_buffer, OthersStay, IsSet, IsNulled, IsReferred, IsFieldSet, IsBufferSet, IsMade, IsElementSet, IsMethodSet}
-use Rattle.machine_answers.proofs.SetPlaces.{get_set_same, get_set_other}
+use Rattle.semantics_safety.proofs.NameLaws.{lookup_other, lookup_same}
+use Rattle.code_meaning.specs.Slots.{visible_to, type_of_array, kind_of_variable, held_buffer, OthersStay, IsSet, IsNulled, IsReferred, IsFieldSet, IsBufferSet, IsMade, IsElementSet, IsMethodSet}
+use Rattle.code_meaning.proofs.BufferLaws.{buffer_null}
 
 -- ---- lists by name
-
-pub lookup_same : {A : Type 0} (x : Identifier) (v : A) (vs : ByName A) → lookup x (assign x v vs) ≡ Some v
-lookup_same x v [] = ap (λ (b : Bool). if b then Some v else None) ((bytes_eq-Decides x x).1 refl)
-lookup_same x v ((y, w) ∷ rest) = by_test (bytes_eq x y) refl (lookup_same x v rest)
-  where
-    by_test : (b : Bool) → bytes_eq x y ≡ b → lookup x (assign x v rest) ≡ Some v → lookup x (if b then (x, v) ∷ rest else (y, w) ∷ assign x v rest) ≡ Some v
-    by_test true e later = ap (λ (b : Bool). if b then Some v else lookup x rest) ((bytes_eq-Decides x x).1 refl)
-    by_test false e later = ap (λ (b : Bool). if b then Some w else lookup x (assign x v rest)) e ∙ later
-
-pub lookup_other : {A : Type 0} (x y : Identifier) (v : A) (vs : ByName A) → y ≢ x → lookup y (assign x v vs) ≡ lookup y vs
-lookup_other x y v [] other = ap (λ (b : Bool). if b then Some v else None) (unequal (bytes_eq y x) refl)
-  where
-    unequal : (b : Bool) → bytes_eq y x ≡ b → bytes_eq y x ≡ false
-    unequal true e = absurd (other ((bytes_eq-Decides y x).0 e))
-    unequal false e = e
-lookup_other {A = A} x y v ((z, w) ∷ rest) other = by_test (bytes_eq x z) refl (lookup_other x y v rest other)
-  where
-    unequal : (b : Bool) → bytes_eq y x ≡ b → bytes_eq y x ≡ false
-    unequal true e = absurd (other ((bytes_eq-Decides y x).0 e))
-    unequal false e = e
-
-    not_first : bytes_eq x z ≡ true → bytes_eq y z ≡ false
-    not_first e = subst (λ (n : Identifier). bytes_eq y n ≡ false) ((bytes_eq-Decides x z).0 e) (unequal (bytes_eq y x) refl)
-
-    by_test : (b : Bool) → bytes_eq x z ≡ b → lookup y (assign x v rest) ≡ lookup y rest → lookup y (if b then (x, v) ∷ rest else (z, w) ∷ assign x v rest) ≡ lookup y ((z, w) ∷ rest)
-    by_test true e later = ap (λ (b : Bool). if b then Some v else lookup y rest) (unequal (bytes_eq y x) refl) ∙ sym (ap (λ (b : Bool). if b then Some w else lookup y rest) (not_first e))
-    by_test false e later = ap (λ (o : Option A). if bytes_eq y z then Some w else o) later
-
--- a value that is there is changed
-pub change_is : {A : Type 0} (x : Identifier) (f : A → A) (v : A) (vs : ByName A) → lookup x vs ≡ Some v → change x f vs ≡ assign x (f v) vs
-change_is x f v [] at = absurd (cc)
-change_is {A = A} x f v ((y, w) ∷ rest) at = by_test (bytes_eq x y) refl at (λ h. change_is x f v rest h)
-  where
-    by_test : (b : Bool) → bytes_eq x y ≡ b → (if b then Some w else lookup x rest) ≡ Some v → (lookup x rest ≡ Some v → change x f rest ≡ assign x (f v) rest)
-        → (if b then (y, f w) ∷ rest else (y, w) ∷ change x f rest) ≡ (if b then (x, f v) ∷ rest else (y, w) ∷ assign x (f v) rest)
-    by_test true e h later =
-        let name : x ≡ y = (bytes_eq-Decides x y).0 e in
-        let value : w ≡ v = cc in
-        ap (λ (u : A). (y, f u) ∷ rest) value ∙ ap (λ (z : Identifier). (z, f v) ∷ rest) (sym name)
-    by_test false e h later = ap (λ (vs : ByName A). (y, w) ∷ vs) (later h)
 
 -- ---- elements
 
@@ -218,12 +178,6 @@ is_method_set own own' shared s t x stay m e =
       statics = refl;
       others = others own own' shared s t x stay (MethodHandle m) e;
     }
-
--- a buffer
-buffer_null : (type : ElementType) (b : variable.Buffer) → variable_is_null (Elements type b) ≡ Gives (is_no_buffer b)
-buffer_null type NoBuffer = refl
-buffer_null type (Copy n zs) = refl
-buffer_null type (View n) = refl
 
 pub is_buffer_set : (own own' : Owners) (shared : Shared) (s t : source.Thread) (x : Identifier) → OthersOwn own own' x → (type : ElementType) (b : variable.Buffer) → t.variables ≡ assign x (Elements type b) s.variables → IsBufferSet (visible_to own shared s) type x b (visible_to own' shared t)
 is_buffer_set own own' shared s t x stay type b e =

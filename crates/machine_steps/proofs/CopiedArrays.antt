@@ -34,6 +34,7 @@ use Rattle.semantics.specs.Thread.{Shared}
 use Rattle.semantics.specs.Variable as source_variable
 use Rattle.semantics.specs.Variable.{Variable, Variables, LocalArray, NoBuffer, assign, change}
 use Rattle.semantics_safety.specs.Owners.{Owners}
+use Rattle.semantics_safety.proofs.ChangeCalls.{changed_is}
 use Rattle.tables.specs.Locals.{LocalTable}
 use Rattle.machine_answers.specs.declared.answer.Answer.{Answer}
 use Rattle.machine_answers.specs.declared.answer.Answer.TheVariants as answers
@@ -48,7 +49,7 @@ use Rattle.machine_scenes.specs.declared.buffer.Release.{Release}
 use Rattle.machine_answers.specs.Copies.{overlaid}
 use Rattle.machine_answers.proofs.Overlays.{get_outside, get_within, length_overlaid, overlaid_is}
 use Rattle.machine_steps.proofs.Arguments.{array_held}
-use Rattle.machine_steps.proofs.Changes.{change_is, element_of, found, others}
+use Rattle.machine_steps.proofs.Changes.{element_of, found, others}
 use Rattle.machine_steps.proofs.Acquisitions.{assigned_same, copied_there, taken_by, viewed_there}
 use Rattle.machine_steps.proofs.MonitorEffects.{enter_cases, exit_cases}
 
@@ -104,7 +105,7 @@ module _ (code : Listing) (known : Known) (own : Owners) (shared : Shared) (s : 
   copied_taken =
       let held = array_held code known 0 [] slots own shared s shows x t array at in
       let new : Variable = LocalArray held.type (overwritten held.elements 0 zs) in
-      ap taken_by (change_is x (begun_with zs) (LocalArray held.type held.elements) s.variables held.is)
+      ap taken_by (changed_is x (begun_with zs) (LocalArray held.type held.elements) s.variables held.is)
       ∙ assigned_same x new s.variables (sym (ap copied_there held.is)) (sym (ap viewed_there held.is))
 
   pub shows_copied : HaveOwnSlots known → Shows code known (visible_to own shared begun) (record slots { numbers = overlaid slots.numbers array.start words })
@@ -112,7 +113,7 @@ module _ (code : Listing) (known : Known) (own : Owners) (shared : Shared) (s : 
       let shown = shows.each x (record { ty = Array t array.len; index = array.start }) at in
       let held = array_held code known 0 [] slots own shared s shows x t array at in
       let new : Variable = LocalArray held.type (overwritten held.elements 0 zs) in
-      let set : begun.variables ≡ assign x new s.variables = change_is x (begun_with zs) (LocalArray held.type held.elements) s.variables held.is in
+      let set : begun.variables ≡ assign x new s.variables = changed_is x (begun_with zs) (LocalArray held.type held.elements) s.variables held.is in
       let long : length words ≡ length zs = ap length read.same ∙ length-map zs (cast_unsigned w32) in
       let short : length zs ≤ length held.elements = omega (arith, few, long, held.count) in
       let after : overwritten held.elements 0 zs ≡ overlaid held.elements 0 zs = sym (overlaid_is held.elements 0 zs (0 + length zs) refl (omega (arith, short))) in

@@ -152,20 +152,14 @@ statics_shared shared all codes n f h named x slot at =
 
 -- ---- what the slots of references hold at the entry
 
--- a place of a list
-get_below : (xs : List ℕ) (i : ℕ) → i < length xs → (a : ℕ) × (slice_get xs i ≡ Some a)
-get_below [] i less = absurd (omega arith)
-get_below (x ∷ xs) zero less = (x, refl)
-get_below (x ∷ xs) (suc i) less = get_below xs i (omega arith)
-
 module _ (space : Space) (loaded : List ℕ) (made : ℕ) (table : IsTable space loaded made) where
   -- an object made at load
   made_agrees : (n : ℕ) → 0 < n → n ≤ made → ReferenceAgrees space (slice_get loaded (n - 1)) (Some n)
   made_agrees n low high =
       let count : length loaded ≡ made = table.counted in
-      let g = get_below loaded (n - 1) (omega arith) in
+      let found = slice_get-get_or loaded (n - 1) 0 (omega arith) in
       let name : (n - 1) + 1 ≡ n = omega arith in
-      subst (λ (o : Option ℕ). ReferenceAgrees space o (Some n)) (sym g.1) (table.named (n - 1) g.0 g.1 ∙ ap (λ (m : ℕ). Some m) name)
+      subst (λ (o : Option ℕ). ReferenceAgrees space o (Some n)) (sym found) (table.named (n - 1) _ found ∙ ap (λ (m : ℕ). Some m) name)
 
   within : (n : ℕ) → (nat_lt 0 n && nat_le n made) ≡ true → (0 < n) × (n ≤ made)
   within n h = grind (arith, nat_tests, h)

@@ -13,6 +13,7 @@ use Rattle.machine_threads.specs.Entry.{entry_locals, keys_from}
 use Rattle.machine_scenes.specs.HeapAgrees.{NamesAgree, ReferenceAgrees}
 use Rattle.machine_scenes.specs.Locals.{FramesAgree, KeysAgree}
 use Rattle.machine_threads.proofs.EntryTables.{all_taken, taken_references}
+use Rattle.machine_threads.proofs.FirstReferences.{no_references}
 
 -- ---- keys
 
@@ -124,12 +125,8 @@ names_count space (x ∷ xs) [] h = absurd h
 names_count space (x ∷ xs) (n ∷ ns) h = ap suc (names_count space xs ns h.1)
 
 -- the objects of arguments, and NULL after them
-no_objects : (k : ℕ) → references_in (replicate k None) ≡ []
-no_objects zero = refl
-no_objects (suc k) = no_objects k
-
 objects_given : (vs : List ObjectValue) (k : ℕ) → references_in (filter_map argument_reference vs ++ replicate k None) ≡ filter_map named_object vs
-objects_given [] k = no_objects k
+objects_given [] k = no_references k
 objects_given (Number z ∷ vs) k = objects_given vs k
 objects_given (Refers None ∷ vs) k = objects_given vs k
 objects_given (Refers (Some n) ∷ vs) k = ap (λ (l : List ℕ). n ∷ l) (objects_given vs k)

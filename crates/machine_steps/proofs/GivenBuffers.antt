@@ -35,6 +35,7 @@ use Rattle.code_meaning.specs.Slots.{Shows, Slots, kind_of_variable, visible_to}
 use Rattle.code_meaning.specs.Stands.{IsBufferResult}
 use Rattle.type_rules.specs.ExprTypes as ty
 use Rattle.semantics_safety.specs.Owners.{Owners}
+use Rattle.semantics_safety.proofs.NameLaws.{lookup_other, lookup_same}
 use Rattle.tables.specs.Locals.{LocalTable}
 use Rattle.machine_answers.specs.declared.answer.Answer.{Answer}
 use Rattle.machine_answers.specs.declared.answer.Given.{Given}
@@ -44,7 +45,6 @@ use Rattle.machine_answers.specs.Answers as row
 use Rattle.machine_calls.specs.CarriedOut.{ResultAgrees, result_after}
 use Rattle.machine_threads.specs.SlotsHold.{IsSmallCopy}
 use Rattle.machine_steps.proofs.Acquisitions.{assigned_nothing, taken_by}
-use Rattle.machine_steps.proofs.Changes.{lookup_other, lookup_same}
 use Rattle.machine_steps.proofs.GivenResults.{plain_result}
 use Rattle.machine_steps.proofs.Receives.{IsNoBuffer}
 

@@ -1,4 +1,4 @@
-mod CallsThere
+pub mod CallsThere
 pub mod Acquisitions
 pub mod ViewCounts
 pub mod SlotBuffers

@@ -3,8 +3,6 @@ use Rattle.std.proofs.Common.{◌≡◌, ℕ, zero, suc, Bool, true, List, [], �
 use Rattle.std.specs.Prelude.{slice_get, slice_set, is_none}
 use Rattle.std.specs.List.{AllByRecursion}
 use Rattle.std.specs.Option.{option_map}
-use Rattle.std.specs.Str.{bytes_eq}
-use Rattle.std.proofs.lemmas.Slice.Eq.{bytes_eq-Decides}
 use Rattle.base.specs.Bytes.{Identifier, lookup}
 use Rattle.heap.specs.Heap.{Space}
 use Rattle.syntax.specs.Tree.{SourceUnit}
@@ -22,6 +20,7 @@ use Rattle.semantics.specs.Value.{Gives, Stuck}
 use Rattle.semantics.specs.Variable.{Buffer, Variable, Scalar, LocalRef, FieldHandle, MethodHandle, Elements, LocalArray, NoBuffer, StaticReference, Empty, Live, Weakly, Cleared, Deleted, Statics, Variables, assign, copied_length, viewed}
 use Rattle.semantics_safety.specs.Owners.{Owners, is_target}
 use Rattle.semantics_safety.specs.StepSafe.{HoldsNoBuffer}
+use Rattle.semantics_safety.proofs.NameLaws.{lookup_other, lookup_same, is_same}
 use Rattle.code_meaning.specs.Slots as lower
 use Rattle.code_meaning.specs.Slots.{Slots, Visible, visible_to, held_buffer, kind_of_variable, nulled_statics, type_of_array, IsNulled}
 use Rattle.code_meaning.specs.Stands.{target_name}
@@ -46,14 +45,11 @@ use Rattle.machine_scenes.specs.Given.{held_in}
 use Rattle.machine_scenes.specs.Statics.{References, held_or_null}
 use Rattle.machine_threads.specs.SlotsHold.{IsSmallCopy}
 use Rattle.machine_steps.specs.Variables.{is_empty_held, is_null, is_null_buffer, nulled_references, nulled_fields, nulled_buffers}
-use Rattle.machine_steps.proofs.Changes.{is_nulled, lookup_other, lookup_same}
+use Rattle.machine_steps.proofs.Changes.{is_nulled}
 use Rattle.machine_steps.proofs.Acquisitions.{assigned_nothing, taken_by}
 use Rattle.machine_steps.proofs.SlotBuffers.{all_put, buffers_nulled, null_buffer}
 
 -- ---- the source
-
-same_target : (y : Identifier) → bytes_eq y y ≡ true
-same_target y = (bytes_eq-Decides y y).1 refl
 
 -- NULL went to a variable, or to a static, which shows it
 pub record PutsNull (own : Owners) (shared : Shared) (s : source.Thread) (rest : List Task) (target : Target) (x : Identifier) (kind : Option VariableKind) : Type 0 where
@@ -132,11 +128,11 @@ module _ (own : Owners) (shared : Shared) (s : source.Thread) (rest : List Task)
   -- NULL goes to a variable that can be NULL
   pub puts_null : (code : Listing) (known : Known) (place : ℕ) (stack : List ℕ) (slots : Slots) (target : Target) (x : Identifier) → target_name target ≡ Some x → CanBeNull code known place stack slots (visible_to own shared s) target → ((y : Identifier) → is_target target y ≡ true → HoldsNoBuffer (lookup y s.variables)) → PutsNull own shared s rest target x (kind_of_target code known place stack slots (visible_to own shared s) target)
   puts_null code known place stack slots (Declared ScalarKind y) x is takes free = absurd takes
-  puts_null code known place stack slots (Declared ReferenceKind y) x is takes free = declared_null (Declared ReferenceKind y) x y ReferenceKind (LocalRef (length s.frames) None) refl (cc) refl (λ o. refl) (λ o. refl) refl refl refl refl refl refl refl (free y (same_target y))
-  puts_null code known place stack slots (Declared FieldKind y) x is takes free = declared_null (Declared FieldKind y) x y FieldKind (FieldHandle None) refl (cc) refl (λ o. refl) (λ o. refl) refl refl refl refl refl refl refl (free y (same_target y))
-  puts_null code known place stack slots (Declared MethodKind y) x is takes free = declared_null (Declared MethodKind y) x y MethodKind (MethodHandle None) refl (cc) refl (λ o. refl) (λ o. refl) refl refl refl refl refl refl refl (free y (same_target y))
-  puts_null code known place stack slots (Declared (BufferKind t) y) x is takes free = declared_null (Declared (BufferKind t) y) x y (BufferKind t) (Elements t NoBuffer) refl (cc) refl (λ o. refl) (λ o. refl) refl refl refl refl refl refl refl (free y (same_target y))
-  puts_null code known place stack slots (Assigned y) x is takes free = assigned_null x y takes.0 (lookup y s.variables) refl (cc) takes.1 (free y (same_target y))
+  puts_null code known place stack slots (Declared ReferenceKind y) x is takes free = declared_null (Declared ReferenceKind y) x y ReferenceKind (LocalRef (length s.frames) None) refl (cc) refl (λ o. refl) (λ o. refl) refl refl refl refl refl refl refl (free y (is_same y))
+  puts_null code known place stack slots (Declared FieldKind y) x is takes free = declared_null (Declared FieldKind y) x y FieldKind (FieldHandle None) refl (cc) refl (λ o. refl) (λ o. refl) refl refl refl refl refl refl refl (free y (is_same y))
+  puts_null code known place stack slots (Declared MethodKind y) x is takes free = declared_null (Declared MethodKind y) x y MethodKind (MethodHandle None) refl (cc) refl (λ o. refl) (λ o. refl) refl refl refl refl refl refl refl (free y (is_same y))
+  puts_null code known place stack slots (Declared (BufferKind t) y) x is takes free = declared_null (Declared (BufferKind t) y) x y (BufferKind t) (Elements t NoBuffer) refl (cc) refl (λ o. refl) (λ o. refl) refl refl refl refl refl refl refl (free y (is_same y))
+  puts_null code known place stack slots (Assigned y) x is takes free = assigned_null x y takes.0 (lookup y s.variables) refl (cc) takes.1 (free y (is_same y))
   puts_null code known place stack slots (Tested then' else') x is takes free = absurd takes
   puts_null code known place stack slots Dropped x is takes free = absurd takes
 

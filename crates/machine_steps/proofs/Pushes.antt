@@ -3,7 +3,7 @@ use Rattle.std.proofs.Common.{◌≡◌, ℕ, ◌+◌, ◌<◌, Bool, true, fals
 use Rattle.std.specs.Prelude.{flat_map, sum_by, ◌&&◌, nat_le}
 use Rattle.std.proofs.lemmas.Bool.{leb-false}
 use Rattle.std.proofs.Math.Seq.{drop-length}
-use Rattle.std.proofs.lemmas.List.{length-reverse}
+use Rattle.std.proofs.lemmas.List.{length-reverse, reverse-append}
 use Rattle.std.proofs.lemmas.List.Concat.{flat_map-cons}
 use Rattle.std.proofs.lemmas.List.Sums.{sum_by-cons}
 use Rattle.syntax.specs.Tree.{SourceUnit}
@@ -28,10 +28,10 @@ use Rattle.semantics.specs.Value.{Trap, NullReference, ExceptionPending, WrongOb
 use Rattle.semantics.specs.Variable.{Variables}
 use Rattle.semantics.specs.World.{Invocation, World, loaded_objects}
 use Rattle.semantics.specs.declared.event.Event.TheVariants as event
+use Rattle.semantics.proofs.CheckLaws.{fits_and_goes}
 use Rattle.semantics_safety.specs.Owners.{ThreadOwners, after_call as owners_after_call, after_invoked, after_step, after_tasks, no_owner}
 use Rattle.code_meaning.specs.Lowered.{Lowered}
 use Rattle.code_meaning.specs.Slots.{visible_to}
-use Rattle.machine_answers.proofs.CallTraps.{neither}
 use Rattle.machine_scenes.specs.Buffers.{Acquired, SameAcquired, acquired_by, beside}
 use Rattle.machine_scenes.specs.HeapAgrees.{times}
 use Rattle.machine_scenes.specs.StoreAgrees.{StoreAgrees}
@@ -43,7 +43,7 @@ use Rattle.machine_threads.specs.Callers.{CallerAgrees, CallersAgree, beside_cal
 use Rattle.machine_threads.specs.InProgress.{CallStands}
 use Rattle.machine_threads.specs.ThreadAgrees.{ThreadAgrees}
 use Rattle.machine_threads.specs.declared.thread.Thread.{Thread}
-use Rattle.machine_threads.proofs.Reversed.{callers_counted, reversed_last}
+use Rattle.machine_threads.proofs.Reversed.{callers_counted}
 use Rattle.machine_steps.specs.Advances.{Advances}
 use Rattle.machine_steps.specs.Executes.{IsCalling, IsExecuting, cells_made, in_use_with}
 use Rattle.machine_steps.specs.Pushed.{Pushes}
@@ -72,7 +72,7 @@ pub unstopped : (classes : Classes) (shared : Shared) (s : source.Thread) (targe
 unfolding trap_of
 unstopped classes shared s target f args free =
     let none = none_of _ _ _ _ _ _ free in
-    record { pending = none.0; together = (neither _ (go_together classes (sight_of_call shared s f args) (target_element s.variables target) f) none.1).1; shallow = none.2 }
+    record { pending = none.0; together = (fits_and_goes _ (go_together classes (sight_of_call shared s f args) (target_element s.variables target) f) none.1).1; shallow = none.2 }
 
 -- its method ID is of a method
 method_there : (classes : Classes) (sight : CallSight) (returns : _) (o : Option MethodId) → calls_well classes sight returns o ≡ true → (m : MethodId) × (o ≡ Some m)
@@ -226,7 +226,7 @@ module _ (p : Lowered) (w : World) (store : Store) (others : Acquired) (k : ℕ)
       );
       due = tt;
       work = refl;
-      callers = subst (λ (l : List Activation). CallersAgree p w.classes store.heap store.elements k shared l (own.current ∷ own.callers) (caller ∷ s.callers)) (sym (ap reverse d.last ∙ reversed_last t.callers.items call)) (caller_agrees, h.callers);
+      callers = subst (λ (l : List Activation). CallersAgree p w.classes store.heap store.elements k shared l (own.current ∷ own.callers) (caller ∷ s.callers)) (sym (ap reverse d.last ∙ reverse-append t.callers.items (call ∷ []))) (caller_agrees, h.callers);
       few =
           let before = few_callers p w store k own shared t s h (effect_of (sight_of shared s) task) c in
           let more = ap length d.last ∙ length-append t.callers.items (call ∷ []) in

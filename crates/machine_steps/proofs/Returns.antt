@@ -1,7 +1,7 @@
 -- A return into a caller is that of the source's thread.
 use Rattle.std.proofs.Common.{◌≡◌, ℕ, ◌+◌, ◌<◌, ◌≤◌, Bool, false, List, [], ◌∷◌, ◌++◌, length, length-append, reverse, Option, Some, None, refl, sym, ap, ◌∙◌, subst, arith}
 use Rattle.std.specs.Prelude.{flat_map, sum_by, slice_get}
-use Rattle.std.proofs.lemmas.List.{length-reverse}
+use Rattle.std.proofs.lemmas.List.{length-reverse, reverse-append}
 use Rattle.std.proofs.lemmas.List.Concat.{flat_map-cons}
 use Rattle.std.proofs.lemmas.List.Sums.{sum_by-cons}
 use Rattle.syntax.specs.Tree.{Block, SourceUnit}
@@ -48,7 +48,7 @@ use Rattle.machine_scenes.specs.declared.store.Store.{Store}
 use Rattle.machine_scenes.proofs.HeldSums.{times_append}
 use Rattle.machine_scenes.proofs.Keeping.{keeps_same}
 use Rattle.machine_threads.specs.Callers.{CallerAgrees, CallersAgree, beside_callers, owner_at, seen_by, thread_of}
-use Rattle.machine_threads.proofs.Reversed.{callers_counted, reversed_last}
+use Rattle.machine_threads.proofs.Reversed.{callers_counted}
 use Rattle.machine_threads.specs.SlotsHold.{slots_of}
 use Rattle.machine_threads.specs.ThreadAgrees.{ThreadAgrees}
 use Rattle.machine_threads.specs.declared.thread.Thread.{Thread}
@@ -208,7 +208,7 @@ module _ (p : Lowered) (w : World) (old : Store) (others : Acquired) (k : ℕ) (
   calls = reverse below
 
   there : reverse t.callers.items ≡ caller ∷ calls
-  there = ap reverse last ∙ reversed_last below caller
+  there = ap reverse last ∙ reverse-append below (caller ∷ [])
 
   pub first : First p w.classes old.heap old.elements k shared caller calls own.callers s.callers
   first = first_there p w.classes old.heap old.elements k shared caller calls own.callers s.callers (subst (λ (l : List Activation). CallersAgree p w.classes old.heap old.elements k shared l own.callers s.callers) there h.callers)

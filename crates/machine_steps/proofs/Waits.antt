@@ -1,9 +1,9 @@
 -- Which steps wait for a monitor.
-use Rattle.std.proofs.Common.{◌≡◌, ◌<◌, ◌≤◌, ℕ, Bool, true, false, not, eqb, List, [], ◌∷◌, length, Option, Some, None, is_none, refl, sym, ap, ◌∙◌, subst, cond, ⊎_elim}
+use Rattle.std.proofs.Common.{◌≡◌, ◌<◌, ◌≤◌, ℕ, Bool, true, false, not, eqb, List, [], ◌∷◌, length, Option, Some, None, is_none, refl, sym, ap, ◌∙◌, subst, cond}
 use Rattle.std.specs.Prelude.{◌&&◌, nat_lt, slice_get}
 use Rattle.std.specs.List.{AllZip}
 use Rattle.std.specs.Option.{option_map}
-use Rattle.std.proofs.lemmas.Bool.Decides.{eqb_tells}
+use Rattle.std.proofs.lemmas.Bool.{and_right, eq-eqb}
 use Rattle.std.proofs.lemmas.Option.{slice_get_within}
 use Rattle.class_rules.specs.Class.{Classes}
 use Rattle.heap.specs.Heap.{Space, name_at}
@@ -66,13 +66,9 @@ use Rattle.machine_steps.proofs.Threads.{Working, working}
 
 -- ---- where nobody owns a monitor
 
-and_false : (b : Bool) → (b && false) ≡ false
-and_false true = refl
-and_false false = refl
-
 -- nobody waits
 pub nobody_waits : (classes : Classes) (k : ℕ) (shared : Shared) (s : source.Thread) (e : Effect) → waits_with classes k (unowned shared) s e ≡ false
-nobody_waits classes k shared s (Calls line target MonitorEnter args) = and_false (is_none (trap_of_call classes (unowned shared) s target MonitorEnter args))
+nobody_waits classes k shared s (Calls line target MonitorEnter args) = and_right (is_none (trap_of_call classes (unowned shared) s target MonitorEnter args)) false refl
 nobody_waits classes k shared s e = refl
 
 -- all else agrees
@@ -95,14 +91,10 @@ unowned_steady unit classes own shared s h = record {
   calls = h.calls;
 }
 
--- a number is itself
-same_number : (n : ℕ) → eqb n n ≡ true
-same_number n = ⊎_elim (λ (t : (eqb n n ≡ true) × (n ≡ n)). t.0) (λ (t : (eqb n n ≡ false) × (n ≡ n → ⊥)). absurd (t.1 refl)) (eqb_tells n n)
-
 -- where the table has no monitor, the source has none
 none_owned : (ms : List Monitor) (qs : List source.Monitor) → MonitorsAgree ms qs → length ms ≡ 0 → qs ≡ []
 none_owned [] [] h is = refl
-none_owned [] (q ∷ qs) h is = absurd (subst (λ (b : Bool). MonitorAgrees None (cond b (Some q) (source.monitor_of qs q.object))) (same_number q.object) (h.at q.object))
+none_owned [] (q ∷ qs) h is = absurd (subst (λ (b : Bool). MonitorAgrees None (cond b (Some q) (source.monitor_of qs q.object))) (eq-eqb q.object q.object refl) (h.at q.object))
 none_owned (m ∷ ms) qs h is = absurd (cc)
 
 -- and nobody waits

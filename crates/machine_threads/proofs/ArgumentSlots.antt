@@ -4,9 +4,9 @@ use Rattle.std.specs.Prelude.{filter_map, slice_get}
 use Rattle.std.specs.List.{cons_option, list_all}
 use Rattle.std.specs.Option.{option_map}
 use Rattle.std.proofs.lemmas.Option.{slice_get-map}
+use Rattle.base.proofs.Lists.{all_at}
 use Rattle.semantics.specs.Object.{ObjectValue}
 use Rattle.semantics.specs.declared.object_value.ObjectValue.{ObjectValue as InMemory}
-use Rattle.world_values.proofs.LoadedWorlds.{passes_at}
 use Rattle.world_values.specs.Views.{object_value_view}
 
 consed : {Y : Type 0} (o : Option Y) (xs ys : List Y) → cons_option o (xs ++ ys) ≡ cons_option o xs ++ ys
@@ -26,4 +26,4 @@ given_more h xs i x e =
 
 -- what holds of each argument holds of the one at a place
 pub argument_at : (test : ObjectValue → Bool) (xs : List InMemory) (i : ℕ) (x : InMemory) → list_all test (map object_value_view xs) ≡ true → slice_get xs i ≡ Some x → test (object_value_view x) ≡ true
-argument_at test xs i x h e = passes_at test (map object_value_view xs) i (object_value_view x) h (slice_get-map object_value_view xs i ∙ ap (option_map object_value_view) e)
+argument_at test xs i x h e = all_at test (map object_value_view xs) i (object_value_view x) h (slice_get-map object_value_view xs i ∙ ap (option_map object_value_view) e)

@@ -2,6 +2,7 @@
 use Rattle.std.proofs.Common.{◌≡◌, ℕ, ◌+◌, ◌-◌, ◌<◌, ◌≤◌, true, List, [], ◌∷◌, ◌++◌, length, map, Some, None, refl, sym, ap, subst, ◌∙◌, arith}
 use Rattle.std.specs.Prelude.{nat_lt, nat_le, slice_index_or}
 use Rattle.std.specs.List.{list_all}
+use Rattle.std.proofs.lemmas.Bool.{and_parts}
 use Rattle.std.proofs.lemmas.Bool.Decides.{nat_tests}
 use Rattle.std.proofs.lemmas.List.{length-map}
 use Rattle.std.proofs.lemmas.Option.{slice_get-get_or}
@@ -9,7 +10,6 @@ use Rattle.heap.specs.declared.value.Value.{Value}
 use Rattle.heap.specs.Heap.{Space, end_of, left_of, with_block}
 use Rattle.semantics.specs.Heap.{Heap}
 use Rattle.semantics.specs.Object.{Object, ObjectValue, Number, Refers}
-use Rattle.world_schedules.proofs.WordLaws.{both_true}
 use Rattle.world_values.specs.CallArguments.{is_argument}
 use Rattle.machine_threads.specs.Held.{held_value}
 use Rattle.machine_scenes.specs.HeapAgrees.{ValueAgrees, ValuesAgree, IsTable, AreMade}
@@ -24,7 +24,7 @@ value_agrees : (s : Space) (addresses : List ℕ) (count : ℕ) (v : ObjectValue
 value_agrees s addresses count (Number z) table given = (in_range z given, refl)
 value_agrees s addresses count (Refers None) table given = tt
 value_agrees s addresses count (Refers (Some n)) table given =
-    let b = both_true (nat_lt 0 n) (nat_le n (length addresses)) given in
+    let b = and_parts (nat_lt 0 n) (nat_le n (length addresses)) given in
     let low : 0 < n = grind (arith, nat_tests, b.0) in
     let high : n ≤ length addresses = grind (arith, nat_tests, b.1) in
     let e : n - 1 + 1 ≡ n = omega arith in
@@ -33,7 +33,7 @@ value_agrees s addresses count (Refers (Some n)) table given =
 values_agree : (s : Space) (addresses : List ℕ) (count : ℕ) (vs : List ObjectValue) → IsTable s addresses count → list_all (is_argument (length addresses)) vs ≡ true → ValuesAgree s (map (held_value addresses) vs) vs
 values_agree s addresses count [] table given = tt
 values_agree s addresses count (v ∷ vs) table given =
-    let b = both_true (is_argument (length addresses) v) (list_all (is_argument (length addresses)) vs) given in
+    let b = and_parts (is_argument (length addresses) v) (list_all (is_argument (length addresses)) vs) given in
     (value_agrees s addresses count v table b.0, values_agree s addresses count vs table b.1)
 
 -- ---- the highest block

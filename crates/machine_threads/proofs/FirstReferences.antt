@@ -24,7 +24,7 @@ less_before h (a ∷ xs) (suc i) x y at is = consed_less (h a) (filter_map h (ta
 
 -- ---- slots that are NULL
 
-no_references : (n : ℕ) → references_in (replicate n None) ≡ []
+pub no_references : (n : ℕ) → references_in (replicate n None) ≡ []
 no_references zero = refl
 no_references (suc n) = no_references n
 

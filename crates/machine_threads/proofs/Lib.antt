@@ -1,6 +1,5 @@
 pub mod ArgumentSlots
 pub mod EntryTables
-pub mod Lists
 pub mod LoadLemmas
 pub mod FilledObjects
 pub mod MadeInOrder

@@ -4,13 +4,14 @@ use Rattle.std.specs.Prelude.{IfSome, IfNone, slice_get, is_some, nat_le, ◌&&�
 use Rattle.std.specs.Int.{w32}
 use Rattle.std.specs.List.{list_all}
 use Rattle.std.specs.Option.{option_and_then, option_map}
-use Rattle.std.proofs.lemmas.Bool.{and_from}
+use Rattle.std.proofs.lemmas.Bool.{and_from, and_parts}
 use Rattle.std.proofs.lemmas.List.{length-map}
 use Rattle.std.proofs.lemmas.Bool.Decides.{nat_tests}
 use Rattle.std.proofs.Math.ListN.{drop_of_length-le}
 use Rattle.base.specs.Bytes.{Identifier}
 use Rattle.base.specs.Element.{JInt}
 use Rattle.base.specs.Options.{some_passes}
+use Rattle.base.proofs.Lists.{all_at, drop_next}
 use Rattle.functions.specs.declared.functions.NumberedFunction.{NumberedFunction}
 use Rattle.syntax.specs.declared.unit.Function.{Function as FunctionInMemory}
 use Rattle.syntax.specs.declared.unit.Item.{Item}
@@ -26,15 +27,13 @@ use Rattle.semantics.specs.World.{Invocation}
 use Rattle.world_values.specs.SoundWorlds.{has_call}
 use Rattle.world_values.specs.Views.{object_value_view}
 use Rattle.world_values.specs.WorldRules.{is_in_range}
-use Rattle.world_values.proofs.LoadedWorlds.{class_within, passes_at}
+use Rattle.world_values.proofs.LoadedWorlds.{class_within}
 use Rattle.semantics.specs.Activation.{class_of_function, function_at}
 use Rattle.semantics.specs.Load.{call_loads, is_callable, fits_parameter, fit_parameters, refused_calls}
 use Rattle.code_meaning.specs.Lowered.{Lowered}
 use Rattle.code_meaning.specs.Slots.{ArgumentFits, ArgumentsFit}
 use Rattle.machine_threads.specs.declared.thread.PendingCall.{PendingCall}
 use Rattle.machine_threads.specs.ThreadAgrees.{CallAgrees, CallsAgree}
-use Rattle.machine_threads.proofs.Lists.{drop_next}
-use Rattle.world_schedules.proofs.WordLaws.{both_true}
 use Rattle.machine_threads.specs.Loading.{IsNumberOf, IsCallOf}
 
 -- ---- functions
@@ -71,8 +70,8 @@ arguments_fit made [] [] h k = tt
 arguments_fit made [] (v ∷ vs) h k = absurd (cc)
 arguments_fit made (p ∷ ps) [] h k = absurd (cc)
 arguments_fit made (p ∷ ps) (v ∷ vs) h k =
-    let a = both_true (fits_parameter p.type v) (fit_parameters ps vs) h in
-    let b = both_true (is_argument made v) (list_all (is_argument made) vs) k in
+    let a = and_parts (fits_parameter p.type v) (fit_parameters ps vs) h in
+    let b = and_parts (is_argument made v) (list_all (is_argument made) vs) k in
     (argument_fits made p.type v a.0 b.0, arguments_fit made ps vs a.1 b.1)
 
 -- as many arguments as parameters
@@ -80,7 +79,7 @@ arguments_count : (ps : List Parameter) (vs : List ObjectValue) → fit_paramete
 arguments_count [] [] h = refl
 arguments_count [] (v ∷ vs) h = absurd (cc)
 arguments_count (p ∷ ps) [] h = absurd (cc)
-arguments_count (p ∷ ps) (v ∷ vs) h = ap suc (arguments_count ps vs (both_true (fits_parameter p.type v) (fit_parameters ps vs) h).1)
+arguments_count (p ∷ ps) (v ∷ vs) h = ap suc (arguments_count ps vs (and_parts (fits_parameter p.type v) (fit_parameters ps vs) h).1)
 
 -- a function has at most 256 names, of which the parameters are some
 few_parameters : (f : Function) (more : List Identifier) → nat_le (length (parameter_names f ++ more)) 256 ≡ true → length f.parameters ≤ 256
@@ -94,7 +93,7 @@ few_parameters f more h =
 few_arguments : (unit : SourceUnit) (n : ℕ) (f : Function) (vs : List ObjectValue) → IsTree unit → slice_get (functions_of unit) n ≡ Some f → fit_parameters f.parameters vs ≡ true → length vs ≤ 256
 few_arguments unit n f vs tree at fits =
     let few = few_parameters f (names_declared (statements_of f.body))
-    (passes_at (λ (g : Function). nat_le (length (parameter_names g ++ names_declared (statements_of g.body))) 256) (functions_of unit) n f tree.few_names at) in
+    (all_at (λ (g : Function). nat_le (length (parameter_names g ++ names_declared (statements_of g.body))) 256) (functions_of unit) n f tree.few_names at) in
     let count = arguments_count f.parameters vs fits in
     omega (arith, few, count)
 

@@ -4,6 +4,7 @@ use Rattle.std.specs.Prelude.{slice_get}
 use Rattle.std.proofs.lemmas.List.{length-take-le}
 use Rattle.std.proofs.lemmas.List.Sums.{sum_by-cons}
 use Rattle.std.proofs.lemmas.Option.{slice_get_within}
+use Rattle.base.proofs.Lists.{take_next}
 use Rattle.heap.specs.Heap.{Space, end_of, left_of}
 use Rattle.semantics.specs.Heap.{Heap}
 use Rattle.semantics.specs.Object.{Object, size, sizes}
@@ -12,7 +13,6 @@ use Rattle.machine_scenes.proofs.Loaded.{made_end}
 use Rattle.world_values.proofs.LoadedWorlds.{few_objects, loaded_fit}
 use Rattle.world_values.specs.SoundWorlds.{IsSound}
 use Rattle.machine_scenes.specs.HeapAgrees.{AreMade}
-use Rattle.machine_threads.proofs.Lists.{take_next}
 
 size_within : (objects : Heap) (i : ℕ) (o : Object) → slice_get objects i ≡ Some o → sizes (take i objects) + size o ≤ sizes objects
 size_within [] i o h = absurd (cc)

@@ -11,21 +11,13 @@ use Rattle.machine_scenes.specs.declared.activation.Activation.{Activation}
 use Rattle.tables.specs.Elements.{OwnedNumbers}
 use Rattle.machine_threads.specs.Callers.{CallersAgree}
 
--- the first comes last
-pub reversed_next : {A : Type 0} (x : A) (xs : List A) → reverse (x ∷ xs) ≡ reverse xs ++ x ∷ []
-reversed_next x xs = reverse-append (x ∷ []) xs
-
--- and the last first
-pub reversed_last : {A : Type 0} (xs : List A) (x : A) → reverse (xs ++ x ∷ []) ≡ x ∷ reverse xs
-reversed_last xs x = reverse-append xs (x ∷ [])
-
 pub map_reversed : {A B : Type 0} (f : A → B) (xs : List A) → reverse (map f xs) ≡ map f (reverse xs)
 map_reversed f [] = refl
 map_reversed {A} {B} f (x ∷ xs) =
-    reversed_next (f x) (map f xs)
+    reverse-append (f x ∷ []) (map f xs)
     ∙ ap (λ (l : List B). l ++ f x ∷ []) (map_reversed f xs)
     ∙ sym (map-append f (reverse xs) (x ∷ []))
-    ∙ ap (map f) (sym (reversed_next x xs))
+    ∙ ap (map f) (sym (reverse-append (x ∷ []) xs))
 
 -- what holds of each holds of each then
 all_both : {A : Type 0} (P : A → Type 0) (xs ys : List A) → AllByRecursion P xs → AllByRecursion P ys → AllByRecursion P (xs ++ ys)
@@ -34,7 +26,7 @@ all_both P (x ∷ xs) ys h k = (h.0, all_both P xs ys h.1 k)
 
 pub all_reversed : {A : Type 0} (P : A → Type 0) (xs : List A) → AllByRecursion P xs → AllByRecursion P (reverse xs)
 all_reversed P [] h = tt
-all_reversed P (x ∷ xs) h = subst (AllByRecursion P) (sym (reversed_next x xs)) (all_both P (reverse xs) (x ∷ []) (all_reversed P xs h.1) (h.0, tt))
+all_reversed P (x ∷ xs) h = subst (AllByRecursion P) (sym (reverse-append (x ∷ []) xs)) (all_both P (reverse xs) (x ∷ []) (all_reversed P xs h.1) (h.0, tt))
 
 -- ---- callers
 

@@ -4,6 +4,7 @@ use Rattle.std.specs.Prelude.{slice_get, flat_map}
 use Rattle.std.specs.Global.{Vec}
 use Rattle.std.proofs.lemmas.List.Concat.{flat_map-cons}
 use Rattle.std.proofs.Math.ListN.{drop_of_length-le}
+use Rattle.base.proofs.Lists.{drop_next}
 use Rattle.syntax.specs.Tree.{SourceUnit}
 use Rattle.class_rules.specs.Class.{Classes}
 use Rattle.heap.specs.Heap.{Space}
@@ -19,7 +20,6 @@ use Rattle.machine_threads.specs.declared.fault.LoadFault.{LoadFault}
 use Rattle.machine_threads.specs.declared.fault.LoadFault.TheVariants.{DoesNotFit, Memory}
 use Rattle.machine_threads.specs.declared.thread.Thread.{Thread}
 use Rattle.machine_threads.specs.ThreadAgrees.{ThreadAgrees, ThreadsAgree}
-use Rattle.machine_threads.proofs.Lists.{drop_next}
 use Rattle.machine_threads.specs.Loading.{IsFirstOf}
 
 -- the calls of each thread in memory

@@ -7,6 +7,7 @@ use Rattle.syntax.specs.Tree.{StaticType, ResultType, ParameterType, Parameter, 
 use Rattle.syntax.specs.Parts.{functions_of, statics_of}
 use Rattle.parse_lexemes.specs.declared.fault.ParseError.{ParseError}
 use Rattle.scan.specs.declared.reserved.Word.TheVariants as words
+use Rattle.scan.proofs.Grammar.{chosen}
 use Rattle.parse_lexemes.specs.declared.first.Fixed.{Fixed}
 use Rattle.parse_lexemes.specs.declared.first.Fixed.TheVariants as fixed
 use Rattle.parse_lexemes.specs.Results.{◌>>=◌}
@@ -20,7 +21,7 @@ use Rattle.parse_statements.specs.Reading.{block_at}
 use Rattle.parse.specs.Reading.{parameter_at, parameters_at, head_at, body_at, signature_at, function_at, static_at, ReadItem, item_at, items_at}
 use Rattle.parse_statements.proofs.Forms.{names_in, IsBlock}
 use Rattle.parse.proofs.Forms.{IsFunction, AreItems}
-use Rattle.parse_lexemes.proofs.Singles.{Begins, bind_ok, ok_is, chosen, begins_append, first_takes, starts_takes, expect_takes, then_takes, name_takes, shortens}
+use Rattle.parse_lexemes.proofs.Singles.{Begins, bind_ok, ok_is, begins_append, first_takes, starts_takes, expect_takes, then_takes, name_takes, shortens}
 use Rattle.parse_lexemes.proofs.TypeWords.{static_type_takes, result_type_takes, parameter_type_takes}
 use Rattle.parse_statements.proofs.Nested.{block_takes}
 

@@ -3,7 +3,7 @@ use Rattle.std.proofs.Common.{◌≡◌, ℕ, ◌+◌, ◌-◌, ◌≤◌, Bool,
 use Rattle.std.specs.Prelude.{◌&&◌, nat_le, nat_lt, flat_map}
 use Rattle.std.specs.List.{list_all}
 use Rattle.std.specs.Option.{option_to_list}
-use Rattle.std.proofs.lemmas.Bool.{and_from, and_parts, leb-true, le-leb, ltb-true, lt-ltb}
+use Rattle.std.proofs.lemmas.Bool.{and_from, and_parts, false≢true, le-leb, leb-true, lt-ltb, ltb-true}
 use Rattle.std.proofs.lemmas.List.{length-append, length-map}
 use Rattle.std.proofs.lemmas.List.Folds.{list_all-append}
 use Rattle.scan.specs.declared.token.Mark.TheVariants as marks
@@ -26,9 +26,6 @@ use Rattle.parse.proofs.Ranges.{AreInRange, range_left, range_right, numbers_of}
 use Rattle.parse_expressions.proofs.JniCalls.{argument_tokens}
 use Rattle.parse_statements.proofs.Nested.{tested_tail}
 use Rattle.parse.proofs.Programs.{functions_in, statics_in}
-
-false_true : false ≡ true → ⊥
-false_true e = cc
 
 -- ---- expressions
 
@@ -414,9 +411,9 @@ to_follows (If line test b) rest h = let p = and_parts (well_formed (If line tes
 to_follows (IfElse line test b d) rest h = let p = and_parts (well_formed (IfElse line test b d)) (block_well_formed rest) h in (tt, p.1, p.0)
 to_follows (While line test b) rest h = let p = and_parts (well_formed (While line test b)) (block_well_formed rest) h in (tt, p.1, p.0)
 to_follows (Return line) (End last) h = (tt, refl, refl)
-to_follows (Return line) (Next s rest) h = absurd (false_true h)
+to_follows (Return line) (Next s rest) h = absurd (false≢true h)
 to_follows (ReturnValue line e) (End last) h = (tt, refl, refl)
-to_follows (ReturnValue line e) (Next s rest) h = absurd (false_true h)
+to_follows (ReturnValue line e) (Next s rest) h = absurd (false≢true h)
 
 -- the first of a list of statements
 first_part : (test : Stmt → Bool) (s : Stmt) (others : List Stmt) → list_all test (s ∷ others) ≡ true → (test s ≡ true) × (list_all test others ≡ true)

@@ -7,6 +7,7 @@ use Rattle.syntax.specs.Tree.{LogicalNot, Complement, ToWord, ToInt, Expr, Numbe
 use Rattle.syntax.specs.Limits.{height}
 use Rattle.parse_lexemes.specs.declared.fault.ParseError.{ParseError}
 use Rattle.scan.specs.declared.reserved.Word.TheVariants as words
+use Rattle.scan.proofs.Grammar.{chosen}
 use Rattle.parse_lexemes.specs.declared.first.Fixed.TheVariants as fixed
 use Rattle.parse_lexemes.specs.Results.{◌>>=◌}
 use Rattle.parse_lexemes.specs.Meaning.{Meaning, Fixed', Name', Number', Text'}
@@ -16,7 +17,7 @@ use Rattle.parse_expressions.specs.Spelling.{operator_mark, expression, argument
 use Rattle.parse_lexemes.specs.Reading.{starts_with, rest_of, text_of, text_at, number_at}
 use Rattle.parse_expressions.specs.Reading.{ReadExpr, expr_at, interface_at, value_at, argument_by, argument_at, arguments_at, call_at, starts_call, right_expr_at, right_at, test_at}
 use Rattle.parse_expressions.proofs.Forms.{IsExpr, IsArgument, AreArguments, IsRight, IsTest}
-use Rattle.parse_lexemes.proofs.Singles.{Begins, bind_ok, ok_is, chosen, begins_append, begins_split, begins_length, shortens, first_takes, first_rest, first_is, starts_takes, expect_takes, expect_again, then_takes, name_takes, name_again, zero_takes, number_again}
+use Rattle.parse_lexemes.proofs.Singles.{Begins, bind_ok, ok_is, begins_append, begins_split, begins_length, shortens, first_takes, first_rest, first_is, starts_takes, expect_takes, expect_again, then_takes, name_takes, name_again, zero_takes, number_again}
 use Rattle.parse_expressions.proofs.Table.{Closes, closes_mark}
 use Rattle.parse_expressions.proofs.Levels.{index_tokens, no_first, no_first_mark, no_call, expr_reads, expr_reads_again}
 

@@ -10,6 +10,7 @@ use Rattle.syntax.specs.Limits.{operator_level, prefix_level, height}
 use Rattle.parse_lexemes.specs.declared.fault.ParseError.{ParseError}
 use Rattle.scan.specs.declared.reserved.Word.{Word}
 use Rattle.scan.specs.declared.reserved.Word.TheVariants as words
+use Rattle.scan.proofs.Grammar.{chosen}
 use Rattle.parse_lexemes.specs.declared.first.Fixed.{Fixed}
 use Rattle.parse_lexemes.specs.declared.first.Fixed.TheVariants as fixed
 use Rattle.parse_lexemes.specs.Results.{◌>>=◌}
@@ -20,7 +21,7 @@ use Rattle.parse_expressions.specs.Spelling.{operator_mark, prefix_tokens, expre
 use Rattle.parse_expressions.specs.Reading.{Reader, ReadExpr, operator_at, climb, climb_step, under_prefix, in_parens, after_paren, index_by, index_at, starts_element, element_by, named_of, primary_of, primary_at, operand_by, expr_by, deeper, expr_at, starts_call}
 use Rattle.parse_lexemes.specs.Reading.{starts_with, rest_of, constant_of_word, starts_name}
 use Rattle.parse_expressions.proofs.Forms.{IsLevelled, IsExpr}
-use Rattle.parse_lexemes.proofs.Singles.{Begins, bind_ok, ok_is, chosen, begins_append, begins_split, first_takes, first_rest, first_is, starts_takes, expect_takes, expect_again, then_takes, name_takes, name_again, starts_name_again, first_no_name}
+use Rattle.parse_lexemes.proofs.Singles.{Begins, bind_ok, ok_is, begins_append, begins_split, first_takes, first_rest, first_is, starts_takes, expect_takes, expect_again, then_takes, name_takes, name_again, starts_name_again, first_no_name}
 use Rattle.parse_lexemes.proofs.TypeWords.{constant_again, constant_is}
 use Rattle.parse_expressions.proofs.Table.{operator_is, operator_again, operator_no_index, level_small, NoIndex, Closes, closes_mark}
 

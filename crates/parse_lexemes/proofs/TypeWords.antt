@@ -6,12 +6,13 @@ use Rattle.base.specs.Element.{ElementType, JInt, JShort, JByte, JChar}
 use Rattle.syntax.specs.Tree.{ReferenceType, JObject, JClass, JString, JArray, JThrowable, JIntArray, JShortArray, JByteArray, JCharArray, JObjectArray, Constant, True, False, Commit, Abort, Null, ResultType, Void, IntResult, ReferenceResult, ParameterType, IntParameter, ReferenceParameter, VariableType, UInt32, JIntVariable, JSize, JBoolean, JFieldId, JMethodId, ReferenceVariable, StaticType, ReferenceStatic, WeakStatic}
 use Rattle.scan.specs.declared.reserved.Word.{Word}
 use Rattle.scan.specs.declared.reserved.Word.TheVariants as words
+use Rattle.scan.proofs.Grammar.{chosen}
 use Rattle.parse_lexemes.specs.declared.first.Fixed.TheVariants as fixed
 use Rattle.parse_lexemes.specs.Meaning.{Meaning, Fixed', Name', Number', Text'}
 use Rattle.parse_lexemes.specs.Lexemes.{Lexed, same_word, line_at}
 use Rattle.parse_lexemes.specs.Spelling.{Spelled, OnLine, word, reference_word, constant_word, element_word, variable_word, static_word, result_word, parameter_word}
 use Rattle.parse_lexemes.specs.Reading.{rest_of, constant_of_word, word_in, word_at, reference_of_word, static_of_word, result_of_word, element_of_word, parameter_of_word, variable_of_word, static_type_at, result_type_at, element_type_at, parameter_type_at, variable_type_at}
-use Rattle.parse_lexemes.proofs.Singles.{Begins, chosen, word_is}
+use Rattle.parse_lexemes.proofs.Singles.{Begins, word_is}
 
 -- ---- constants
 

@@ -8,6 +8,7 @@ use Rattle.base.specs.Element.{ElementType, JInt, JShort, JByte, JChar}
 use Rattle.syntax.specs.Tree.{VariableType, JIntVariable, RightSide, Stmt, Declare, DeclareBuffer, DeclareChars, DeclareArray, Assign, AssignElement, Perform, PutJint, If, IfElse, While, Return, ReturnValue}
 use Rattle.parse_lexemes.specs.declared.fault.ParseError.{ParseError}
 use Rattle.scan.specs.declared.reserved.Word.TheVariants as words
+use Rattle.scan.proofs.Grammar.{chosen}
 use Rattle.parse_lexemes.specs.declared.first.Fixed.{Fixed}
 use Rattle.parse_lexemes.specs.declared.first.Fixed.TheVariants as fixed
 use Rattle.parse_lexemes.specs.Results.{◌>>=◌}
@@ -21,7 +22,7 @@ use Rattle.parse_expressions.specs.Reading.{setting_at}
 use Rattle.parse_statements.specs.Reading.{ReadPlain, zeros_at, array_at, is_array, after_element, after_variable, after_const, declared_by, declared_at, starts_declaration}
 use Rattle.parse_expressions.proofs.Forms.{IsRight}
 use Rattle.parse_statements.proofs.Forms.{IsSize, IsForm, names_of}
-use Rattle.parse_lexemes.proofs.Singles.{Begins, bind_ok, ok_is, chosen, begins_append, fixed_is, expect_takes, then_takes, name_takes, on_takes, starts_takes, first_takes, first_rest, first_is, on_line_is, expect_again, name_again, number_takes, zero_takes, number_again}
+use Rattle.parse_lexemes.proofs.Singles.{Begins, bind_ok, ok_is, begins_append, fixed_is, expect_takes, then_takes, name_takes, on_takes, starts_takes, first_takes, first_rest, first_is, on_line_is, expect_again, name_again, number_takes, zero_takes, number_again}
 use Rattle.parse_lexemes.proofs.TypeWords.{element_type_takes, variable_type_takes, element_in, variable_in, first_element, first_variable, element_word_in, variable_word_in}
 use Rattle.parse_statements.proofs.Sentences.{setting_tail, setting_takes, setting_again}
 

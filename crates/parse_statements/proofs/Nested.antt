@@ -10,6 +10,7 @@ use Rattle.syntax.specs.Parts.{statements_within, statements_of, declared_name, 
 use Rattle.parse_lexemes.specs.declared.fault.ParseError.{ParseError}
 use Rattle.scan.specs.declared.reserved.Word.{Word}
 use Rattle.scan.specs.declared.reserved.Word.TheVariants as words
+use Rattle.scan.proofs.Grammar.{chosen}
 use Rattle.parse_lexemes.specs.declared.first.Fixed.TheVariants as fixed
 use Rattle.parse_lexemes.specs.Results.{◌>>=◌}
 use Rattle.parse_lexemes.specs.Meaning.{Fixed'}
@@ -22,7 +23,7 @@ use Rattle.parse_expressions.specs.Reading.{ReadExpr, expr_at, test_at}
 use Rattle.parse_statements.specs.Reading.{plain_at, declared_at, starts_declaration, ReadStmt, simple_at, ReadBlock, BlockReader, else_by, if_test_at, if_by, while_test_at, while_by, statement_by, is_return, block_by, inner, statement_at, block_at}
 use Rattle.parse_statements.proofs.Forms.{IsForm, IsBlock, MayFollow, names_of, names_in}
 use Rattle.parse_expressions.proofs.Forms.{IsTest}
-use Rattle.parse_lexemes.proofs.Singles.{Begins, bind_ok, ok_is, chosen, begins_append, first_takes, starts_takes, expect_takes, then_takes, shortens, on_takes}
+use Rattle.parse_lexemes.proofs.Singles.{Begins, bind_ok, ok_is, begins_append, first_takes, starts_takes, expect_takes, then_takes, shortens, on_takes}
 use Rattle.parse_expressions.proofs.Levels.{expr_reads}
 use Rattle.parse_expressions.proofs.JniCalls.{test_takes}
 use Rattle.parse_statements.proofs.Sentences.{plain_takes}

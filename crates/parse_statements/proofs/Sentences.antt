@@ -5,6 +5,7 @@ use Rattle.base.specs.Bytes.{Identifier}
 use Rattle.syntax.specs.Tree.{Expr, Call, RightSide, Stmt, Declare, DeclareBuffer, DeclareChars, DeclareArray, Assign, AssignElement, Perform, PutJint, If, IfElse, While, Return, ReturnValue}
 use Rattle.parse_lexemes.specs.declared.fault.ParseError.{ParseError}
 use Rattle.scan.specs.declared.reserved.Word.TheVariants as words
+use Rattle.scan.proofs.Grammar.{chosen}
 use Rattle.parse_lexemes.specs.declared.first.Fixed.TheVariants as fixed
 use Rattle.parse_lexemes.specs.Results.{◌>>=◌}
 use Rattle.parse_lexemes.specs.Meaning.{Meaning, Fixed', Name'}
@@ -17,7 +18,7 @@ use Rattle.parse_expressions.specs.Reading.{ReadExpr, expr_at, index_at, starts_
 use Rattle.parse_statements.specs.Reading.{ReadPlain, put_at, return_at, perform_at, set_element_at, set_at, plain_at}
 use Rattle.parse_expressions.proofs.Forms.{IsExpr, AreArguments, IsRight}
 use Rattle.parse_statements.proofs.Forms.{IsIndex, IsForm, names_of}
-use Rattle.parse_lexemes.proofs.Singles.{Begins, bind_ok, ok_is, chosen, begins_append, begins_split, starts_takes, expect_takes, then_takes, name_takes, shortens, on_takes, on_first, off_first, on_is, on_line_is, first_is, first_rest, expect_again, name_again, starts_name_again}
+use Rattle.parse_lexemes.proofs.Singles.{Begins, bind_ok, ok_is, begins_append, begins_split, starts_takes, expect_takes, then_takes, name_takes, shortens, on_takes, on_first, off_first, on_is, on_line_is, first_is, first_rest, expect_again, name_again, starts_name_again}
 use Rattle.parse_expressions.proofs.Table.{closes_mark}
 use Rattle.parse_expressions.proofs.Levels.{index_tokens, index_more, index_split, index_reads, index_reads_again, expr_reads, expr_reads_again, no_first, no_first_mark}
 use Rattle.parse_expressions.proofs.JniCalls.{argument_tokens, call_takes, call_again, right_takes, right_again}

@@ -1,17 +1,14 @@
 -- The loop that follows what waits.
-use Rattle.std.proofs.Common.{◌≡◌, ℕ, ◌<◌, Bool, true, List, [], ◌∷◌, ◌++◌, length, Option, Some, refl, sym, ap, ◌∙◌, subst, arith, ⊎_elim, inl, inr, ◌⊎◌}
-use Rattle.std.specs.Prelude.{slice_get, Result, Ok, Err, OnOk, OnErr}
+use Rattle.std.proofs.Common.{◌≡◌, ℕ, Bool, true, List, [], ◌∷◌, ◌++◌, length, Option, Some, refl, sym, ◌∙◌, subst, ⊎_elim, inl, inr, ◌⊎◌}
+use Rattle.std.specs.Prelude.{Result, Ok, Err, OnOk, OnErr}
 use Rattle.std.specs.List.{Contains}
 use Rattle.std.proofs.lemmas.List.Elements.{Contains-push, Contains-append_left, Contains-push_cases}
-use Rattle.std.proofs.lemmas.Option.{slice_get-get_or, slice_get_within, get_or_from_slice_get}
+use Rattle.base.proofs.Lists.{none_in}
 use Rattle.reachability.specs.Reach.{IsReached, IsClosed}
 use Rattle.reachability.specs.Reach.IsReached.{Root, Referred}
 use Rattle.reachability.specs.Marks.{is_marked, Adds, IsFollowed, WaitsFor, AreReached}
 
 -- ---- what waits
-
-none_listed : (x : ℕ) → Contains [] x → ⊥
-none_listed x c = let within : c.0 < 0 = c.1 in absurd (omega arith)
 
 pub waits_added : (P : ℕ → Type 0) (ms : List Bool) (xs : List ℕ) (ns : List Bool) (ys : List ℕ) → WaitsFor ms xs → Adds P ms xs ns ys → WaitsFor ns ys
 waits_added P ms xs ns ys h g = record {
@@ -74,7 +71,7 @@ all_marked : (references : ℕ → List (Option ℕ)) (roots ms : List Bool) →
 all_marked references roots ms h p (Root x c) = h.from_roots x c
 all_marked references roots ms h p (Referred x q k r) =
     ⊎_elim
-    (λ (c : Contains [] x). absurd (none_listed x c))
+    (λ (c : Contains [] x). absurd (none_in x c))
     (λ (c : IsFollowed references ms x). c q r)
     (h.closed x (all_marked references roots ms h x k))
 
@@ -93,18 +90,6 @@ places_reached references IsRoot IsPlace closed roots p (Root x c) = roots x c
 places_reached references IsRoot IsPlace closed roots p (Referred x q k r) = closed x q (places_reached references IsRoot IsPlace closed roots x k) r
 
 -- ---- values by place
-
-pub contains-get : {X : Type 0} (xs : List X) (k : ℕ) (x : X) → slice_get xs k ≡ Some x → Contains xs x
-contains-get xs k x e = (k, slice_get_within xs k x e, get_or_from_slice_get xs k x x e)
-
-pub get-contains : {X : Type 0} (xs : List X) (x : X) (c : Contains xs x) → slice_get xs c.0 ≡ Some x
-get-contains {X = X} xs x c = slice_get-get_or xs c.0 x c.1 ∙ ap (λ (y : X). Some y) c.2
-
-pub one_target : (x y : ℕ) (xs : List (Option ℕ)) (k : ℕ) → slice_get xs k ≡ Some (Some x) → slice_get xs k ≡ Some (Some y) → x ≡ y
-one_target x y xs k e f = cc
-
-pub no_target : (x : ℕ) (o : Option ℕ) (xs : List (Option ℕ)) (k : ℕ) → slice_get xs k ≡ Some o → slice_get xs k ≡ Some (Some x) → o ≡ Some x
-no_target x o xs k e f = cc
 
 -- a root that is added waits, and where none is added all is as it was
 pub waits_after : {T E : Type 0} (r : Result T E) (P : ℕ → Type 0) (ms : List Bool) (xs : List ℕ) (ns : List Bool) (ys : List ℕ) → WaitsFor ms xs → OnOk r (Adds P ms xs ns ys) → OnErr r (ns ≡ ms) → OnErr r (ys ≡ xs) → WaitsFor ns ys

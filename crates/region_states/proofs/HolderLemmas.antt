@@ -22,9 +22,6 @@ use Rattle.region_states.specs.StatesInMemory.{variable_state, held_in, one_if, 
 
 -- ---- numbers by name
 
-spelled_alike : (x : Identifier) → bytes_eq x x ≡ true
-spelled_alike x = (bytes_decides x x).1 refl
-
 flipped : (a y : Identifier) → bytes_eq a y ≡ false → bytes_eq y a ≡ false
 flipped a y e = by (bytes_eq y a) refl
   where
@@ -34,11 +31,11 @@ flipped a y e = by (bytes_eq y a) refl
 
 module _ (a : Identifier) (n : ℕ) where
   own_number : (counts : ByName ℕ) → count_of (assign a n counts) a ≡ n
-  own_number [] = ap (λ b. unwrap_or (if b then Some n else None) 0) (spelled_alike a)
+  own_number [] = ap (λ b. unwrap_or (if b then Some n else None) 0) ((bytes_decides a a).1 refl)
   own_number ((y, m) ∷ counts) = by (bytes_eq a y) refl (own_number counts)
     where
       by : (b : Bool) → bytes_eq a y ≡ b → count_of (assign a n counts) a ≡ n → count_of (if b then (a, n) ∷ counts else (y, m) ∷ assign a n counts) a ≡ n
-      by true e more = ap (λ b. unwrap_or (if b then Some n else lookup a counts) 0) (spelled_alike a)
+      by true e more = ap (λ b. unwrap_or (if b then Some n else lookup a counts) 0) ((bytes_decides a a).1 refl)
       by false e more = ap (λ b. unwrap_or (if b then Some m else lookup a (assign a n counts)) 0) e ∙ more
 
   other_number : (x : Identifier) → bytes_eq x a ≡ false → (counts : ByName ℕ) → lookup x (assign a n counts) ≡ lookup x counts

@@ -2,6 +2,7 @@
 use Rattle.std.proofs.Common.{◌≡◌, Bool, true, false, ◌||◌, if◌then◌else◌, List, [], ◌∷◌, Option, Some, None, refl, ◌∙◌}
 use Rattle.std.specs.List.{list_any}
 use Rattle.std.specs.Str.{bytes_eq}
+use Rattle.std.proofs.lemmas.Bool.{or_parts}
 use Rattle.base.specs.Bytes.{Identifier, lookup}
 use Rattle.syntax.specs.Parts.{names_in, elements_in}
 use Rattle.syntax.specs.Tree.{Expr, Argument, Value, Text, AddressOf, RightSide, FromExpr, FromCall, Test, TestExpr, TestCall, Stmt, Declare, DeclareBuffer, DeclareChars, DeclareArray, Assign, AssignElement, Perform, PutJint, If, IfElse, While, Return, ReturnValue}
@@ -22,11 +23,6 @@ unknown condition.Free = refl
 unknown condition.Held = refl
 unknown condition.Critical = refl
 
--- both of two are no
-neither : (a b : Bool) → (a || b) ≡ false → (a ≡ false) × (b ≡ false)
-neither true b h = absurd (cc)
-neither false b h = (refl, h)
-
 -- what is asked of one of two
 one : (q : Condition) (b : Bool) (o r : Option VariableState) → condition_holds q o ≡ false → condition_holds q r ≡ false → condition_holds q (if b then o else r) ≡ false
 one q true o r h k = h
@@ -35,7 +31,7 @@ one q false o r h k = k
 found : (q : Condition) (x : Identifier) (vs : List NamedState) → list_any (λ (v : NamedState). condition_holds q (Some v.1)) vs ≡ false → condition_holds q (lookup x vs) ≡ false
 found q x [] h = unknown q
 found q x ((y, v) ∷ vs) h =
-    let both = neither (condition_holds q (Some v)) (list_any (λ (w : NamedState). condition_holds q (Some w.1)) vs) h in
+    let both = or_parts (condition_holds q (Some v)) (list_any (λ (w : NamedState). condition_holds q (Some w.1)) vs) h in
     one q (bytes_eq x y) (Some v) (lookup x vs) both.0 (found q x vs both.1)
 
 module _ (q : Condition) (state : RegionState) (none : any_asked q state ≡ false) where

@@ -1,5 +1,5 @@
 -- What the rules on types say of a unit's names: none that is in scope is declared again.
-use Rattle.std.proofs.Common.{◌≡◌, true, false, ◌||◌, List, [], ◌∷◌, ◌++◌, map, Option, Some, None, refl, sym, ap₂, ◌∙◌, bytes_eq}
+use Rattle.std.proofs.Common.{◌≡◌, true, false, ◌||◌, List, [], ◌∷◌, ◌++◌, map, Option, Some, None, refl, ap₂, ◌∙◌, bytes_eq}
 use Rattle.std.specs.Prelude.{filter_map, flat_map}
 use Rattle.std.specs.List.{AllByRecursion, IsDistinct, cons_option}
 use Rattle.std.proofs.lemmas.List.Folds.{list_any-append}
@@ -14,6 +14,7 @@ use Rattle.region_states.specs.NewNames.{own_names, AreNew, DeclaresNew, Declare
 use Rattle.region_rules.specs.RegionStates.{ReferenceAt, parameter_state, state_at_entry}
 use Rattle.region_states.specs.SameStates.{NamedState}
 use Rattle.region_states.specs.StatesInMemory.{names_of}
+use Rattle.type_rules.proofs.NameLists.{both_none}
 use Rattle.type_rules.proofs.PlaceLists.{AreUnbroken, first_empty, second_empty, front_unbroken, back_unbroken, first_false, second_false, not_twice}
 use Rattle.region_states.proofs.ScopeLemmas.{any_reverse}
 use Rattle.region_states.proofs.StateLemmas.{none_alike}
@@ -24,14 +25,9 @@ use Rattle.region_states.proofs.StateLemmas.{none_alike}
 abbrev Covers : List Identifier → List Identifier → Type 0
 Covers taken names = (x : Identifier) → has_name taken x ≡ false → has_name names x ≡ false
 
-parts_none : (xs ys : List Identifier) (x : Identifier) → has_name (xs ++ ys) x ≡ false → (has_name xs x ≡ false) × (has_name ys x ≡ false)
-parts_none xs ys x h =
-    let e : (has_name xs x || has_name ys x) ≡ false = sym (list_any-append (bytes_eq x) xs ys) ∙ h in
-    (first_false (has_name xs x) (has_name ys x) e, second_false (has_name xs x) (has_name ys x) e)
-
 covers_more : (taken names more own : List Identifier) → Covers taken names → Covers more own → Covers (taken ++ more) (names ++ own)
 covers_more taken names more own h k x none =
-    let both = parts_none taken more x none in
+    let both = both_none taken more x none in
     list_any-append (bytes_eq x) names own ∙ ap₂ (λ a b. a || b) (h x both.0) (k x both.1)
 
 own_new : (s : Stmt) (taken names : List Identifier) → Covers taken names → some_passes (has_name taken) (declared_name s) ≡ false → AreNew names (own_names s)
@@ -61,7 +57,7 @@ module _ (returns : ResultType) where
         let second = places_of returns known (taken ++ names_declared (statements_of then')) else' in
         let inner = second_empty (broken_at (own_place known taken (IfElse line test then' else'))) (flat_map broken_at (first ++ second)) h in (
           block_new then' known taken names covers (front_unbroken first second inner),
-          block_new else' known (taken ++ names_declared (statements_of then')) names (λ x none. covers x (parts_none taken (names_declared (statements_of then')) x none).0) (back_unbroken first second inner),
+          block_new else' known (taken ++ names_declared (statements_of then')) names (λ x none. covers x (both_none taken (names_declared (statements_of then')) x none).0) (back_unbroken first second inner),
         )
     stmt_new (While line test body) known taken names covers h =
         block_new body known taken names covers (second_empty (broken_at (own_place known taken (While line test body))) (flat_map broken_at (places_of returns known taken body)) h)

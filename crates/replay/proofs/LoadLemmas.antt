@@ -1,8 +1,9 @@
 -- The first call that doesn't fit, and the threads before their first calls.
-use Rattle.std.proofs.Common.{◌≡◌, ℕ, zero, suc, ◌+◌, ◌≤◌, length, Bool, true, false, cond, ◌&&◌, is_some, drop, take, List, [], ◌∷◌, ◌++◌, map, Option, Some, None, refl, sym, ap, ◌∙◌, append_assoc, subst, arith, IsTrue}
+use Rattle.std.proofs.Common.{◌≡◌, ℕ, suc, ◌+◌, ◌≤◌, length, Bool, true, false, cond, ◌&&◌, is_some, drop, List, [], ◌∷◌, ◌++◌, map, Option, Some, None, refl, sym, ap, ◌∙◌, append_assoc, subst, arith, IsTrue}
 use Rattle.std.specs.Prelude.{slice_get, not, filter, if◌then◌else◌}
 use Rattle.std.specs.List.{flat_map, list_all}
 use Rattle.std.specs.Global.{Vec}
+use Rattle.base.proofs.Lists.{drop_next}
 use Rattle.syntax.specs.Tree.{SourceUnit}
 use Rattle.class_rules.specs.Class.{Classes}
 use Rattle.semantics.specs.World.{Invocation, World}
@@ -22,18 +23,6 @@ abbrev pub calls_of : List (Vec Invocation) → List (List Invocation)
 calls_of threads = map (λ (t : Vec Invocation). t.items) threads
 
 -- ---- lists
-
--- the elements from a place on
-pub drop_more : {A : Type 0} (xs : List A) (i : ℕ) (x : A) → slice_get xs i ≡ Some x → drop i xs ≡ x ∷ drop (i + 1) xs
-drop_more [] i x h = absurd (cc)
-drop_more {A} (y ∷ xs) zero x h = let same : y ≡ x = cc in ap (λ (z : A). z ∷ xs) same
-drop_more (y ∷ xs) (suc i) x h = let e : suc i + 1 ≡ suc (i + 1) = omega arith in rw e (drop_more xs i x h)
-
--- one element more
-pub take_more : {A : Type 0} (xs : List A) (i : ℕ) (x : A) → slice_get xs i ≡ Some x → take (i + 1) xs ≡ take i xs ++ x ∷ []
-take_more [] i x h = absurd (cc)
-take_more {A} (y ∷ xs) zero x h = let same : y ≡ x = cc in ap (λ (z : A). z ∷ []) same
-take_more {A} (y ∷ xs) (suc i) x h = let e : suc i + 1 ≡ suc (i + 1) = omega arith in rw e (ap (λ (l : List A). y ∷ l) (take_more xs i x h))
 
 none_of_both : {A : Type 0} (xs ys : List A) → xs ++ ys ≡ [] → (xs ≡ []) × (ys ≡ [])
 none_of_both [] ys e = (refl, e)
@@ -80,7 +69,7 @@ module _ (unit : SourceUnit) (classes : Classes) where
 
   module _ (items : List (Vec Invocation)) (i : ℕ) (v : Vec Invocation) (line : Option ℕ) (at : slice_get items i ≡ Some v) (is : line ≡ first_line (refused_calls unit classes v.items)) (so_far : refused (calls_of items) ≡ refused (calls_of (drop i items))) where
     after : refused (calls_of (drop i items)) ≡ refused_calls unit classes v.items ++ refused (calls_of (drop (i + 1) items))
-    after = ap (λ (vs : List (Vec Invocation)). refused (calls_of vs)) (drop_more items i v at)
+    after = ap (λ (vs : List (Vec Invocation)). refused (calls_of vs)) (drop_next items i v at)
 
     -- the first refused call is in this thread
     pub line_here : is_some line ≡ true → line ≡ first_line (refused (calls_of items))
@@ -126,7 +115,7 @@ pub more_waiting : (items : List (Vec Invocation)) (i : ℕ) (v : Vec Invocation
 more_waiting items i v old new at adds before rest h =
     subst (λ (ts : List ThreadInMemory). AreWaiting (ts ++ rest) (calls_of items)) (sym adds.added)
     (subst (λ (ts : List ThreadInMemory). AreWaiting ts (calls_of items)) (sym (append_assoc old (adds.thread ∷ []) rest))
-    (before (adds.thread ∷ rest) (subst (λ (vs : List (Vec Invocation)). AreWaiting (adds.thread ∷ rest) (calls_of vs)) (sym (drop_more items i v at)) (adds.waiting, h))))
+    (before (adds.thread ∷ rest) (subst (λ (vs : List (Vec Invocation)). AreWaiting (adds.thread ∷ rest) (calls_of vs)) (sym (drop_next items i v at)) (adds.waiting, h))))
 
 -- no call is in progress
 each_waiting : (ts : List ThreadInMemory) (threads : List (List Invocation)) → AreWaiting ts threads → EachInRange ts

@@ -3,6 +3,7 @@ use Rattle.std.proofs.Common.{Contains, ◌≡◌, ℕ, ◌+◌, ◌<◌, ◌≤
 use Rattle.std.specs.Prelude.{slice_get, is_some, Result, Ok, Err, IfOk, IfErr, OnOk}
 use Rattle.std.specs.Option.{option_and_then, option_map}
 use Rattle.std.proofs.lemmas.List.{take-append-drop, length-take-le, take_all}
+use Rattle.base.proofs.Lists.{drop_next, take_next}
 use Rattle.syntax.specs.Tree.{SourceUnit}
 use Rattle.semantics.specs.Journal.{Entry, Journal}
 use Rattle.semantics.specs.JournalText.{journal_line}
@@ -36,7 +37,6 @@ use Rattle.report.specs.ThreadStatus.{standing_view}
 use Rattle.replay_arguments.specs.Shares.{shared_view}
 use Rattle.replay_threads.specs.Rows.{root_names}
 use Rattle.replay.specs.Replays.{Answers, IsFirstImpossible, Replayed, IsRefused, IsLoadFault, IsStoppedBy, IsReplayable, IsFromOutside, EndsBy, ShowsRows, WritesRun, shown_stop}
-use Rattle.replay.proofs.LoadLemmas.{drop_more, take_more}
 use Rattle.replay_threads.proofs.RootLemmas.{among_roots, root_among}
 use Rattle.replay_threads.proofs.StateLemmas.{report_same}
 
@@ -49,7 +49,7 @@ module _ (unit : SourceUnit) (w : World) (journal : Journal) (i : ℕ) (e : Entr
       done = take i journal;
       entry = e;
       rest = drop (i + 1) journal;
-      whole = sym (take-append-drop i journal) ∙ ap (λ (l : Journal). take i journal ++ l) (drop_more journal i e at);
+      whole = sym (take-append-drop i journal) ∙ ap (λ (l : Journal). take i journal ++ l) (drop_next journal i e at);
       number = omega (arith, length-take-le i journal (omega arith));
       before = h.end;
       replays = h.replays;
@@ -64,7 +64,7 @@ module _ (unit : SourceUnit) (w : World) (journal : Journal) (i : ℕ) (e : Entr
       record {
         fits = h.fits;
         end = next.0;
-        replays = ap (replay unit w) (take_more journal i e at) ∙ replay_more unit w (take i journal) e h.end next.0 h.replays next.1;
+        replays = ap (replay unit w) (take_next journal i e at) ∙ replay_more unit w (take i journal) e h.end next.0 h.replays next.1;
         stands = next.2;
         range = range;
       }

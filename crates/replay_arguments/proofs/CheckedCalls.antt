@@ -2,6 +2,7 @@
 use Rattle.std.proofs.Common.{◌≡◌, Bool, true, false, not, List, [], ◌∷◌, ◌++◌, length, Option, Some, None, refl, sym, ap, ◌∙◌}
 use Rattle.std.specs.Prelude.{◌&&◌, ◌||◌, drop, if◌then◌else◌, is_some, map, slice_get, zip}
 use Rattle.std.specs.List.{list_any}
+use Rattle.std.proofs.lemmas.Bool.{and_right}
 use Rattle.std.proofs.lemmas.List.{length-map}
 use Rattle.base.specs.Element.{ElementType}
 use Rattle.class_rules.specs.Class.{Classes}
@@ -67,10 +68,6 @@ module _ (heap : Heap) where
       ∙ any_seen fails (parameters_for f (length args)) args
       ∙ ap (λ n. list_any fails (zip (parameters_for f n) (map (λ (a : Actual). argument_seen heap (Some a)) args))) (sym (length-map args (λ (a : Actual). argument_seen heap (Some a))))
 
-never_misfits : (b : Bool) → (b && false) ≡ false
-never_misfits true = refl
-never_misfits false = refl
-
 module _ (classes : Classes) (s : Shared) (vs : Variables) (frames : List Frame) (pending : Reference) (element : ElementType) (f : JniFunction) (args : List Actual) where
   -- what the call sees
   abbrev sight : CallSight
@@ -104,7 +101,7 @@ module _ (classes : Classes) (s : Shared) (vs : Variables) (frames : List Frame)
       all_same (is_some pending && not (is_allowed_pending f)) (calls_method f)
       (deleted s.heap args)
       (all_seen s.heap misses (λ a. refl) f args)
-      (ap (λ b. b || not (go_together classes sight element f)) (all_seen s.heap (misfits classes) (λ a. never_misfits (is_some (argument_seen s.heap (Some a)).reference)) f args))
+      (ap (λ b. b || not (go_together classes sight element f)) (all_seen s.heap (misfits classes) (λ a. and_right (is_some (argument_seen s.heap (Some a)).reference) false refl) f args))
       (room_is f (prototype f).result)
 
   -- so it is what the call's own checks find

@@ -1,17 +1,15 @@
 -- What the table gives of each answer: regions that are there, and calls of methods by functions that call one.
-use Rattle.std.proofs.Common.{◌≡◌, ℕ, ℤ, ◌+◌, ◌≤◌, Bool, true, false, List, length, Option, Some, refl, sym, subst, arith}
+use Rattle.std.proofs.Common.{◌≡◌, ℕ, ℤ, ◌+◌, ◌≤◌, Bool, true, false, List, length, refl, sym, subst}
 use Rattle.std.proofs.lemmas.Bool.{le-leb}
-use Rattle.base.specs.Bytes.{Identifier, lookup}
 use Rattle.base.specs.Element.{ElementType}
 use Rattle.syntax.specs.Tree.{SourceUnit}
 use Rattle.class_rules.specs.Class.{Classes}
 use Rattle.jni.specs.JniFunction.{JniFunction, calls_method}
-use Rattle.jni.specs.Prototype.{ParameterKind, ArrayVariable, ResultKind}
+use Rattle.jni.specs.Prototype.{ResultKind}
 use Rattle.semantics.specs.Answer.{Answer, Calls, Region}
 use Rattle.semantics.specs.AnswerTable.{call_answer}
-use Rattle.semantics.specs.CallSight.{CallSight, call_seen, elements_seen}
+use Rattle.semantics.specs.CallSight.{CallSight, call_seen}
 use Rattle.semantics.specs.Arguments.{Actual, variable_given}
-use Rattle.semantics.specs.CallEffects.{local_array}
 use Rattle.semantics.specs.Heap.{values_of}
 use Rattle.semantics.specs.Method.{MethodId}
 use Rattle.semantics.specs.Object.{Reference}
@@ -19,12 +17,8 @@ use Rattle.semantics.specs.Thread.{Frame, Shared}
 use Rattle.semantics.specs.Variable.{Variables}
 use Rattle.semantics.proofs.AnswerFacts.{IsRegion}
 use Rattle.semantics.proofs.AnswerKinds.{AnswersAs, CallKind, Calling, CallsNone, Filling, SettingRegion, answers_as, calls_none}
+use Rattle.semantics.proofs.CheckLaws.{few_there}
 use Rattle.replay_calls.specs.Answers.{FitsCall, HasRoom, IsInside, array_given}
-
--- where no array is asked for, none of its elements are seen
-few_there : (vs : Variables) (p : Option ParameterKind) (x : Identifier) (n : ℕ) → n ≤ elements_seen vs p x → n ≤ length (local_array (lookup x vs))
-few_there vs (Some (ArrayVariable T)) x n h = h
-few_there vs p x n h = omega (arith, h)
 
 module _ (unit : SourceUnit) (classes : Classes) (k : ℕ) (s : Shared) (vs : Variables) (frames : List Frame) (callers : ℕ) (pending : Reference) (args : List Actual) where
   -- the local array of the call

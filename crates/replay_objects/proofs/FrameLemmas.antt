@@ -5,18 +5,13 @@ use Rattle.std.proofs.lemmas.List.{map-append, length-reverse, reverse-append}
 use Rattle.std.proofs.lemmas.Option.{slice_get-get_or, slice_get-map}
 use Rattle.std.proofs.lemmas.List.Sums.{sum_by-cons}
 use Rattle.std.proofs.lemmas.Grind.{flat_map-append}
+use Rattle.base.proofs.Lists.{drop_next, get_left, get_map, take_next}
 use Rattle.semantics.specs.CallEffects.{deleted_in, with_capacity, with_local, without_local, without_one}
 use Rattle.semantics.specs.Thread.{Frame, capacities}
 use Rattle.semantics.specs.Views.{name_of, names_of}
 use Rattle.semantics.specs.declared.object_id.ObjectId.{ObjectId}
 use Rattle.replay_objects.specs.declared.frame.Frame.{Frame as InMemory}
 use Rattle.replay_objects.specs.Frames.{frame_view, frames_view, references_in, without_in}
-use Rattle.replay_objects.proofs.Lists.{take_next}
-
-drop_next : {A : Type 0} (xs : List A) (i : ℕ) (x : A) → slice_get xs i ≡ Some x → drop i xs ≡ x ∷ drop (i + 1) xs
-drop_next [] i x h = absurd (cc)
-drop_next {A} (y ∷ xs) zero x h = let same : y ≡ x = cc in ap (λ (z : A). z ∷ xs) same
-drop_next (y ∷ xs) (suc i) x h = let e : suc i + 1 ≡ suc (i + 1) = omega arith in rw e (drop_next xs i x h)
 
 -- an element more at the end is one more at the beginning
 last_first : {A : Type 0} (xs : List A) (p : ℕ) (x : A) → slice_get xs p ≡ Some x → reverse (take (p + 1) xs) ≡ x ∷ reverse (take p xs)
@@ -94,11 +89,6 @@ set_before [] ys j v low = absurd (omega (arith, low))
 set_before (x ∷ xs) ys zero v low = refl
 set_before {A} (x ∷ xs) ys (suc j) v low = ap (λ (l : List A). x ∷ l) (set_before xs ys j v (omega (arith, low)))
 
-get_before : {A : Type 0} (xs ys : List A) (j : ℕ) → j < length xs → slice_get (xs ++ ys) j ≡ slice_get xs j
-get_before [] ys j low = absurd (omega (arith, low))
-get_before (x ∷ xs) ys zero low = refl
-get_before (x ∷ xs) ys (suc j) low = get_before xs ys j (omega (arith, low))
-
 set_reversed : {A : Type 0} (xs : List A) (p j : ℕ) (v : A) → length xs ≡ p + 1 + j → slice_set (reverse xs) j v ≡ reverse (slice_set xs p v)
 set_reversed [] p j v counted = absurd (omega (arith, counted))
 set_reversed {A} (x ∷ xs) zero j v counted =
@@ -122,18 +112,13 @@ get_reversed {A} (x ∷ xs) zero j counted =
     ∙ get_last (reverse xs) x
 get_reversed {A} (x ∷ xs) (suc p) j counted =
     ap (λ (l : List A). slice_get l j) (reverse-append (x ∷ []) xs)
-    ∙ get_before (reverse xs) (x ∷ []) j (omega (arith, counted, length-reverse xs))
+    ∙ get_left (reverse xs) (x ∷ []) j (omega (arith, counted, length-reverse xs))
     ∙ get_reversed xs p j (omega (arith, counted))
 
 map_set : {A B : Type 0} (f : A → B) (xs : List A) (p : ℕ) (v : A) → map f (slice_set xs p v) ≡ slice_set (map f xs) p (f v)
 map_set f [] p v = refl
 map_set f (x ∷ xs) zero v = refl
 map_set {A} {B} f (x ∷ xs) (suc p) v = ap (λ (l : List B). f x ∷ l) (map_set f xs p v)
-
-map_get : {A B : Type 0} (f : A → B) (xs : List A) (p : ℕ) (x : A) → slice_get xs p ≡ Some x → slice_get (map f xs) p ≡ Some (f x)
-map_get f [] p x at = absurd (cc)
-map_get f (y ∷ xs) zero x at = let same : y ≡ x = cc in ap (λ z. Some (f z)) same
-map_get f (y ∷ xs) (suc p) x at = map_get f xs p x at
 
 map_length : {A B : Type 0} (f : A → B) (xs : List A) → length (map f xs) ≡ length xs
 map_length f [] = refl
@@ -173,7 +158,7 @@ module _ (xs : List InMemory) where
 
   -- the frame at a place, counted from the lowest, and so at its place from the current one
   pub frame_at : (p j : ℕ) (x : InMemory) → length xs ≡ p + 1 + j → slice_get xs p ≡ Some x → slice_get (frames_view xs) j ≡ Some (frame_view x)
-  frame_at p j x counted at = get_reversed (map frame_view xs) p j (map_length frame_view xs ∙ counted) ∙ map_get frame_view xs p x at
+  frame_at p j x counted at = get_reversed (map frame_view xs) p j (map_length frame_view xs ∙ counted) ∙ get_map frame_view xs p x at
 
   -- another frame there
   pub frame_set : (p j : ℕ) (y : InMemory) → length xs ≡ p + 1 + j → frames_view (slice_set xs p y) ≡ slice_set (frames_view xs) j (frame_view y)

@@ -5,6 +5,7 @@ use Rattle.std.specs.Borrow.{Bor}
 use Rattle.std.specs.Global.{Vec}
 use Rattle.syntax.specs.declared.call.Argument.{Argument}
 use Rattle.base.specs.Bytes.{Identifier}
+use Rattle.base.proofs.Lists.{set_same}
 use Rattle.std.proofs.lemmas.Bool.Decides.{nat_tests}
 use Rattle.class_rules.specs.Class.{Classes}
 use Rattle.jni.specs.Table.{function_value}
@@ -75,12 +76,6 @@ is_open (term.Prefix op t) none = record { unready = λ number. refl; reduces = 
 is_open (term.And' p s q t) none = record { unready = λ number. refl; reduces = λ rest step further. refl }
 is_open (term.Or' p s q t) none = record { unready = λ number. refl; reduces = λ rest step further. refl }
 is_open (term.Binary op s t) none = record { unready = λ number. refl; reduces = λ rest step further. refl }
-
--- an element in its own place
-set_same : {A : Type 0} (xs : List A) (n : ℕ) (x : A) → slice_get xs n ≡ Some x → slice_set xs n x ≡ xs
-set_same [] n x at = refl
-set_same (y ∷ xs) zero x at = let same : y ≡ x = cc in ap (λ z. z ∷ xs) (sym same)
-set_same (y ∷ xs) (suc n) x at = ap (λ zs. y ∷ zs) (set_same xs n x at)
 
 -- arguments that are looked up
 abbrev given : List Argument → List source.Operand

@@ -8,6 +8,7 @@ use Rattle.base.specs.Bytes.{Identifier, lookup}
 use Rattle.semantics.specs.CallEffects.{begun_with, freed}
 use Rattle.semantics.specs.Value.{convert}
 use Rattle.semantics.specs.Variable.{Variable, Scalar, LocalRef, FieldHandle, MethodHandle, Elements, LocalArray, NoBuffer, Copy, View, Variables, assign, change, copied_length, viewed}
+use Rattle.semantics.proofs.BegunArrays.{begun_length}
 use Rattle.replay_terms.specs.declared.buffers.BuffersInUse.{BuffersInUse}
 use Rattle.replay_terms.specs.declared.variable.Content.{Content}
 use Rattle.replay_terms.specs.declared.variable.Written.{Written}
@@ -59,14 +60,6 @@ module _ (g : Variable → ℕ) where
   as_before x v w vs there same = omega (arith, assigned_total x v vs, ap (had g) there, same)
 
 -- ---- what changes leave
-
-pub begun_copied : (zs : List ℤ) (w : Variable) → copied_length (begun_with zs w) ≡ copied_length w
-begun_copied zs (Scalar v) = refl
-begun_copied zs (LocalRef l r) = refl
-begun_copied zs (FieldHandle f) = refl
-begun_copied zs (MethodHandle m) = refl
-begun_copied zs (Elements T b) = refl
-begun_copied zs (LocalArray T ys) = refl
 
 pub begun_viewed : (zs : List ℤ) (w : Variable) → count_viewed (begun_with zs w) ≡ count_viewed w
 begun_viewed zs (Scalar v) = refl
@@ -138,7 +131,7 @@ module _ (old new : Contents) (u : BuffersInUse) (takes : Takes old u) where
   -- a local array is begun
   pub takes_begun : (x : Identifier) (zs : List ℤ) → variables_view new ≡ change x (begun_with zs) before → Takes new u
   takes_begun x zs is =
-      takes_same (ap (total copied_length) is ∙ changed_total copied_length (begun_with zs) (begun_copied zs) x before)
+      takes_same (ap (total copied_length) is ∙ changed_total copied_length (begun_with zs) (begun_length zs) x before)
       (ap (total count_viewed) is ∙ changed_total count_viewed (begun_with zs) (begun_viewed zs) x before)
 
   -- an element is written

@@ -1,10 +1,11 @@
 -- Values by name that lie in a hash map: a value is looked up and assigned at the place of its name.
-use Rattle.std.proofs.Common.{◌≡◌, ◌<◌, ℕ, zero, suc, Bool, true, false, cond, List, [], ◌∷◌, map, position, Option, Some, None, Result, Ok, Err, OnOk, is_some, is_err, refl, sym, ap, ◌∙◌, Bor, slice_get, ◌+◌, not, length, nat_lt, lt-ltb, arith}
+use Rattle.std.proofs.Common.{◌≡◌, ◌<◌, ℕ, zero, suc, Bool, true, false, cond, List, [], ◌∷◌, map, position, Option, Some, None, is_some, refl, sym, ap, ◌∙◌, Bor, slice_get, ◌+◌, not, length, nat_lt, lt-ltb, arith}
 use Rattle.std.specs.Option.{option_map, option_copied}
 use Rattle.std.specs.Str.{bytes_eq}
 use Rattle.std.specs.Map as maps
 use Rattle.std.proofs.lemmas.Slice.Eq.{bytes_eq-Decides}
 use Rattle.base.specs.Bytes.{Identifier, ByName, lookup}
+use Rattle.base.proofs.Options.{none_there}
 use Rattle.indexmap.specs.IndexMap.{insert_entry, set_value_at}
 use Rattle.indexmap.proofs.MapLemmas.{Found-position, insert_entry-first}
 use Rattle.std.specs.List.{position_or_len}
@@ -14,11 +15,6 @@ use Rattle.replay_terms.specs.Views.{by_name}
 -- keys are equal where their names are
 abbrev pub same_key : Bor Identifier → Bor Identifier → Bool
 same_key k l = bytes_eq k.now l.now
-
--- what holds of an answer that is no error
-pub on_ok : {X Y : Type 0} (r : Result X Y) (P : Type 0) → OnOk r P → is_err r ≡ false → P
-on_ok (Ok x) P p h = p
-on_ok (Err y) P p h = absurd (cc)
 
 -- an entry has another name
 abbrev pub IsOther : {V : Type 0} → Identifier → List (Bor Identifier × V) → ℕ → Type 0
@@ -48,10 +44,6 @@ module _ {V : Type 0} (x : Identifier) where
       ap (λ n. cond (nat_lt n (length (maps.keys_of es))) (Some n) None) (first_so es i e at same others)
       ∙ ap (λ (b : Bool). cond b (Some i) None) (lt-ltb i _ (keys_within es i e at))
 
-nothing : {V : Type 0} (o : Option V) → is_some o ≡ false → o ≡ None
-nothing None none = refl
-nothing (Some v) none = absurd (cc)
-
 module _ {V A : Type 0} (value_of : V → A) where
   abbrev pub values : List (Bor Identifier × V) → ByName A
   values es = map (λ (v : Identifier × V). (v.0, value_of v.1)) (by_name es)
@@ -72,7 +64,7 @@ module _ {V A : Type 0} (value_of : V → A) where
 
   -- a name that is no key has no value
   pub missing : (x : Identifier) (es : List (Bor Identifier × V)) → is_some (maps.lookup (λ k. bytes_eq x k.now) es) ≡ false → lookup x (values es) ≡ None
-  missing x es none = sym (looked_up x es) ∙ ap (option_map value_of) (nothing (maps.lookup (λ k. bytes_eq x k.now) es) none)
+  missing x es none = sym (looked_up x es) ∙ ap (option_map value_of) (none_there (maps.lookup (λ k. bytes_eq x k.now) es) none)
 
   -- what is inserted is assigned
   pub inserted : (k : Bor Identifier) (v : V) (es : List (Bor Identifier × V)) → values (insert_entry same_key es k v) ≡ assign k.now (value_of v) (values es)

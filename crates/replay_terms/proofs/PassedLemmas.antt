@@ -1,8 +1,9 @@
 -- The arguments of a call with their parameters: what a method is given comes after the function's own.
 use Rattle.std.proofs.Common.{◌≡◌, ◌-◌, Bool, true, false, List, [], ◌∷◌, ◌++◌, length, map, drop, refl, sym, ap, ◌∙◌, append-nil, arith}
 use Rattle.std.specs.Prelude.{if◌then◌else◌, replicate, zip}
-use Rattle.jni.specs.JniFunction.{JniFunction, CallStaticVoidMethod, CallStaticIntMethod, CallStaticObjectMethod, calls_method, parameters_for, prototype}
+use Rattle.jni.specs.JniFunction.{JniFunction, calls_method, parameters_for, prototype}
 use Rattle.jni.specs.Prototype.{ParameterKind, Passed}
+use Rattle.jni.proofs.MethodCalls.{own_are_two}
 
 -- an argument that a method is given
 abbrev pub as_passed : {A : Type 0} → A → ParameterKind × A
@@ -24,13 +25,6 @@ passed_after {A = A} (p ∷ own) (a ∷ args) =
     ap (λ n. (p, a) ∷ zip (own ++ replicate n Passed) args) fewer
     ∙ ap (λ (l : List (ParameterKind × A)). (p, a) ∷ l) (passed_after own args)
 
--- a function that calls a method has two parameters of its own
-has_two : (f : JniFunction) → calls_method f ≡ true → length (prototype f).parameters ≡ 2
-has_two CallStaticVoidMethod calls = refl
-has_two CallStaticIntMethod calls = refl
-has_two CallStaticObjectMethod calls = refl
-has_two f calls = absurd (cc)
-
 -- either way
 parted : {A : Type 0} (own : List ParameterKind) (args : List A) (b : Bool) → (b ≡ true → length own ≡ 2)
     → zip (own ++ (if b then replicate (length args - length own) Passed else [])) args ≡ zip own args ++ (if b then map as_passed (drop 2 args) else [])
@@ -39,4 +33,4 @@ parted {A = A} own args false two = ap (λ (ps : List ParameterKind). zip ps arg
 
 -- a function's own arguments, and then what a method is given
 pub arguments_parted : {A : Type 0} (f : JniFunction) (args : List A) → zip (parameters_for f (length args)) args ≡ zip (prototype f).parameters args ++ (if calls_method f then map as_passed (drop 2 args) else [])
-arguments_parted {A = A} f args = parted (prototype f).parameters args (calls_method f) (has_two f)
+arguments_parted {A = A} f args = parted (prototype f).parameters args (calls_method f) (own_are_two f)

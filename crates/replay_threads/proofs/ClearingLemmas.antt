@@ -3,6 +3,7 @@ use Rattle.std.proofs.Common.{◌≡◌, ℕ, Bool, true, false, cond, List, ◌
 use Rattle.std.specs.Prelude.{not, ◌&&◌, filter}
 use Rattle.std.specs.List.{list_all, list_any}
 use Rattle.std.specs.Option.{option_map}
+use Rattle.base.proofs.Truths.{same_truth}
 use Rattle.syntax.specs.Tree.{SourceUnit}
 use Rattle.reachability.specs.Marks.{is_marked}
 use Rattle.report_objects.specs.Names.{MarksReached}
@@ -21,13 +22,6 @@ use Rattle.replay_threads.specs.declared.state.State.{State as StateInMemory}
 use Rattle.replay_threads.specs.Rows.{root_names}
 use Rattle.replay_threads.specs.States.{Leads, Stands}
 use Rattle.replay_threads.proofs.RootLemmas.{roots_are}
-
--- two tests that pass together are the same
-same_truth : (a b : Bool) → (a ≡ true → b ≡ true) → (b ≡ true → a ≡ true) → a ≡ b
-same_truth true true there back = refl
-same_truth true false there back = sym (there refl)
-same_truth false true there back = back refl
-same_truth false false there back = refl
 
 -- marks tell what is reached
 marked_is : (heap : Heap) (from : List ℕ) (marks : List Bool) → MarksReached heap from marks → (n : ℕ) → is_marked marks n ≡ is_in (reached heap from) n

@@ -1,8 +1,8 @@
 -- What an entry does to the state that a state in memory stands for.
 use Rattle.std.proofs.Common.{◌≡◌, ℕ, zero, suc, ◌+◌, ◌-◌, ◌<◌, ◌≤◌, Bool, true, false, cond, List, [], ◌∷◌, ◌++◌, length, get_or, map, take, Option, Some, None, refl, sym, ap, ◌∙◌, subst, arith}
 use Rattle.std.specs.Prelude.{Vec as RawVec, slice_get, slice_set, vec_len, sum_by, flat_map, ◌&&◌, ◌==◌, not, is_none}
-use Rattle.std.proofs.lemmas.Bool.{eqb-true}
-use Rattle.std.proofs.lemmas.List.{length-set}
+use Rattle.std.proofs.lemmas.Bool.{and_right, eqb-true}
+use Rattle.std.proofs.lemmas.List.{length-set, nil_from_length}
 use Rattle.std.proofs.lemmas.List.Concat.{flat_map-cons}
 use Rattle.std.proofs.lemmas.List.Sums.{sum_by-cons}
 use Rattle.std.proofs.lemmas.List.{length-map, take_all}
@@ -46,13 +46,9 @@ use Rattle.replay_threads.proofs.StandingLemmas.{numbered_at, taken_more}
 
 -- ---- where nobody owns a monitor
 
-and_false : (b : Bool) → (b && false) ≡ false
-and_false true = refl
-and_false false = refl
-
 -- no call waits
 call_goes : (classes : Classes) (k : ℕ) (shared : Shared) (t : Thread) (e : Effect) → waits_with classes k (record shared { monitors = [] }) t e ≡ false
-call_goes classes k shared t (Calls line target MonitorEnter args) = and_false (is_none (trap_of_call classes (record shared { monitors = [] }) t target MonitorEnter args))
+call_goes classes k shared t (Calls line target MonitorEnter args) = and_right (is_none (trap_of_call classes (record shared { monitors = [] }) t target MonitorEnter args)) false refl
 call_goes classes k shared t e = refl
 
 -- and no thread
@@ -61,10 +57,6 @@ thread_goes classes k shared None none = refl
 thread_goes classes k shared (Some t) none =
     ap (λ (ms : List Monitor). waits_with classes k (record shared { monitors = ms }) t (next_effect shared t t.tasks)) none
     ∙ call_goes classes k shared t (next_effect shared t t.tasks)
-
-none_in : {A : Type 0} (l : List A) → length l ≡ 0 → l ≡ []
-none_in [] is = refl
-none_in (x ∷ l) is = absurd (cc)
 
 -- ---- one thread of several
 
@@ -246,7 +238,7 @@ module _ (unit : SourceUnit) (w : World) (m : StateInMemory) (s : State) (h : St
 
   -- where nobody owns a monitor no thread waits
   pub free_unowned : (k : ℕ) → (length m.shared.monitors == 0) ≡ true → false ≡ is_blocked w.classes s k
-  free_unowned k none = sym (thread_goes w.classes k s.shared (thread_at s k) (ap (λ (x : Shared). x.monitors) h.shared ∙ none_in m.shared.monitors (eqb-true (length m.shared.monitors) 0 none)))
+  free_unowned k none = sym (thread_goes w.classes k s.shared (thread_at s k) (ap (λ (x : Shared). x.monitors) h.shared ∙ nil_from_length m.shared.monitors (eqb-true (length m.shared.monitors) 0 none)))
 
   -- a thread that isn't there doesn't wait
   pub free_nobody : (k : ℕ) → k ≡ 0 → false ≡ is_blocked w.classes s k

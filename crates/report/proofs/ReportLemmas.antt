@@ -1,9 +1,7 @@
 -- The parts of a report's text.
-use Rattle.std.proofs.Common.{◌≡◌, ℕ, ◌+◌, ◌<◌, ◌≤◌, List, [], ◌∷◌, ◌++◌, length, get_or, drop, map, Result, Ok, Err, refl, sym, ap, subst, ◌∙◌, append_assoc, append-nil, arith}
-use Rattle.std.specs.Prelude.{OnOk, OnErr, codes, decimal}
+use Rattle.std.proofs.Common.{◌≡◌, ℕ, ◌+◌, ◌<◌, ◌≤◌, List, [], ◌∷◌, ◌++◌, length, get_or, drop, map, Result, refl, sym, ap, subst, ◌∙◌, append_assoc, append-nil, arith}
+use Rattle.std.specs.Prelude.{codes, decimal}
 use Rattle.std.specs.List.{flat_map, enumerate_from}
-use Rattle.std.specs.Io.KnownBytes.{Keeps}
-use Rattle.std.proofs.KnownBytes.{Appends-kept}
 use Rattle.std.proofs.lemmas.List.Concat.{flat_map-cons}
 use Rattle.std.proofs.lemmas.List.{get_or-map, length-map}
 use Rattle.std.proofs.lemmas.List.FromFn.{length-enumerate_from, get_or-enumerate_from}
@@ -50,18 +48,6 @@ pub report_text-with : (printed : List Printed) (standings : List ThreadStatus) 
     → report_text (report_with printed standings rows) ≡ (flat_map printed_line printed ++ flat_map thread_line (numbered standings)) ++ row_lines rows
 unfolding report_text
 report_text-with printed standings rows = refl
-
--- a flush after the whole text
-pub Writes-flushed : {T E : Type 0} (a b c : Written) (r : Result T E) (text : List ℕ) → AppendsText a b text → Keeps b.bytes c.bytes
-    → OnOk r (c.failures ≡ b.failures) → OnErr r (c.failures ≡ b.failures + 1) → Writes a c r text
-Writes-flushed a b c (Ok v) text p k s f = record { bytes = Appends-kept a.bytes b.bytes c.bytes text p.bytes k; failures = s ∙ p.failures }
-Writes-flushed a b c (Err e) text p k s f = record {
-  part = text;
-  rest = [];
-  whole = sym (append-nil text);
-  bytes = Appends-kept a.bytes b.bytes c.bytes text p.bytes k;
-  failures = f ∙ ap (λ (n : ℕ). n + 1) p.failures;
-}
 
 -- ---- clearings
 

@@ -1,8 +1,7 @@
 -- The names of the objects that a report shows, counted up from the first.
 use Rattle.std.specs.Prelude.{◌≡◌, ℕ, zero, suc, ◌+◌, ◌-◌, ◌<◌, ◌≤◌, Bool, true, false, cond, nat_lt, List, [], ◌∷◌, ◌++◌, length, filter, refl}
 use Rattle.std.proofs.Common.{sym, ◌∙◌, ap, arith, subst, ⊎_elim}
-use Rattle.std.proofs.lemmas.Bool.{cases_lt, cond_both}
-use Rattle.std.proofs.lemmas.Bool.Decides.{nat_tests}
+use Rattle.std.proofs.lemmas.Bool.{cases_lt, cond_both, le-ltb, lt-ltb}
 use Rattle.semantics.specs.Reachable.{from_one, reachable, Reachable}
 use Rattle.semantics.specs.ReportOf.{shown}
 use Rattle.semantics.specs.State.{State}
@@ -48,14 +47,8 @@ passing-end test k end h = let none : end - k ≡ 0 = omega arith in ap (λ c. f
 
 -- ---- those above a number
 
-is_above : (m n : ℕ) → m < n → nat_lt m n ≡ true
-is_above m n h = grind (arith, nat_tests)
-
-not_above : (m n : ℕ) → n ≤ m → nat_lt m n ≡ false
-not_above m n h = grind (arith, nat_tests)
-
 kept_above : (m k : ℕ) (b : Bool) (rest : List ℕ) → m < k → filter (λ x. nat_lt m x) rest ≡ rest → filter (λ x. nat_lt m x) (cond b (k ∷ rest) rest) ≡ cond b (k ∷ rest) rest
-kept_above m k true rest h e = ap (λ t. cond t (k ∷ filter (λ x. nat_lt m x) rest) (filter (λ x. nat_lt m x) rest)) (is_above m k h) ∙ ap (λ l. k ∷ l) e
+kept_above m k true rest h e = ap (λ t. cond t (k ∷ filter (λ x. nat_lt m x) rest) (filter (λ x. nat_lt m x) rest)) (lt-ltb m k h) ∙ ap (λ l. k ∷ l) e
 kept_above m k false rest h e = e
 
 all_above : (m : ℕ) (test : ℕ → Bool) (k c : ℕ) → m < k → filter (λ x. nat_lt m x) (filter test (count_from k c)) ≡ filter test (count_from k c)
@@ -63,7 +56,7 @@ all_above m test k zero h = refl
 all_above m test k (suc c) h = kept_above m k (test k) (filter test (count_from (suc k) c)) h (all_above m test (suc k) c (omega arith))
 
 left_below : (m k : ℕ) (b : Bool) (rest : List ℕ) → k ≤ m → filter (λ x. nat_lt m x) (cond b (k ∷ rest) rest) ≡ filter (λ x. nat_lt m x) rest
-left_below m k true rest h = ap (λ t. cond t (k ∷ filter (λ x. nat_lt m x) rest) (filter (λ x. nat_lt m x) rest)) (not_above m k h)
+left_below m k true rest h = ap (λ t. cond t (k ∷ filter (λ x. nat_lt m x) rest) (filter (λ x. nat_lt m x) rest)) (le-ltb m k h)
 left_below m k false rest h = refl
 
 some_above : (m : ℕ) (test : ℕ → Bool) (k c : ℕ) → k ≤ m + 1 → filter (λ x. nat_lt m x) (filter test (count_from k c)) ≡ filter test (count_from (m + 1) (k + c - (m + 1)))

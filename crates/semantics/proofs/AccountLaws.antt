@@ -1,12 +1,13 @@
 -- A step is of a thread that can step, prints at most one number, and changes no other thread's part.
 use Rattle.std.proofs.Common.{◌≡◌, ◌≢◌, ℕ, zero, suc, Bool, true, false, List, [], ◌∷◌, ◌++◌, length, map, Option, Some, None, refl, sym, ap, ◌∙◌, subst, inl, inr}
-use Rattle.std.specs.Prelude.{◌==◌, ◌&&◌, not, is_none, IsSome, slice_get, slice_set, if◌then◌else◌, ◌⊎◌}
+use Rattle.std.specs.Prelude.{◌==◌, ◌&&◌, not, is_none, IsSome, slice_get, if◌then◌else◌, ◌⊎◌}
 use Rattle.std.specs.List.{filter}
 use Rattle.std.specs.Option.{option_map, option_and_then, option_map_or}
 use Rattle.std.proofs.lemmas.Bool.{false≢true, and_parts, not-true}
 use Rattle.std.proofs.lemmas.Bool.Decides.{eqb_tells}
 use Rattle.std.proofs.lemmas.List.{append-nil}
 use Rattle.std.proofs.lemmas.List.Elements.{filter-append}
+use Rattle.base.proofs.Lists.{get_set_other}
 use Rattle.syntax.specs.Tree.{SourceUnit}
 use Rattle.class_rules.specs.Class.{Classes}
 use Rattle.semantics.specs.declared.printed.Printed.{Printed}
@@ -72,13 +73,6 @@ steps_print unit classes s next k refused h =
     let step : Stepped s k next = by_step unit classes s next k refused h in
     prints s (record s { shared = step.shared; threads = set_thread s.threads k step.thread }) next k step.event refl step.is
 
-pub get-set_other : {A : Type 0} (xs : List A) (i j : ℕ) (w : A) → j ≢ i → slice_get (slice_set xs i w) j ≡ slice_get xs j
-get-set_other [] i j w other = refl
-get-set_other (x ∷ xs) zero zero w other = absurd (other refl)
-get-set_other (x ∷ xs) zero (suc j) w other = refl
-get-set_other (x ∷ xs) (suc i) zero w other = refl
-get-set_other (x ∷ xs) (suc i) (suc j) w other = get-set_other xs i j w (λ e. other (ap suc e))
-
 differ : (k other : ℕ) → other ≢ k → (k == other) ≡ false
 differ k other ne = go (eqb_tells k other)
   where
@@ -111,7 +105,7 @@ thread_of threads (suc i) = slice_get threads i
 same_thread : (threads : List Thread) (k other : ℕ) (t : Thread) → other ≢ k → thread_of (set_thread threads k t) other ≡ thread_of threads other
 same_thread threads k zero t ne = refl
 same_thread threads zero (suc i) t ne = refl
-same_thread threads (suc j) (suc i) t ne = get-set_other threads j i t (λ e. ne (ap suc e))
+same_thread threads (suc j) (suc i) t ne = get_set_other threads j i t (λ e. ne (ap suc e))
 
 thread_is : (s : State) (k : ℕ) → thread_at s k ≡ thread_of s.threads k
 thread_is s zero = refl

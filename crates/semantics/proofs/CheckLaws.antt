@@ -1,17 +1,19 @@
 -- What the checks of a call have found where no trap stops it, and what no check looks at.
-use Rattle.std.proofs.Common.{◌≡◌, ℕ, ◌+◌, Bool, true, false, not, List, ◌∷◌, [], Option, None, refl}
+use Rattle.std.proofs.Common.{◌≡◌, ℕ, ◌+◌, Bool, true, false, not, List, ◌∷◌, [], Option, None, refl, ◌≤◌, length, Some, arith}
 use Rattle.std.specs.Prelude.{◌&&◌, ◌||◌, nat_le, is_some, ⊤}
 use Rattle.std.specs.List.{list_any}
 use Rattle.base.specs.Element.{ElementType}
+use Rattle.base.specs.Bytes.{Identifier, lookup}
 use Rattle.class_rules.specs.Class.{Classes}
 use Rattle.jni.specs.Access.{ElementsCopy, ArrayView, CharsCopy, CharsView}
 use Rattle.jni.specs.JniFunction.{JniFunction, GetBuffer, PopLocalFrame, calls_method, is_allowed_pending, prototype}
-use Rattle.jni.specs.Prototype.{ResultKind, NewLocal}
-use Rattle.semantics.specs.CallSight.{ArgumentSight, CallSight}
+use Rattle.jni.specs.Prototype.{ResultKind, NewLocal, ParameterKind, ArrayVariable}
+use Rattle.semantics.specs.CallSight.{ArgumentSight, CallSight, elements_seen}
 use Rattle.semantics.specs.Checks.{first_trap, go_together, lacks_room, misfits, misses, trap_of, with_kinds}
 use Rattle.semantics.specs.Thread.{Monitor}
 use Rattle.semantics.specs.Value.{Trap, NullReference, ExceptionPending, WrongObject, DeletedReference, NoCapacity, CallsTooDeep}
-use Rattle.semantics.specs.Variable.{StaticReference}
+use Rattle.semantics.specs.CallEffects.{local_array}
+use Rattle.semantics.specs.Variable.{StaticReference, Variables}
 
 -- ---- what is known of a call that no trap stops
 
@@ -24,7 +26,7 @@ none_holds [] h = tt
 none_holds ((true, trap) ∷ further) h = absurd (cc)
 none_holds ((false, trap) ∷ further) h = (refl, none_holds further h)
 
-fits_and_goes : (a b : Bool) → (a || not b) ≡ false → (a ≡ false) × (b ≡ true)
+pub fits_and_goes : (a b : Bool) → (a || not b) ≡ false → (a ≡ false) × (b ≡ true)
 fits_and_goes true b h = absurd (cc)
 fits_and_goes false true h = (refl, refl)
 fits_and_goes false false h = absurd (cc)
@@ -65,6 +67,11 @@ module _ (classes : Classes) (sight : CallSight) (element : ElementType) (f : Jn
       }
 
 -- ---- what no check looks at
+
+-- where no array is asked for, none of its elements are seen
+pub few_there : (vs : Variables) (p : Option ParameterKind) (x : Identifier) (n : ℕ) → n ≤ elements_seen vs p x → n ≤ length (local_array (lookup x vs))
+few_there vs (Some (ArrayVariable T)) x n h = h
+few_there vs p x n h = omega (arith, h)
 
 -- another monitor, another static that is to be deleted, and other calls that wait
 module _ (classes : Classes) (sight : CallSight) (m : Option Monitor) (o : Option StaticReference) (n : ℕ) where

@@ -16,3 +16,4 @@ pub mod ClearedEffects
 pub mod ClearedSteps
 pub mod CheckLaws
 pub mod ClearedMade
+pub mod BegunArrays

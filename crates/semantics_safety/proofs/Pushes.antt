@@ -11,6 +11,7 @@ use Rattle.syntax.specs.Tree as tree
 use Rattle.syntax.specs.Tree.{Block, Expr, Function, ParameterType, IntParameter, ReferenceParameter, Parameter, ResultType, SourceUnit}
 use Rattle.jni.specs.JniFunction.{JniFunction, CallStaticVoidMethod, CallStaticIntMethod, CallStaticObjectMethod, PushLocalFrame, calls_method, parameters_for, prototype}
 use Rattle.jni.specs.Prototype.{ParameterKind, ResultKind, ClassObject, MethodID}
+use Rattle.jni.proofs.MethodCalls.{own_are_two}
 use Rattle.region_rules.specs.RegionStates as states
 use Rattle.region_rules.specs.RegionStates.{get_of}
 use Rattle.semantics.specs.Activation.{class_of_function}
@@ -84,12 +85,6 @@ zip_is_shorter : (parameters : List ParameterKind) (operands : List Operand) →
 zip_is_shorter [] operands = omega arith
 zip_is_shorter (parameter ∷ parameters) [] = omega arith
 zip_is_shorter (parameter ∷ parameters) (o ∷ operands) = let further = zip_is_shorter parameters operands in omega (arith, further)
-
-own_are_two : (f : JniFunction) → calls_method f ≡ true → length (prototype f).parameters ≡ 2
-own_are_two CallStaticVoidMethod is = refl
-own_are_two CallStaticIntMethod is = refl
-own_are_two CallStaticObjectMethod is = refl
-own_are_two f is = absurd (cc)
 
 -- they are few
 pub arguments_are_few : (p : Point) (sight : Sight) (f : JniFunction) → calls_method f ≡ true → (operands : List Operand) → CallFits p f operands → length (actuals sight f operands) ≤ 2 + most_further

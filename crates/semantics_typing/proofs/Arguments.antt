@@ -1,10 +1,9 @@
 -- What is known of the arguments of a call that no trap stopped.
-use Rattle.std.proofs.Common.{◌≡◌, ℕ, ℤ, zero, suc, Bool, true, false, not, ◌||◌, List, [], ◌∷◌, length, map, zip, Option, Some, None, refl, ap, subst, arith, if◌then◌else◌}
+use Rattle.std.proofs.Common.{◌≡◌, ℕ, ℤ, zero, suc, Bool, true, false, ◌||◌, List, [], ◌∷◌, length, map, zip, Option, Some, None, refl, ap, subst, if◌then◌else◌}
 use Rattle.std.specs.Prelude.{slice_get, ◌==◌}
 use Rattle.std.specs.List.{list_any, AllByRecursion}
 use Rattle.std.specs.Str.{bytes_eq}
-use Rattle.std.proofs.lemmas.Bool.{not-false}
-use Rattle.std.proofs.lemmas.Bool.Decides.{nat_tests}
+use Rattle.std.proofs.lemmas.Bool.{eqb-true, not-false}
 use Rattle.base.specs.Bytes.{Identifier, lookup}
 use Rattle.syntax.specs.Tree as tree
 use Rattle.syntax.specs.Tree.{Argument}
@@ -59,13 +58,6 @@ IsObjectKind StringObject = Unit {0}
 IsObjectKind (NumberArray t) = Unit {0}
 IsObjectKind kind = ⊥
 
-pub equal_if : (n m : ℕ) → not (n == m) ≡ false → n ≡ m
-equal_if n m h = by_test (n == m) refl h
-  where
-    by_test : (b : Bool) → (n == m) ≡ b → not b ≡ false → n ≡ m
-    by_test true e h = grind (arith, nat_tests, e)
-    by_test false e h = absurd (cc)
-
 -- what an argument can be
 abbrev IsArgument : StaticReference → Type 0
 IsArgument (Weakly n) = ⊥
@@ -99,10 +91,10 @@ module _ (classes : Classes) (heap : Heap) (vs : Variables) where
   object_known ObjectArray of x Empty arg d m f = absurd (cc)
   object_known StringObject of x Empty arg d m f = absurd (cc)
   object_known (NumberArray t) of x Empty arg d m f = absurd (cc)
-  object_known ClassObject of x (Live n) arg d m f = equal_if (class_of heap n) class_class f
+  object_known ClassObject of x (Live n) arg d m f = eqb-true (class_of heap n) class_class (not-false (class_of heap n == class_class) f)
   object_known ObjectArray of x (Live n) arg d m f = not-false (is_object_array (class_kind classes (class_of heap n))) f
-  object_known StringObject of x (Live n) arg d m f = equal_if (class_of heap n) string_class f
-  object_known (NumberArray t) of x (Live n) arg d m f = equal_if (class_of heap n) (number_array t) f
+  object_known StringObject of x (Live n) arg d m f = eqb-true (class_of heap n) string_class (not-false (class_of heap n == string_class) f)
+  object_known (NumberArray t) of x (Live n) arg d m f = eqb-true (class_of heap n) (number_array t) (not-false (class_of heap n == number_array t) f)
   object_known kind of x (Weakly n) arg d m f = absurd arg
   object_known kind of x Cleared arg d m f = absurd arg
   object_known kind of x r arg d m f = absurd of

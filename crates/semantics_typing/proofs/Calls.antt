@@ -26,7 +26,7 @@ use Rattle.semantics.specs.Answer as answer
 use Rattle.semantics.specs.Arguments.{Actual, reference_given, object_given, text_given, field_given, variable_given}
 use Rattle.semantics.specs.CallEffects.{CallResult, NoResult, ScalarResult, ReferenceResult, FieldResult, BufferResult, CallEffect, Throws, Halts, Leaves, Enters, with_capacity, frames_effect, heap_effect, new_effect, string_object, overwritten, local_array, begun_with, copy_effect, view_effect, copied_elements, freed, with_freed, with_message, throw_new_effect}
 use Rattle.semantics.specs.AnswerTable.{call_effect}
-use Rattle.semantics.specs.CallSight.{CallSight, elements_seen, sight_of_call}
+use Rattle.semantics.specs.CallSight.{CallSight, sight_of_call}
 use Rattle.semantics.specs.Checks.{go_together}
 use Rattle.semantics.specs.Heap.{Heap, object_at, class_of, values_of, next_name, with_value_at, with_numbers, numbers_of, field_place, static_place, is_instance, fits_class}
 use Rattle.semantics.specs.Object.{ObjectValue, Number, Refers, Reference, Object}
@@ -38,6 +38,7 @@ use Rattle.semantics.specs.World.{fresh_object}
 use Rattle.semantics_typing.proofs.FitsAlike.{fits_alike, fits_field_alike}
 use Rattle.semantics.proofs.AnswerFacts.{AsField, AsNumber, AsReference, AsStatic, FitsField, IsMade, IsOfKind, IsRaised, IsRegion, IsWrite, NoClass, NoElement, NoField, NoMethod, NoOwner, NoSize, NoStore, NoUnit, OfArray, OfClass, OfField, OfNumbers, OfReferences, OfString, OfText, Takes, TakesNumbers, ToElement, ToField, ToStatic}
 use Rattle.semantics.proofs.AnswerKinds.{AnswersAs, CallKind, Calling, Copying, CopyingBack, Ensuring, Filling, FillingNone, Freeing, Giving, Halting, IsChecked, Making, Pending, Pushing, Raising, RaisingWith, SettingRegion, Viewing, Writing, answers_as}
+use Rattle.semantics.proofs.CheckLaws.{few_there}
 use Rattle.world_values.specs.WorldRules.{is_in_range}
 use Rattle.semantics_typing.specs.Objects.{ReferenceFits, ValueFits, PlaceFits, element_type_of, type_at, IsTypedObject, AreTypedObjects, AreInRange, HasNumbers, IsTypedVariable, AreTypedVariables}
 use Rattle.world_values.specs.DeclaredFields.{DeclaresWell, IsDeclared}
@@ -84,14 +85,7 @@ pub text_in_range : (bytes : List ℕ) → IsText bytes → AreInRange JChar (ma
 text_in_range [] h = tt
 text_in_range (b ∷ bytes) h = (byte_in_range b (omega (arith, h.0)), text_in_range bytes h.1)
 
--- ---- tests
-
 -- ---- variables
-
--- where no array is asked for, none of its elements are seen
-few_there : (vs : Variables) (p : Option ParameterKind) (x : Identifier) (n : ℕ) → n ≤ elements_seen vs p x → n ≤ length (local_array (lookup x vs))
-few_there vs (Some (ArrayVariable T)) x n h = h
-few_there vs p x n h = omega (arith, h)
 
 pub changed_typed : (classes : Classes) (heap : Heap) (x : Identifier) (f : Variable → Variable) (vs : Variables) → AreTypedVariables classes heap vs → ((v : Variable) → lookup x vs ≡ Some v → IsTypedVariable classes heap v → IsTypedVariable classes heap (f v)) → AreTypedVariables classes heap (change x f vs)
 changed_typed classes heap x f [] h g = tt

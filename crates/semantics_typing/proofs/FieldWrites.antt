@@ -6,6 +6,7 @@ use Rattle.std.specs.Option.{option_map}
 use Rattle.std.proofs.lemmas.Bool.Decides.{nat_tests}
 use Rattle.std.proofs.lemmas.Option.{slice_get_within}
 use Rattle.base.specs.Element.{ElementType}
+use Rattle.base.proofs.Lists.{get_front}
 use Rattle.class_rules.specs.BuiltIns.{built_ins, class_class, string_class, throwable_class, has_own_making}
 use Rattle.class_rules.specs.Class.{FieldType, NumberField, ReferenceField, ClassKind, Plain, ArrayOfNumbers, ArrayOfObjects, Class, Classes, class_at, class_kind, is_plain, is_object_array, element_class, superclass, above, ancestry_within, is_subclass, elements_fit, assignable}
 use Rattle.class_rules.specs.Fields.{FieldId, own_fields, own_statics, layout}
@@ -17,7 +18,6 @@ use Rattle.semantics.specs.Heap.{Heap, object_at, class_of, place_in, field_plac
 use Rattle.semantics.specs.Object.{Refers, Reference, Object}
 use Rattle.semantics_typing.specs.Objects.{ValueFits, type_at, AreTypedObjects}
 use Rattle.world_values.specs.DeclaredFields.{DeclaresWell, IsDeclared}
-use Rattle.world_values.proofs.LoadedWorlds.{get_front}
 use Rattle.semantics_typing.proofs.TableKinds.{field_type, itself, grown_long, kind_class, kind_string, kind_throwable, super_throwable, super_string, super_root, element_low}
 use Rattle.semantics_typing.proofs.Places.{field_own, declared_class, field_placed, static_placed}
 use Rattle.semantics_typing.proofs.Writes.{there, there_if, reference_fits}

@@ -4,6 +4,7 @@ use Rattle.std.specs.Prelude.{slice_get, slice_set, IsTrue, ◌==◌}
 use Rattle.std.proofs.lemmas.Bool.Decides.{nat_tests}
 use Rattle.base.specs.Bytes.{Identifier}
 use Rattle.base.specs.Element.{ElementType}
+use Rattle.base.proofs.Lists.{get_front}
 use Rattle.class_rules.specs.BuiltIns.{class_class}
 use Rattle.class_rules.specs.Class.{FieldType, NumberField, ReferenceField, Classes, assignable}
 use Rattle.semantics.specs.Heap.{Heap, object_at, class_of, values_of, with_values}
@@ -11,7 +12,6 @@ use Rattle.semantics.specs.Object.{ObjectValue, Number, Refers, Reference, Objec
 use Rattle.semantics.specs.Variable.{Variable, Scalar, LocalRef, FieldHandle, MethodHandle, Elements, LocalArray, NoBuffer, Copy, View, Variables}
 use Rattle.semantics_typing.specs.Objects.{ReferenceFits, ValueFits, PlaceFits, element_type_of, fields_of, type_at, IsTypedObject, AreTypedObjects, HasNumbers, IsTypedVariable, AreTypedVariables, ShapesStay}
 use Rattle.semantics_typing.proofs.Lists.{get_set, set_there, set_elsewhere, get_last, all_later}
-use Rattle.world_values.proofs.LoadedWorlds.{get_front}
 
 -- ---- the object of a name
 

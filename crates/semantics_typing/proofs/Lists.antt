@@ -1,7 +1,7 @@
 -- Lists with another element, or more.
 use Rattle.std.proofs.Common.{◌≡◌, ◌≢◌, ◌⊎◌, inl, inr, ℕ, zero, suc, Bool, true, false, List, [], ◌∷◌, ◌++◌, length, take, drop, Some, refl, ap, subst, arith, if◌then◌else◌}
 use Rattle.std.specs.Prelude.{slice_get, slice_set, find}
-use Rattle.std.specs.List.{AllByRecursion}
+use Rattle.std.specs.List.{AllByRecursion, AllZip}
 
 -- an element of a list with another one at a place
 pub get_set : {A : Type 0} (xs : List A) (i j : ℕ) (x y : A) → slice_get (slice_set xs i x) j ≡ Some y → (slice_get xs j ≡ Some y) ⊎ ((i ≡ j) × (x ≡ y))
@@ -36,6 +36,14 @@ pub all_get : {A : Type 0} (P : A → Type 0) (xs : List A) (i : ℕ) (x : A) �
 all_get P [] i x h e = absurd (cc)
 all_get P (y ∷ xs) zero x h e = let same : y ≡ x = cc in subst P same h.0
 all_get P (y ∷ xs) (suc i) x h e = all_get P xs i x h.1 e
+
+-- what is at a place of the second of two lists has its match in the first
+pub zip_at : {A B : Type 0} (P : A → B → Type 0) (xs : List A) (ys : List B) (i : ℕ) (y : B) → AllZip P xs ys → slice_get ys i ≡ Some y → (x : A) × (slice_get xs i ≡ Some x) × P x y
+zip_at P [] [] i y h e = absurd (cc)
+zip_at P [] (z ∷ ys) i y h e = absurd h
+zip_at P (x ∷ xs) [] i y h e = absurd h
+zip_at P (x ∷ xs) (z ∷ ys) zero y h e = let same : z ≡ y = cc in (x, refl, subst (P x) same h.0)
+zip_at P (x ∷ xs) (z ∷ ys) (suc i) y h e = zip_at P xs ys i y h.1 e
 
 pub all_set : {A : Type 0} (P : A → Type 0) (xs : List A) (i : ℕ) (x : A) → AllByRecursion P xs → P x → AllByRecursion P (slice_set xs i x)
 all_set P [] i x h new = tt

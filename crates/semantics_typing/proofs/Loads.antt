@@ -1,7 +1,6 @@
 -- Objects are typed when a run begins.
 use Rattle.std.proofs.Common.{◌≡◌, ◌≢◌, ⊎_elim, ℕ, zero, suc, ◌+◌, ◌-◌, ◌<◌, ◌≤◌, Bool, true, false, eqb, List, [], ◌∷◌, ◌++◌, length, map, Option, Some, None, refl, sym, ap, ◌∙◌, subst, arith, append_assoc}
 use Rattle.std.specs.Prelude.{slice_get, IsTrue, ◌&&◌, ◌==◌, nat_lt, nat_le}
-use Rattle.std.specs.List.{AllZip}
 use Rattle.std.specs.Option.{option_map}
 use Rattle.std.proofs.lemmas.Bool.{ltb-true, ltb-false, leb-true, and_parts}
 use Rattle.std.proofs.lemmas.Bool.Decides.{nat_tests, eqb_tells}
@@ -9,6 +8,7 @@ use Rattle.std.proofs.lemmas.List.{length-map}
 use Rattle.std.proofs.lemmas.Option.{slice_get-map, slice_get-get_or}
 use Rattle.std.proofs.lemmas.Slice.Zip.{AllZip-long}
 use Rattle.base.specs.Element.{JChar}
+use Rattle.base.proofs.Lists.{get_front}
 use Rattle.class_rules.specs.BuiltIns.{built_ins, class_class, string_class, out_of_memory_error}
 use Rattle.class_rules.specs.Class.{FieldType, NumberField, ReferenceField, ClassKind, Plain, ArrayOfNumbers, ArrayOfObjects, Classes, class_kind, assignable}
 use Rattle.class_rules.specs.Fields.{FieldId, layout, own_statics}
@@ -16,21 +16,15 @@ use Rattle.semantics.specs.Heap.{Heap, object_at, is_instance}
 use Rattle.semantics.specs.Object.{ObjectValue, Number, Refers, Reference, Object}
 use Rattle.semantics.specs.World.{World, initial, class_object, fresh_object, made_before, loaded_objects}
 use Rattle.semantics.proofs.ShownRows.{loaded_is}
-use Rattle.world_values.proofs.LoadedWorlds.{loaded_class, loaded_error, loaded_object, get_front}
+use Rattle.world_values.proofs.LoadedWorlds.{loaded_class, loaded_error, loaded_object}
 use Rattle.world_values.specs.SoundWorlds.{types_by_kind, reference_fits, value_fits, IsObjectAfter, AreObjectsAfter, IsSound}
 use Rattle.semantics_typing.specs.Objects.{ReferenceFits, ValueFits, PlaceFits, element_type_of, fields_of, type_at, IsTypedObject, AreTypedObjects}
 use Rattle.semantics_typing.proofs.Heaps.{class_there}
+use Rattle.semantics_typing.proofs.Lists.{zip_at}
 use Rattle.semantics_typing.proofs.TableKinds.{IsMakeable, grown_long, kind_class, plain_class}
 use Rattle.semantics_typing.proofs.Writes.{fresh_at, fresh_typed}
 
 -- ---- the world's objects
-
-pub zip_at : {A B : Type 0} (R : A → B → Type 0) (xs : List A) (ys : List B) (i : ℕ) (y : B) → AllZip R xs ys → slice_get ys i ≡ Some y → (x : A) × (slice_get xs i ≡ Some x) × R x y
-zip_at R [] [] i y h e = absurd (cc)
-zip_at R [] (z ∷ ys) i y h e = absurd h
-zip_at R (x ∷ xs) [] i y h e = absurd h
-zip_at R (x ∷ xs) (z ∷ ys) zero y h e = let same : z ≡ y = cc in (x, refl, subst (R x) same h.0)
-zip_at R (x ∷ xs) (z ∷ ys) (suc i) y h e = zip_at R xs ys i y h.1 e
 
 -- an object among several is made after a beginning of them
 object_after : (classes : Classes) (made objects : Heap) (j : ℕ) (o : Object) → AreObjectsAfter classes made objects → slice_get objects j ≡ Some o → (before : Heap) × (rest : Heap) × (before ++ rest ≡ made ++ objects) × IsObjectAfter classes before o

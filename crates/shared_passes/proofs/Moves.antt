@@ -1,5 +1,6 @@
 -- Each step keeps the rule over the passes.
-use Rattle.std.proofs.Common.{◌≡◌, ◌≢◌, ◌⊎◌, ℕ, zero, suc, ◌+◌, ◌<◌, ◌==◌, List, [], ◌∷◌, ◌++◌, length, set, Bool, true, false, true≢false, if◌then◌else◌, refl, sym, ap, ◌∙◌, subst, inl, inr, ⊎_elim, arith, eq-eqb, ne_eqb}
+use Rattle.std.proofs.Common.{◌≡◌, ◌≢◌, ◌⊎◌, ℕ, zero, suc, ◌+◌, ◌<◌, ◌==◌, List, [], ◌∷◌, ◌++◌, length, set, Bool, true, false, if◌then◌else◌, refl, sym, ap, ◌∙◌, subst, inl, inr, ⊎_elim, arith, eq-eqb, ne_eqb}
+use Rattle.std.proofs.lemmas.Bool.{false≢true}
 use mathlib.Core.Option.{some, some-ne-none, some-injective}
 use lib.ListN.{get_elem?}
 use Rattle.crossbeam_utils.specs.Register.{Turns, Forks, Merges}
@@ -8,9 +9,6 @@ use Rattle.shared_passes.specs.declared.view.Claim.{Claim}
 use Rattle.shared_passes.specs.declared.view.Known.{Known}
 use Rattle.shared_passes.specs.declared.view.View.{View}
 use Rattle.shared_passes.specs.Tokens.{unknown, Right, knower, sitting, nobody, hosting, both_of, kept_after, Fits, Kept, Settled, Checked}
-
-off : false ≡ true → ⊥
-off e = true≢false (sym e)
 
 -- a fact of each view, where one view is set
 all_set : (P : ℕ → View → Type 0) (views : List View) (by : ℕ) (w : View) → ((j : ℕ) (u : View) → j ≢ by → get_elem? views j ≡ some u → P j u) → P by w → (j : ℕ) (u : View) → get_elem? (set views by w) j ≡ some u → P j u
@@ -54,7 +52,7 @@ pub begins : (words : List ℕ) → Kept words (knower unknown 0 ∷ [])
 begins words = (0, unknown, 0, (λ t. 0), one)
   where
     one : (by : ℕ) (v : View) → get_elem? (knower unknown 0 ∷ []) by ≡ some v → Fits 0 unknown 0 (λ t. 0) by v
-    one zero v e = subst (Fits 0 unknown 0 (λ t. 0) 0) (some-injective _ _ e) ((λ _. (refl, refl, refl)), (λ c. absurd (off c)))
+    one zero v e = subst (Fits 0 unknown 0 (λ t. 0) 0) (some-injective _ _ e) ((λ _. (refl, refl, refl)), (λ c. absurd (false≢true c)))
     one (suc by) v e = absurd (some-ne-none v (sym e))
 
 -- the keeper learns the accounts, before a seat is given
@@ -71,8 +69,8 @@ opens by table words views h at =
             (λ k. absurd (apart (((h.4 j u e).0 k).0 ∙ sym mine.0))),
             (λ s. let below = ((h.4 j u e).1 s).1 in absurd (omega arith)),
           ))
-          ((λ _. (refl, refl, refl)), (λ c. absurd (off c)))
-          ((λ k. absurd (off k)), (λ c. absurd (off c))),
+          ((λ _. (refl, refl, refl)), (λ c. absurd (false≢true c)))
+          ((λ k. absurd (false≢true k)), (λ c. absurd (false≢true c))),
     )
 
 -- the seat of the next thread is given
@@ -93,8 +91,8 @@ gives by table next account is words views h at =
                 let given = mine.2 in
                 (now_else h.3 next new u.thread (λ same. omega arith) ∙ theirs.0, omega arith, theirs.2)),
           ))
-          ((λ _. (mine.0, mine.1, ap (λ n. n + 1) mine.2)), (λ c. absurd (off c)))
-          ((λ k. absurd (off k)), (λ _. (now_here h.3 next new, (let given = mine.2 in omega arith), subst (λ t. Right t next account) mine.1 is))),
+          ((λ _. (mine.0, mine.1, ap (λ n. n + 1) mine.2)), (λ c. absurd (false≢true c)))
+          ((λ k. absurd (false≢true k)), (λ _. (now_here h.3 next new, (let given = mine.2 in omega arith), subst (λ t. Right t next account) mine.1 is))),
     )
 
 -- the keeper takes in a seat's pass
@@ -123,7 +121,7 @@ takes by table next other thread account words views h at apart there =
                 (now_else h.3 thread by v.thread (λ same. far (sym its.0 ∙ ap h.3 same ∙ theirs.0)) ∙ its.0, its.1, its.2)),
           ))
           (at_set views by j w v e))
-          ((λ k. absurd (off k)), (λ c. absurd (off c))),
+          ((λ k. absurd (false≢true k)), (λ c. absurd (false≢true c))),
     )
 
 -- the seat that was taken in has a new account, and no other thread's changes
@@ -169,8 +167,8 @@ lets_go by table next thread account words views h at =
                 let its = (h.4 j u e).1 s in
                 (now_else h.3 thread new u.thread (λ same. apart (sym its.0 ∙ ap h.3 same ∙ seat.0)) ∙ its.0, its.1, its.2)),
           ))
-          ((λ _. mine), (λ c. absurd (off c)))
-          ((λ k. absurd (off k)), (λ _. (now_here h.3 thread new, seat.1, seat.2))),
+          ((λ _. mine), (λ c. absurd (false≢true c)))
+          ((λ k. absurd (false≢true k)), (λ _. (now_here h.3 thread new, seat.1, seat.2))),
     )
 
 -- the seat that was taken in was right
@@ -181,7 +179,7 @@ checks by table next thread account words views h at =
     let seat = (h.4 by v at).1 refl in
     let w = knower table next in (
       w,
-      (h.0, h.1, h.2, h.3, all_set (Fits h.0 h.1 h.2 h.3) views by w (λ j u apart e. h.4 j u e) ((λ _. mine), (λ c. absurd (off c)))),
+      (h.0, h.1, h.2, h.3, all_set (Fits h.0 h.1 h.2 h.3) views by w (λ j u apart e. h.4 j u e) ((λ _. mine), (λ c. absurd (false≢true c)))),
       (refl, subst (λ t. Right t thread account) (sym mine.1) seat.2),
     )
 
@@ -228,8 +226,8 @@ leaves by thread account words views h at =
                 let its = (h.4 j u e).1 s in
                 (now_else h.3 thread new u.thread (λ same. apart (sym its.0 ∙ ap h.3 same ∙ seat.0)) ∙ its.0, its.1, its.2)),
           ))
-          ((λ k. absurd (off k)), (λ c. absurd (off c)))
-          ((λ k. absurd (off k)), (λ _. (now_here h.3 thread new, seat.1, seat.2))),
+          ((λ k. absurd (false≢true k)), (λ c. absurd (false≢true c)))
+          ((λ k. absurd (false≢true k)), (λ _. (now_here h.3 thread new, seat.1, seat.2))),
     )
 
 pub leaves_as : (by : ℕ) (v : View) → v ≡ sitting v.thread v.account → Forks Kept by v nobody (sitting v.thread v.account)

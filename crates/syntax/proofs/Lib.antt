@@ -1,3 +1,4 @@
 pub mod Blocks
 pub mod NullTests
 pub mod NodeLemmas
+pub mod StatementLines

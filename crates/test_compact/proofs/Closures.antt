@@ -1,5 +1,5 @@
 -- Heaps stay closed: a further block, another value, a pin.
-use Rattle.std.proofs.Common.{◌≡◌, ℕ, zero, suc, arith, Bool, true, false, cond, eqb, List, [], ◌∷◌, ◌++◌, replicate, Option, Some, None, refl, sym, ap, ◌∙◌, subst, ⊎_elim, inl, inr, ◌⊎◌}
+use Rattle.std.proofs.Common.{◌≡◌, ℕ, arith, Bool, true, false, cond, eqb, List, [], ◌∷◌, ◌++◌, Option, Some, None, refl, sym, ap, ◌∙◌, subst, ⊎_elim, inl, inr, ◌⊎◌}
 use Rattle.std.specs.Prelude.{find, slice_get, slice_set, IsSome, Result, Ok, Err, IfOk, OnOk, OnErr}
 use Rattle.std.specs.Option.{option_map, option_map_or}
 use Rattle.std.proofs.lemmas.Bool.Decides.{eqb_tells}
@@ -9,6 +9,7 @@ use Rattle.heap.specs.declared.value.Value.TheVariants.{Block as Reference}
 use Rattle.heap.specs.Heap.{Block, Space, IsAddress, block_at, fresh_block, with_block, with_changed, with_noted, with_pins, with_value}
 use Rattle.heap.proofs.Changes.{LeavesPlace, changed, changed_here, changed_elsewhere}
 use Rattle.heap.proofs.Spaces.{block_at-changed}
+use Rattle.heap.proofs.UnderWay.{set_cases, all_same}
 use Rattle.compact.specs.Reach.{IsClosed, AreAddresses}
 
 -- ---- no root
@@ -42,11 +43,6 @@ still_address s b a some = find_front (λ (c : Block). eqb c.address a) s.blocks
 
 pub still_named : (s : Space) (b : Block) (roots : List (Option ℕ)) → AreAddresses s roots → AreAddresses (with_block s b) roots
 still_named s b roots named a m = still_address s b a (named a m)
-
-all_same : (n k : ℕ) (v w : Value) → slice_get (replicate n v) k ≡ Some w → v ≡ w
-all_same zero k v w e = absurd (cc)
-all_same (suc n) zero v w e = cc
-all_same (suc n) (suc k) v w e = all_same n k v w e
 
 from_fresh : (t : Bool) (address class birth len : ℕ) (v : Value) (k b : ℕ) → slice_get (option_map_or (λ (c : Block). c.values) (cond t (Some (fresh_block address class birth len v)) None) []) k ≡ Some (Reference b) → v ≡ Reference b
 from_fresh true address class birth len v k b e = all_same len k v (Reference b) e
@@ -107,13 +103,6 @@ module _ (s : Space) (at : ℕ) (change : Block → Block) (leaves : LeavesPlace
           (each d r.place c (subst (λ (x : Block). slice_get x.values r.place ≡ Some (Reference c)) (changed_here at change d t.1) h)))
           (λ (t : (eqb d.address at ≡ false) × (d.address ≡ at → ⊥)). from_old d e (subst (λ (x : Block). slice_get x.values r.place ≡ Some (Reference c)) (changed_elsewhere at change d t.1) h))
           (eqb_tells d.address at)
-
-set_cases : (xs : List Value) (place k : ℕ) (v w : Value) → slice_get (slice_set xs place v) k ≡ Some w → (slice_get xs k ≡ Some w) ⊎ (v ≡ w)
-set_cases [] place k v w e = absurd (cc)
-set_cases (x ∷ xs) zero zero v w e = inr (cc)
-set_cases (x ∷ xs) zero (suc k) v w e = inl e
-set_cases (x ∷ xs) (suc place) zero v w e = inl e
-set_cases (x ∷ xs) (suc place) (suc k) v w e = set_cases xs place k v w e
 
 -- another value at a place
 module _ (s : Space) (at place : ℕ) (v : Value) where

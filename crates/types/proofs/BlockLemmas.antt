@@ -1,8 +1,9 @@
 -- The statements of a block in memory, one after the other.
-use Rattle.std.proofs.Common.{◌≡◌, ℕ, suc, ◌+◌, ◌-◌, ◌<◌, None, Some, Result, Ok, Err, OnOk, List, [], ◌∷◌, ◌++◌, drop, length, get_or, refl, sym, ap, ap₂, ◌∙◌, add-one, append_assoc, length-append, arith, drop-cons}
+use Rattle.std.proofs.Common.{◌≡◌, ℕ, ◌+◌, ◌-◌, ◌<◌, None, Some, Result, Ok, Err, OnOk, List, [], ◌∷◌, ◌++◌, drop, length, get_or, refl, sym, ap, ap₂, ◌∙◌, append_assoc, length-append, arith}
 use Rattle.std.proofs.Math.Seq.{drop-append_seam}
 use Rattle.std.proofs.lemmas.List.Elements.{filter_map-append}
 use Rattle.base.specs.Bytes.{Identifier, ByName}
+use Rattle.base.proofs.Lists.{item_here}
 use Rattle.syntax.specs.declared.call.Test.{Test as TestInMemory}
 use Rattle.syntax.specs.declared.stmt.Block.{Block as BlockInMemory}
 use Rattle.syntax.specs.declared.stmt.Form.{Form}
@@ -19,23 +20,20 @@ use Rattle.types.specs.AllFaults.{told_at}
 use Rattle.types.specs.Faults.{IsAbove, found, statement_place, places_inside}
 use Rattle.types.proofs.PlaceLemmas.{found-none, found-statement}
 
-stmt_next : (items : List StmtInMemory) (i : ℕ) (s : StmtInMemory) → i < length items → s ≡ get_or items i s → drop i items ≡ s ∷ drop (i + 1) items
-stmt_next items i s h e = rw add-one (drop-cons items i s h ∙ ap (λ x. x ∷ drop (suc i) items) (sym e))
-
 -- what is refused at a statement and after it
 pub found-rest : (returns : ResultType) (known : Scope) (taken : List Identifier) (items : List StmtInMemory) (i : ℕ) (s : StmtInMemory) (end_line : ℕ) → i < length items → s ≡ get_or items i s
     → found (places_of returns known taken (statements_tree (drop i items) end_line))
     ≡ (told_at (statement_place returns known taken (stmt_tree s)) ++ found (places_inside returns known taken (stmt_tree s)))
     ++ found (places_of returns (with_declared known (stmt_tree s)) (taken ++ names_declared (statements_within (stmt_tree s))) (statements_tree (drop (i + 1) items) end_line))
 found-rest returns known taken items i s end_line h e =
-    ap (λ rest. found (places_of returns known taken (statements_tree rest end_line))) (stmt_next items i s h e) ∙ found-statement returns known taken (stmt_tree s) _
+    ap (λ rest. found (places_of returns known taken (statements_tree rest end_line))) (item_here items i s s h e refl) ∙ found-statement returns known taken (stmt_tree s) _
 
 -- the names that it declares, and those declared after it
 pub declared-rest : (taken : List Identifier) (items : List StmtInMemory) (i : ℕ) (s : StmtInMemory) (end_line : ℕ) → i < length items → s ≡ get_or items i s
     → taken ++ names_declared (statements_of (statements_tree (drop i items) end_line))
     ≡ (taken ++ names_declared (statements_within (stmt_tree s))) ++ names_declared (statements_of (statements_tree (drop (i + 1) items) end_line))
 declared-rest taken items i s end_line h e =
-    ap (λ rest. taken ++ names_declared (statements_of (statements_tree rest end_line))) (stmt_next items i s h e)
+    ap (λ rest. taken ++ names_declared (statements_of (statements_tree rest end_line))) (item_here items i s s h e refl)
     ∙ ap (λ names. taken ++ names) (filter_map-append declared_name (statements_within (stmt_tree s)) _)
     ∙ sym (append_assoc taken _ _)
 

@@ -4,13 +4,15 @@ use Rattle.std.specs.Prelude.{not, ◌&&◌, ◌||◌, ◌==◌, is_some, nat_lt
 use Rattle.std.specs.List.{list_any, list_all, enumerate_from}
 use Rattle.std.specs.Option.{option_map_or}
 use Rattle.std.specs.Str.{bytes_eq}
-use Rattle.std.proofs.lemmas.Bool.{and_parts, or_parts, ltb-true}
+use Rattle.std.proofs.lemmas.Bool.{and_parts, both_ways, ltb-true, or_parts}
 use Rattle.std.proofs.lemmas.Bool.Decides.{nat_tests}
 use Rattle.std.proofs.lemmas.List.Folds.{list_any-append}
 use Rattle.std.proofs.lemmas.Slice.Eq.{bytes_eq-Decides}
 use Rattle.base.specs.Bytes.{Identifier}
 use Rattle.base.specs.Element.{JInt}
 use Rattle.base.specs.Options.{some_passes}
+use Rattle.base.proofs.Lists.{all_at}
+use Rattle.base.proofs.Options.{none_there}
 use Rattle.class_rules.specs.Additions.{ClassRule, NameTaken, new_class, with_class, with_changed_class, declared_fields, built_in_count}
 use Rattle.class_rules.specs.BuiltIns.{built_ins, class_class, string_class, throwable_class, object_array_class, has_own_making}
 use Rattle.class_rules.specs.Class.{Field, FieldType, NumberField, ReferenceField, Plain, ArrayOfObjects, Class, Classes, class_at, class_named, class_kind, is_plain, superclass, above, ancestry_within, array_name, array_class_of}
@@ -21,7 +23,7 @@ use Rattle.world_values.specs.DeclaredFields.{IsDeclared, DeclaresWell}
 use Rattle.world_values.specs.WorldLines.{WorldLine, MethodsLine, ClassLine, FieldLine, StaticLine, ObjectLine, ObjectsLine, ArrayLine, StringLine, ThreadLine, CallLine}
 use Rattle.world_values.specs.WorldMeaning.{class_number, superclass_number, field_of, table_with}
 use Rattle.world_values.specs.WorldRules.{is_well_formed, is_world_class, is_class_allowed, breaks_class_rule}
-use Rattle.world_values.proofs.LoadedWorlds.{passes_at, map_get}
+use Rattle.world_values.proofs.LoadedWorlds.{map_get}
 use Rattle.world.proofs.ChangedClasses.{changed}
 use Rattle.world.proofs.KeptBuiltIns.{KeepsBuiltIns}
 use Rattle.world.proofs.WorldTables.{IsWorldTable, named_kept, named_after, not_named, changed_named}
@@ -153,7 +155,7 @@ found_at T n (x ∷ ds) (suc i) d h e =
 
 built_ins_each : (c : ℕ) (d : Class) → class_at built_ins c ≡ Some d → DeclaresRight d
 built_ins_each zero d e = absurd (cc)
-built_ins_each (suc i) d e = simple_right d (passes_at is_simple built_ins i d built_ins_simple e)
+built_ins_each (suc i) d e = simple_right d (all_at is_simple built_ins i d built_ins_simple e)
 
 built_ins_names : (c : ℕ) (d : Class) → class_at built_ins c ≡ Some d → class_named built_ins d.name ≡ Some c
 built_ins_names zero d e = absurd (cc)
@@ -316,17 +318,10 @@ passes_some : {A : Type 0} (p : A → Bool) (o : Option A) → some_passes p o �
 passes_some p None h = absurd (cc)
 passes_some p (Some x) h = refl
 
-pub no_value : {A : Type 0} (o : Option A) → is_some o ≡ false → o ≡ None
-no_value None h = refl
-no_value (Some x) h = absurd (cc)
-
-plain_array : {P : Type 0} (b : Bool) → b ≡ true → b ≡ false → P
-plain_array b h k = absurd (let clash : true ≡ false = sym h ∙ k in cc)
-
 module _ (T : Classes) (t : IsWorldTable T) (h : Declares T) where
   pub line_declares : (methods : Bool) (line : WorldLine) → ((rule : ClassRule) → breaks_class_rule rule T line ≡ false) → is_well_formed T line ≡ true → is_class_allowed methods T line ≡ true → Declares (table_with T line)
   line_declares methods MethodsLine rules well allowed = absurd (let no : false ≡ true = well in cc)
-  line_declares methods (ClassLine name over) rules well allowed = class_declares T name (superclass_number T over) t h (no_value (class_named T name) (rules NameTaken)) well
+  line_declares methods (ClassLine name over) rules well allowed = class_declares T name (superclass_number T over) t h (none_there (class_named T name) (rules NameTaken)) well
   line_declares methods (FieldLine class name signature) rules well allowed =
       change_declares (λ d. record d { fields = d.fields ++ field_of T name signature ∷ [] }) (λ d. refl) (λ d. refl) (class_number T class) T h
       (λ d at was.
@@ -336,7 +331,7 @@ module _ (T : Classes) (t : IsWorldTable T) (h : Declares T) where
         statics_once = was.statics_once;
         fields_of_classes = of_classes_more d.fields (field_of T name signature) was.fields_of_classes (field_of_class T name signature);
         statics_of_classes = was.statics_of_classes;
-        arrays_bare = λ e. plain_array (is_plain d.kind) (plain_there methods T class d allowed at) e;
+        arrays_bare = λ e. absurd (both_ways (is_plain d.kind) e (plain_there methods T class d allowed at));
       })
   line_declares methods (StaticLine class name signature) rules well allowed =
       change_declares (λ d. record d { statics = d.statics ++ field_of T name signature ∷ [] }) (λ d. refl) (λ d. refl) (class_number T class) T h

@@ -8,6 +8,7 @@ use Rattle.std.proofs.lemmas.Option.{slice_get_within}
 use Rattle.base.specs.Bytes.{Identifier, ByName, lookup, is_from_to}
 use Rattle.base.specs.Options.{some_passes}
 use Rattle.base.specs.Element.{ElementType, JInt, JShort, JByte, JChar}
+use Rattle.base.proofs.Lists.{get_front}
 use Rattle.class_rules.specs.BuiltIns.{built_ins, class_class, string_class, out_of_memory_error, number_array}
 use Rattle.class_rules.specs.Class.{FieldType, NumberField, ReferenceField, ClassKind, Plain, ArrayOfNumbers, ArrayOfObjects, Class, Classes, class_kind, class_named, is_plain, array_name, assignable}
 use Rattle.class_rules.specs.Mangling.{is_simple_name}
@@ -21,7 +22,7 @@ use Rattle.world_values.specs.SoundWorlds.{types_by_kind, value_fits, IsObjectAf
 use Rattle.world_values.specs.WorldLines.{WorldValue, NumberValue, NullValue, NamedObject, NamedClass, WorldLine, MethodsLine, ClassLine, FieldLine, StaticLine, ObjectLine, ObjectsLine, ArrayLine, StringLine, ThreadLine, CallLine, Lines}
 use Rattle.world_values.specs.WorldMeaning.{class_number, table_of, object_defined, objects_defined, class_of_object, value_of, values_of_line, object_of}
 use Rattle.world_values.specs.WorldRules.{is_object_class, layout_types, is_known_value, holds_value, each_holds, value_in_range, each_in_range}
-use Rattle.world_values.proofs.LoadedWorlds.{get_front, map_get}
+use Rattle.world_values.proofs.LoadedWorlds.{map_get}
 use Rattle.world.proofs.GrownClasses.{named_open}
 use Rattle.world.proofs.GrownLines.{objects_of, is_called}
 use Rattle.world.proofs.KeptLines.{IsKept}

@@ -4,6 +4,7 @@ use Rattle.std.specs.Prelude.{codes, not, ◌||◌, unwrap_or}
 use Rattle.std.proofs.lemmas.Bool.{not-true, not-false}
 use Rattle.base.specs.Bytes.{Identifier}
 use Rattle.base.specs.Options.{some_passes}
+use Rattle.base.proofs.Options.{none_there}
 use Rattle.class_rules.specs.Additions.{ClassRule, NameTaken, BadSuperclass, class_breaks}
 use Rattle.class_rules.specs.BuiltIns.{built_ins, has_own_making}
 use Rattle.class_rules.specs.Class.{Classes, class_kind, class_named, is_plain}
@@ -12,7 +13,6 @@ use Rattle.world_values.specs.WorldLines.{WorldLine, MethodsLine, ClassLine, Fie
 use Rattle.world_values.specs.WorldMeaning.{class_number, superclass_number, field_of, table_with}
 use Rattle.world_values.specs.WorldRules.{is_well_formed, breaks_class_rule}
 use Rattle.world.proofs.WorldTables.{IsWorldTable, built_ins_table, class_table, changed_table, named}
-use Rattle.world.proofs.DeclaredTables.{no_value}
 
 pub record IsGrownTable (T : Classes) : Type 0 where
   pub grown : IsGrown T
@@ -56,7 +56,7 @@ module _ (T : Classes) (t : IsGrownTable T) where
       let above = superclass_open name superclass (rules BadSuperclass) in
       record {
         grown = WithClass T name (superclass_number T superclass) t.grown above.low above.high above.open_class;
-        table = class_table T name (Some (superclass_number T superclass)) t.table (no_value (class_named T name) (rules NameTaken)) well;
+        table = class_table T name (Some (superclass_number T superclass)) t.table (none_there (class_named T name) (rules NameTaken)) well;
       }
   line_grows (FieldLine class name signature) rules well = record {
     grown = WithField T (class_number T class) (field_of T name signature) t.grown;

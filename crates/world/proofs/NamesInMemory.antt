@@ -1,6 +1,6 @@
 -- The names of objects in memory, by name and by place.
-use Rattle.std.proofs.Common.{◌≡◌, ℕ, suc, ◌+◌, Bool, cond, List, [], ◌∷◌, ◌++◌, length, position, Some, None, Result, Ok, Err, is_err, true, false, nat_lt, refl, ap}
-use Rattle.std.specs.Prelude.{not, OnOk}
+use Rattle.std.proofs.Common.{◌≡◌, ℕ, suc, ◌+◌, Bool, cond, List, [], ◌∷◌, ◌++◌, length, position, Some, None, true, false, nat_lt, refl, ap}
+use Rattle.std.specs.Prelude.{not}
 use Rattle.std.specs.List.{prefix_len}
 use Rattle.std.specs.Str.{bytes_eq}
 use Rattle.std.specs.Map as maps
@@ -44,8 +44,3 @@ module _ (name : Identifier) where
 -- one more entry is one more name
 pub names_view-more : (es : List (Vec ℕ × ClassId)) (e : Vec ℕ × ClassId) → names_view (es ++ e ∷ []) ≡ names_view es ++ (e.0.items, e.1.number) ∷ []
 names_view-more es e = map-append (λ (f : Vec ℕ × ClassId). (f.0.items, f.1.number)) es (e ∷ [])
-
--- what holds on success, where there was no failure
-pub on_ok : {X Y : Type 0} (r : Result X Y) (P : Type 0) → OnOk r P → is_err r ≡ false → P
-on_ok (Ok x) P p h = p
-on_ok (Err y) P p h = absurd (cc)

@@ -6,17 +6,16 @@ use Rattle.std.specs.List.{list_all}
 use Rattle.std.proofs.lemmas.Bool.{and_parts, eqb-true}
 use Rattle.std.proofs.lemmas.Slice.Eq.{bytes_eq-Decides}
 use Rattle.base.specs.Bytes.{Identifier}
+use Rattle.base.proofs.Lists.{all_at, get_left}
 use Rattle.class_rules.specs.Additions.{new_class, with_class, with_changed_class}
 use Rattle.class_rules.specs.BuiltIns.{built_ins, object_array_class}
 use Rattle.class_rules.specs.Class.{ClassKind, Plain, ArrayOfNumbers, ArrayOfObjects, Class, Classes, class_at, class_named, class_kind, is_plain, array_name}
 use Rattle.class_rules.specs.Mangling.{is_class_name}
-use Rattle.classes.proofs.Layouts.{get-front}
 use Rattle.class_rules.proofs.MangledNames.{array_name-no_class}
 use Rattle.class_rules.proofs.FoundClasses.{built_ins_long}
 use Rattle.world.proofs.ChangedClasses.{changed, changed-length}
 use Rattle.world.proofs.Places.{found, position-found, found_below, kept_place, later_place}
 use Rattle.world_lines.proofs.Tests.{mapped}
-use Rattle.world_values.proofs.LoadedWorlds.{passes_at}
 
 -- ---- classes by name and number
 
@@ -76,7 +75,7 @@ get_seam (x ∷ xs) ys j = let e : length (x ∷ xs) + j ≡ suc (length xs + j)
 
 pub at_front : (T X : Classes) (c : ℕ) → c ≤ length T → class_at (T ++ X) c ≡ class_at T c
 at_front T X zero h = refl
-at_front T X (suc i) h = get-front T X i (omega (arith, h))
+at_front T X (suc i) h = get_left T X i (omega (arith, h))
 
 abbrev kind_of : Option Class → ClassKind
 kind_of o = option_map_or (λ (d : Class). d.kind) o Plain
@@ -193,7 +192,7 @@ built_ins_table = record { long = omega (arith, built_ins_long); kinds = λ c h.
             let i = at_place built_ins k d.class d.is in
             let element : element_of d.class.name ≡ name = ap element_of d.same ∙ element-array name in
             let same : bytes_eq (array_name (element_of d.class.name)) d.class.name ≡ true = (bytes_eq-Decides _ _).1 (ap array_name element ∙ sym d.same) in
-            let test = right_one (bytes_eq (array_name (element_of d.class.name)) d.class.name) (is_some (class_named built_ins (element_of d.class.name))) (passes_at (element_there built_ins) built_ins i.0 d.class built_ins_elements i.2) same in
+            let test = right_one (bytes_eq (array_name (element_of d.class.name)) d.class.name) (is_some (class_named built_ins (element_of d.class.name))) (all_at (element_there built_ins) built_ins i.0 d.class built_ins_elements i.2) same in
             absurd (let no : false ≡ true = sym (ap is_some h) ∙ ap (λ x. is_some (class_named built_ins x)) (sym element) ∙ test in cc)
 
 -- ---- one more class, and its class of arrays

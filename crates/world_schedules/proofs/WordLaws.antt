@@ -77,10 +77,6 @@ words_of-parts text =
     ∙ same_pieces (lines_in text)
     ∙ ap (flat_map (parts_of 32)) (sym (slice_split-split_at (λ b. b == 10) text)))
 
-pub both_true : (a b : Bool) → (a && b) ≡ true → (a ≡ true) × (b ≡ true)
-both_true true b h = (refl, h)
-both_true false b h = absurd (cc)
-
 -- ---- one result after another
 
 pub and_then_ok : {A B : Type 0} (r : Result A TextFault) (f : A → Result B TextFault) (y : B) → (r >>= f) ≡ Ok y → (x : A) × (r ≡ Ok x) × (f x ≡ Ok y)

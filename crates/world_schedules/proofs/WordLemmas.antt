@@ -94,8 +94,5 @@ module _ {W : Type 0} (known : W → Bool) (times apart : W → ℕ) (number cou
 
 -- ---- an emptiness test
 
-pub nonempty : (n : ℕ) → false ≡ (n == 0) → 0 < n
-nonempty n e = grind (arith, nat_tests)
-
 pub empty : (n : ℕ) → true ≡ (n == 0) → n ≡ 0
 empty n e = grind (arith, nat_tests)

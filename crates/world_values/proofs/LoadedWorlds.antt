@@ -1,5 +1,5 @@
 -- What is known of a world that is loaded: which objects are made in which order, and what their values and the calls refer to.
-use Rattle.std.proofs.Common.{◌≡◌, ℕ, ℤ, zero, suc, pos, negsuc, ◌+◌, ◌*◌, ◌<◌, ◌≤◌, Bool, true, false, List, [], ◌∷◌, ◌++◌, length, map, Option, Some, None, refl, sym, ap, ◌∙◌, subst, arith, length-append}
+use Rattle.std.proofs.Common.{◌≡◌, ℕ, ℤ, zero, suc, pos, negsuc, ◌+◌, ◌*◌, ◌<◌, ◌≤◌, true, false, List, [], ◌∷◌, ◌++◌, length, map, Option, Some, None, refl, sym, ap, ◌∙◌, subst, arith, length-append}
 use Rattle.std.specs.Prelude.{◌&&◌, ◌==◌, nat_lt, nat_le, slice_get, position, IsTrue}
 use Rattle.std.specs.List.{list_all, enumerate_from, AllZip}
 use Rattle.std.specs.Option.{option_map}
@@ -11,9 +11,11 @@ use Rattle.std.proofs.lemmas.List.Sums.{sum_by-cons}
 use Rattle.std.proofs.lemmas.Option.{slice_get-map}
 use Rattle.base.specs.Bytes.{Identifier}
 use Rattle.base.specs.Element.{ElementType, JInt, JShort, JByte, JChar}
+use Rattle.base.proofs.Lists.{all_at, get_front}
 use Rattle.class_rules.specs.BuiltIns.{class_class, out_of_memory_error}
-use Rattle.class_rules.specs.Class.{FieldType, NumberField, ReferenceField, Class, Classes, class_named, class_kind}
-use Rattle.class_rules.specs.Fields.{FieldId}
+use Rattle.class_rules.specs.Class.{FieldType, NumberField, ReferenceField, Field, Class, Classes, class_named, class_kind}
+use Rattle.class_rules.specs.Fields.{FieldId, own_statics}
+use Rattle.classes.proofs.FoundFields.{map-both}
 use Rattle.semantics.specs.Heap.{Heap, is_instance}
 use Rattle.semantics.specs.Object.{ObjectValue, Number, Refers, Object, size, sizes}
 use Rattle.semantics.specs.Reachable.{loaded_count}
@@ -38,20 +40,7 @@ class_within (d ∷ T) name c h = by_place (position (λ (x : Class). bytes_eq x
         let same : i + 1 ≡ c = cc in
         (omega arith, omega arith)
 
--- ---- lists
-
--- what passes of each passes of one
-pub passes_at : {A : Type 0} (p : A → Bool) (xs : List A) (i : ℕ) (x : A) → list_all p xs ≡ true → slice_get xs i ≡ Some x → p x ≡ true
-passes_at p [] i x h e = absurd (cc)
-passes_at p (y ∷ xs) zero x h e = let same : y ≡ x = cc in subst (λ z. p z ≡ true) same (and_parts (p y) (list_all p xs) h).0
-passes_at p (y ∷ xs) (suc i) x h e = passes_at p xs i x (and_parts (p y) (list_all p xs) h).1 e
-
 -- ---- the objects that are made at load, in their order
-
-pub get_front : {A : Type 0} (xs ys : List A) (i : ℕ) (x : A) → slice_get xs i ≡ Some x → slice_get (xs ++ ys) i ≡ Some x
-get_front [] ys i x h = absurd (cc)
-get_front (y ∷ xs) ys zero x h = h
-get_front (y ∷ xs) ys (suc i) x h = get_front xs ys i x h
 
 pub map_get : {A B : Type 0} (g : A → B) (xs : List A) (i : ℕ) (y : B) → slice_get (map g xs) i ≡ Some y → (x : A) × (slice_get xs i ≡ Some x) × (g x ≡ y)
 map_get g [] i y h = absurd (cc)
@@ -110,6 +99,12 @@ few_loaded w sound =
     omega (arith, few_objects (loaded_objects w))
 
 -- ---- values
+
+-- the values of a class object
+pub statics_new : (T : Classes) (c : ℕ) (fields : List Field) → map (λ f. let g : FieldId = record { class = c; is_static = true; field = f } in g) fields ≡ own_statics T c → map (λ (f : Field). initial f.type) fields ≡ (class_object T c).values
+statics_new T c fields e =
+    map-both (λ f. let g : FieldId = record { class = c; is_static = true; field = f } in g) (λ (g : FieldId). initial g.field.type) fields
+    ∙ ap (map (λ (g : FieldId). initial g.field.type)) e
 
 -- a new field holds a number or NULL
 pub initial_given : (made : ℕ) (fields : List FieldId) → list_all (is_argument made) (map (λ (f : FieldId). initial f.field.type) fields) ≡ true
@@ -175,10 +170,10 @@ object_given w j o sound e =
 
 -- a thread has a call
 pub thread_calls : (w : World) (k : ℕ) (calls : List Invocation) → IsSound w → slice_get w.threads k ≡ Some calls → has_call calls ≡ true
-thread_calls w k calls sound e = passes_at has_call w.threads k calls sound.calls e
+thread_calls w k calls sound e = all_at has_call w.threads k calls sound.calls e
 
 -- and each of them is given what is there
 pub calls_given : (w : World) (k : ℕ) (calls : List Invocation) → IsSound w → slice_get w.threads k ≡ Some calls → list_all (are_arguments (length (loaded_objects w))) calls ≡ true
 calls_given w k calls sound e =
     subst (λ n. list_all (are_arguments n) calls ≡ true) (sym (length-loaded w))
-    (passes_at (list_all (are_arguments (loaded_count w))) w.threads k calls sound.arguments e)
+    (all_at (list_all (are_arguments (loaded_count w))) w.threads k calls sound.arguments e)

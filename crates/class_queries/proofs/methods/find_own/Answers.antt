@@ -1,10 +1,10 @@
 use Rattle.std.proofs.Common.{◌≡◌, ℕ, suc, ◌+◌, Bool, false, cond, List, ◌∷◌, drop, filter, sym, ap, ◌∙◌, arith}
 use Rattle.std.specs.Prelude.{slice_get}
+use Rattle.base.proofs.Lists.{item_here}
 use Rattle.syntax.specs.declared.unit.Item.{Item}
 use Rattle.syntax.specs.Parts.{functions_of}
 use Rattle.syntax.specs.Views.{unit_tree, function_tree}
 use Rattle.semantics.specs.Method.{is_method_of}
-use Rattle.class_queries.proofs.FoundMethods.{item_here}
 use Rattle.class_queries.proofs.methods.find_own.Goals.{in-Static, in-Function+else-is_method_of}
 use Rattle.class_queries.proofs.methods.find_own.Goals as goal
 

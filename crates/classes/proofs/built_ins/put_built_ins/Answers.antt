@@ -1,9 +1,9 @@
 use Rattle.std.proofs.Common.{map, true}
 use Rattle.std.proofs.lemmas.Bool.{and_parts}
+use Rattle.base.proofs.Lists.{all_at}
 use Rattle.classes.specs.BuiltInList.{listed_class}
 use Rattle.classes.specs.Tables.{declares_once}
 use Rattle.classes.proofs.DistinctNames.{next_is_new, next_is_put, at-map}
-use Rattle.classes.proofs.NamedFields.{all_at}
 use Rattle.classes.proofs.built_ins.put_built_ins.Goals as goal
 
 pub put_built_in-requires-clause-new : goal.put_built_in-requires-clause-new

@@ -1,9 +1,10 @@
-use Rattle.std.proofs.Common.{◌≡◌, ℕ, Option, Some, ap, ◌∙◌, arith}
+use Rattle.std.proofs.Common.{◌≡◌, ℕ, Option, Some, ap, ◌∙◌, arith, sym}
 use Rattle.std.specs.Prelude.{slice_get}
 use Rattle.std.specs.List.{Contains}
+use Rattle.std.proofs.lemmas.Option.{same_Some}
+use Rattle.base.proofs.Lists.{Contains-from_get, get-from_contains}
 use Rattle.heap.proofs.Places.{IsAddress-within}
 use Rattle.compact.proofs.Adding.{Seen-more, Seen-none}
-use Rattle.compact.proofs.Blocks.{Contains-from_get, get-from_contains, one_root, no_root}
 use Rattle.compact.proofs.Going.{noting}
 use Rattle.compact.proofs.slicing.note_roots.Goals as goal
 use Rattle.compact.proofs.slicing.note_roots.Goals.{in-Some, in_default}
@@ -23,10 +24,10 @@ loop-place-preserved g c =
           let there = c.requires.roots w.in-Some.a (Contains-from_get (g.R.Roots.roots c.args.roots.now) c.loop-place.place (Some w.in-Some.a) read) in
           let within = IsAddress-within c.args.heap.now w.in-Some.a c.requires.laid_out there in
           let one = noting c.loop-place.marking w.note.new.self w.in-Some.a w.note.ensures (omega (arith, within, c.loop-place.invariant.adds.count, c.requires.count)) in
-          let more = Seen-more (λ x. Contains (g.R.Roots.roots c.args.roots.now) (Some x)) (λ k x. slice_get (g.R.Roots.roots c.args.roots.now) k ≡ Some (Some x)) c.args.marking.now.kept c.args.marking.now.waiting c.loop-place.marking.kept c.loop-place.marking.waiting w.note.new.self.kept w.note.new.self.waiting c.loop-place.place w.in-Some.a c.loop-place.invariant.adds c.loop-place.invariant.seen (Contains-from_get (g.R.Roots.roots c.args.roots.now) c.loop-place.place (Some w.in-Some.a) read) (λ x e. one_root x w.in-Some.a (g.R.Roots.roots c.args.roots.now) c.loop-place.place e read) one.adds one.kept in
+          let more = Seen-more (λ x. Contains (g.R.Roots.roots c.args.roots.now) (Some x)) (λ k x. slice_get (g.R.Roots.roots c.args.roots.now) k ≡ Some (Some x)) c.args.marking.now.kept c.args.marking.now.waiting c.loop-place.marking.kept c.loop-place.marking.waiting w.note.new.self.kept w.note.new.self.waiting c.loop-place.place w.in-Some.a c.loop-place.invariant.adds c.loop-place.invariant.seen (Contains-from_get (g.R.Roots.roots c.args.roots.now) c.loop-place.place (Some w.in-Some.a) read) (λ x e. same_Some x w.in-Some.a (same_Some (Some x) (Some w.in-Some.a) (sym e ∙ read))) one.adds one.kept in
           rw w.marking-is (record { adds = more.adds; seen = more.seen; marked = one.marked ∙ c.loop-place.invariant.marked })
       | in_default w ↦
-          let more = Seen-none (λ x. Contains (g.R.Roots.roots c.args.roots.now) (Some x)) (λ k x. slice_get (g.R.Roots.roots c.args.roots.now) k ≡ Some (Some x)) c.args.marking.now.kept c.args.marking.now.waiting c.loop-place.marking.kept c.loop-place.marking.waiting c.loop-place.place c.loop-place.invariant.adds c.loop-place.invariant.seen (λ x e. w.in_default.not-Some x (no_root x c.root.result (g.R.Roots.roots c.args.roots.now) c.loop-place.place c.root.ensures e)) in
+          let more = Seen-none (λ x. Contains (g.R.Roots.roots c.args.roots.now) (Some x)) (λ k x. slice_get (g.R.Roots.roots c.args.roots.now) k ≡ Some (Some x)) c.args.marking.now.kept c.args.marking.now.waiting c.loop-place.marking.kept c.loop-place.marking.waiting c.loop-place.place c.loop-place.invariant.adds c.loop-place.invariant.seen (λ x e. w.in_default.not-Some x (same_Some c.root.result (Some x) (sym c.root.ensures ∙ e))) in
           rw w.marking-is (record { adds = more.adds; seen = more.seen; marked = c.loop-place.invariant.marked })
     ]
 

@@ -1,6 +1,6 @@
 use Rattle.type_rules.specs.TypeRules.{IsWellTyped}
 use Rattle.region_rules.specs.Regions.{HasRegions}
-use Rattle.machine.proofs.SafeLoads.{all_load, all_have_calls}
+use Rattle.machine.proofs.SafeLoads.{all_load}
 use Rattle.std.proofs.Common.{◌≡◌, ℕ, zero, suc, List, [], Option, Some, length, replicate, refl, sym, ap, ◌∙◌, subst, arith}
 use Rattle.syntax.specs.Views.{unit_tree}
 use Rattle.semantics.specs.Start.{start, waiting_thread}
@@ -10,6 +10,7 @@ use Rattle.world_values.proofs.LoadedWorlds.{few_loaded}
 use Rattle.std.proofs.lemmas.List.{length-map}
 use Rattle.machine.proofs.TextBytes.{texts_are_bytes}
 use Rattle.semantics_typing.specs.Texts.{HasTexts}
+use Rattle.semantics_typing.proofs.Runs.{calls_there}
 use Rattle.machine_threads.proofs.ThreadLoads.{agree_length}
 use Rattle.syntax.specs.Parts.{statics_of}
 use Rattle.syntax.specs.declared.unit.Item.{Item}
@@ -50,7 +51,7 @@ returns-clause-begins c =
       lowered = c.items.ensures.lowered;
       safe = c.accepted_is_safe.ensures (unit_tree c.args.program.now.unit) w
           (subst (λ (l : List Item). IsWellTyped (unit_tree l)) c.items.ensures.items c.items.ensures.well_typed) (subst (λ (l : List Item). HasRegions (unit_tree l)) c.items.ensures.items c.items.ensures.regions)
-          (c.in_ok-threads.ensures.methods, all_load (unit_tree c.args.program.now.unit) w.classes w.threads c.in_ok-threads.ensures.all) (all_have_calls w.threads c.threads.ensures.sound.calls);
+          (c.in_ok-threads.ensures.methods, all_load (unit_tree c.args.program.now.unit) w.classes w.threads c.in_ok-threads.ensures.all) (calls_there w.threads c.threads.ensures.sound.calls);
       typed = c.objects_are_typed.ensures (unit_tree c.args.program.now.unit) w
           (subst (λ (l : List Item). IsWellTyped (unit_tree l)) c.items.ensures.items c.items.ensures.well_typed) (subst (λ (l : List Item). HasRegions (unit_tree l)) c.items.ensures.items c.items.ensures.regions)
           (subst (λ (l : List Item). HasTexts (unit_tree l)) c.items.ensures.items (texts_are_bytes (unit_tree c.items.result.now) c.items.ensures.tree))

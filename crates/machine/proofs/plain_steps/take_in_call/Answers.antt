@@ -1,13 +1,9 @@
-use Rattle.std.proofs.Common.{◌≡◌, ◌<◌, length, Option, Some, refl, sym, ap, ◌∙◌, arith}
-use Rattle.machine_scenes.specs.declared.activation.Activation.{Activation}
+use Rattle.std.proofs.Common.{◌<◌, length, refl, ap, ◌∙◌, arith}
 use Rattle.machine_threads.specs.Callers.{beside_callers, owner_at}
+use Rattle.machine_steps.proofs.CallsThere.{running}
 use Rattle.machine_steps.proofs.Waits.{function_there}
 use Rattle.machine.proofs.FreeSteps.{none_taken, stands_now}
 use Rattle.machine.proofs.plain_steps.take_in_call.Goals as goal
-
--- what is lent of a call is that call
-running : {o : Option Activation} {a b : Activation} → o ≡ Some a → b ≡ a → o ≡ Some b
-running is same = is ∙ ap (λ (x : Activation). Some x) (sym same)
 
 pub owner_at-owner-requires : goal.owner_at-owner-requires
 owner_at-owner-requires c =

@@ -1,10 +1,11 @@
 use Rattle.std.proofs.Common.{◌≡◌, ℕ, suc, ◌+◌, ◌-◌, List, Some, None, sym, ap, ◌∙◌, arith}
 use Rattle.std.specs.Prelude.{slice_get}
+use Rattle.base.proofs.Lists.{item_here}
 use Rattle.syntax.specs.declared.unit.Item.{Item}
 use Rattle.syntax.specs.Parts.{functions_of}
 use Rattle.syntax.specs.Tree.{Function, FunctionItem}
 use Rattle.syntax.specs.Views.{function_tree, unit_tree}
-use Rattle.machine_answers.proofs.ItemPlaces.{item_found, item_here, none_left}
+use Rattle.machine_answers.proofs.ItemPlaces.{item_found, none_left}
 use Rattle.machine_answers.proofs.answer.item_of.Goals.{in-Static, in-Function+else-before-function}
 use Rattle.machine_answers.proofs.answer.item_of.Goals as goal
 

@@ -4,9 +4,9 @@ use Rattle.std.proofs.lemmas.List.{length-set}
 use Rattle.heap.specs.declared.value.Value.{Value}
 use Rattle.heap.specs.declared.value.Value.TheVariants.{Null, Block as Refers}
 use Rattle.heap.specs.Heap.{Block, Space, IsAddress, IsLaidOut, end_of, with_block, with_noted, with_value, values_at}
+use Rattle.heap.proofs.Spaces.{block_at-fresh}
 use Rattle.machine_calls.specs.Made.{Allocates, next_block}
 use Rattle.machine_scenes.specs.NewObjects.{initial_values}
-use Rattle.machine_scenes.proofs.HeapLaws.{block_new}
 use Rattle.machine_scenes.proofs.Loaded.{changed_new, values_new}
 use Rattle.machine_calls.proofs.NotedBlocks.{address_kept, is_before, noted_before}
 use Rattle.machine_calls.proofs.make.allocate_exception.Goals as goal
@@ -31,7 +31,7 @@ module _ (s new : Space) (class birth a : ℕ) (values : List Value) (laid : IsL
   b = next_block s class birth values
 
   there : IsAddress new a
-  there = subst (λ (t : Space). IsAddress t a) (sym made.0) (subst (λ (x : ℕ). IsAddress (with_block s b) x) (sym made.2) (subst (λ (o : Option Block). IsSome o) (sym (block_new s b laid refl)) refl))
+  there = subst (λ (t : Space). IsAddress t a) (sym made.0) (subst (λ (x : ℕ). IsAddress (with_block s b) x) (sym made.2) (subst (λ (o : Option Block). IsSome o) (sym (block_at-fresh s b laid refl)) refl))
 
   held : values_at new a ≡ values
   held = (λ i. values_at (made.0 i) (made.2 i)) ∙ values_new s b laid refl

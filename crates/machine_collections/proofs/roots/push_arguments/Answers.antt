@@ -1,7 +1,7 @@
 use Rattle.std.proofs.Common.{ℕ, Option, [], ◌∷◌, ◌++◌, length, map, refl, ap, ◌∙◌, arith}
 use Rattle.std.proofs.lemmas.List.{length-map}
 use Rattle.std.proofs.lemmas.Option.{slice_get_read}
-use Rattle.compact.proofs.Tight.{get_map}
+use Rattle.base.proofs.Lists.{get_map}
 use Rattle.machine_collections.specs.Roots.{argument_place}
 use Rattle.machine_collections.proofs.Counts.{left_next, left_none}
 use Rattle.machine_collections.proofs.MovedRoots.{pushed_all, pushed_next}

@@ -1,14 +1,14 @@
 use Rattle.std.proofs.Common.{ℕ, ◌+◌, ◌≤◌, ◌++◌, List, Option, length, drop, refl, sym, ap, ◌∙◌, subst, arith, append_assoc, append-nil}
 use Rattle.std.specs.Prelude.{flat_map}
 use Rattle.std.proofs.lemmas.List.Concat.{flat_map-cons}
-use Rattle.std.proofs.lemmas.Option.{slice_get_read}
+use Rattle.std.proofs.lemmas.Option.{slice_get_read, slice_get_within}
+use Rattle.base.proofs.Lists.{drop_next}
 use Rattle.tables.specs.Locals.{AreStacked}
 use Rattle.machine_scenes.specs.declared.activation.Activation.{Activation}
 use Rattle.machine_collections.specs.Roots.{call_places}
-use Rattle.machine_threads.proofs.Lists.{drop_next}
 use Rattle.machine_collections.proofs.Counts.{counted_all, counted_next}
 use Rattle.machine_collections.proofs.MovedRoots.{drop_past}
-use Rattle.machine_collections.proofs.RootNames.{holds_more, there_within}
+use Rattle.machine_collections.proofs.RootNames.{holds_more}
 use Rattle.machine_collections.proofs.roots.push_callers.Goals as goal
 
 pub push_locals-requires : goal.push_locals-requires
@@ -49,6 +49,6 @@ returns-clause-len c =
 
 pub returns-clause-stacked : goal.returns-clause-stacked
 returns-clause-stacked c = λ i x e.
-    let less = there_within c.args.callers.now i x e in
+    let less = slice_get_within c.args.callers.now i x e in
     let past : length c.args.callers.now ≤ c.loop-caller.caller-index = c.loop-caller-test.false in
     c.loop-caller.invariant.stacked i x (omega (arith, less, past)) e

@@ -2,7 +2,7 @@ use Rattle.std.proofs.Common.{◌≡◌, ℕ, ◌+◌, ◌<◌, ◌≤◌, List,
 use Rattle.std.specs.Prelude.{slice_set}
 use Rattle.std.specs.Option.{option_map}
 use Rattle.tables.specs.References.{address_at}
-use Rattle.compact.proofs.Fronts.{front, front_all, length-front}
+use Rattle.compact.proofs.Fronts.{front_all, front_counted}
 use Rattle.machine_collections.proofs.MovedRoots.{moved_below, moved_end, slot_free, slot_live, slot_put}
 use Rattle.machine_collections.proofs.roots.put_globals.Goals as goal
 use Rattle.machine_collections.proofs.roots.put_globals.Goals.{in-Some, in_default, In-loop-place}
@@ -38,12 +38,9 @@ loop-place-preserved c =
           ∙ slot_free to c.args.globals.now places c.args.from c.loop-place.place c.root.result h less c.root.ensures w.in_default.not-Some
     ]
 
-long : (to : ℕ → ℕ) (now slots : List (Option ℕ)) (i n : ℕ) → n ≡ length now → now ≡ front (option_map to) i slots → n ≡ length slots
-long to now slots i n is same = is ∙ ap length same ∙ length-front (option_map to) i slots
-
 pub overflow_add-result : goal.overflow_add-result
 overflow_add-result c =
-    let count : c.len.result ≡ length c.args.globals.now = long c.requires.0 _ c.args.globals.now c.loop-place.place c.len.result c.len.ensures (c.loop-place.invariant c.requires.0 c.requires.1) in
+    let count : c.len.result ≡ length c.args.globals.now = front_counted c.requires.0 _ c.args.globals.now c.loop-place.place c.len.result c.len.ensures (c.loop-place.invariant c.requires.0 c.requires.1) in
     ⊎_elim
     (λ (none : length c.args.globals.now ≡ 0). omega (arith, count, none, c.ranges.from))
     (λ (some : c.args.from + length c.args.globals.now ≤ length c.args.roots.now.places.items). omega (arith, count, some, c.args.roots.now.places.ok.0))
@@ -54,4 +51,4 @@ returns-clause-moved c = λ to h. c.loop-place.invariant to h ∙ front_all (opt
 
 pub returns-clause-next : goal.returns-clause-next
 returns-clause-next c =
-    ap (λ (n : ℕ). c.args.from + n) (long c.requires.0 _ c.args.globals.now c.loop-place.place c.len.result c.len.ensures (c.loop-place.invariant c.requires.0 c.requires.1))
+    ap (λ (n : ℕ). c.args.from + n) (front_counted c.requires.0 _ c.args.globals.now c.loop-place.place c.len.result c.len.ensures (c.loop-place.invariant c.requires.0 c.requires.1))

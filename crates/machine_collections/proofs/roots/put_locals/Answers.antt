@@ -3,7 +3,7 @@ use Rattle.std.specs.Prelude.{slice_set}
 use Rattle.std.specs.Option.{option_map}
 use Rattle.tables.specs.Locals.{LocalTable}
 use Rattle.tables.specs.References.{address_at}
-use Rattle.compact.proofs.Fronts.{front, front_all, length-front}
+use Rattle.compact.proofs.Fronts.{front_all, front_counted}
 use Rattle.machine_collections.proofs.MovedRoots.{moved_below, moved_end, slot_free, slot_live, slot_put}
 use Rattle.machine_collections.proofs.roots.put_locals.Goals as goal
 use Rattle.machine_collections.proofs.roots.put_locals.Goals.{in-Some, in_default, In-loop-place}
@@ -39,12 +39,9 @@ loop-place-preserved c =
           ∙ ap (λ (l : List (Option ℕ)). let u : LocalTable = record c.args.locals.now { slots = l } in u) (slot_free to c.args.locals.now.slots places c.args.from c.loop-place.place c.root.result h less c.root.ensures w.in_default.not-Some)
     ]
 
-long : (to : ℕ → ℕ) (now slots : List (Option ℕ)) (i n : ℕ) → n ≡ length now → now ≡ front (option_map to) i slots → n ≡ length slots
-long to now slots i n is same = is ∙ ap length same ∙ length-front (option_map to) i slots
-
 pub overflow_add-result : goal.overflow_add-result
 overflow_add-result c =
-    let count : c.len.result ≡ length c.args.locals.now.slots = long c.requires.0 _ c.args.locals.now.slots c.loop-place.place c.len.result c.len.ensures.count (ap (λ (t : LocalTable). t.slots) (c.loop-place.invariant c.requires.0 c.requires.1)) in
+    let count : c.len.result ≡ length c.args.locals.now.slots = front_counted c.requires.0 _ c.args.locals.now.slots c.loop-place.place c.len.result c.len.ensures.count (ap (λ (t : LocalTable). t.slots) (c.loop-place.invariant c.requires.0 c.requires.1)) in
     ⊎_elim
     (λ (none : length c.args.locals.now.slots ≡ 0). omega (arith, count, none, c.ranges.from))
     (λ (some : c.args.from + length c.args.locals.now.slots ≤ length c.args.roots.now.places.items). omega (arith, count, some, c.args.roots.now.places.ok.0))
@@ -56,4 +53,4 @@ returns-clause-moved c = λ to h. c.loop-place.invariant to h
 
 pub returns-clause-next : goal.returns-clause-next
 returns-clause-next c =
-    ap (λ (n : ℕ). c.args.from + n) (long c.requires.0 _ c.args.locals.now.slots c.loop-place.place c.len.result c.len.ensures.count (ap (λ (t : LocalTable). t.slots) (c.loop-place.invariant c.requires.0 c.requires.1)))
+    ap (λ (n : ℕ). c.args.from + n) (front_counted c.requires.0 _ c.args.locals.now.slots c.loop-place.place c.len.result c.len.ensures.count (ap (λ (t : LocalTable). t.slots) (c.loop-place.invariant c.requires.0 c.requires.1)))

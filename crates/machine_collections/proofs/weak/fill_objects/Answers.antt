@@ -2,7 +2,7 @@ use Rattle.std.proofs.Common.{◌≡◌, ℕ, List, Option, [], ◌∷◌, ◌++
 use Rattle.std.specs.Option.{option_map}
 use Rattle.std.proofs.lemmas.List.{length-map, map-append}
 use Rattle.std.proofs.lemmas.Option.{slice_get_read}
-use Rattle.compact.proofs.Tight.{get_map}
+use Rattle.base.proofs.Lists.{get_map}
 use Rattle.semantics.specs.declared.object_id.ObjectId.{ObjectId}
 use Rattle.machine_collections.specs.Clearing.{weak_name, weak_names}
 use Rattle.machine_collections.proofs.Counts.{left_next}

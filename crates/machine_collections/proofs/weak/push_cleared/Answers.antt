@@ -3,7 +3,7 @@ use Rattle.std.specs.Prelude.{slice_get, vec_capacity, vec_len}
 use Rattle.std.specs.Option.{option_map, option_to_list}
 use Rattle.std.proofs.lemmas.List.{length-map}
 use Rattle.std.proofs.lemmas.Option.{slice_get-get_or}
-use Rattle.compact.proofs.Tight.{get_map}
+use Rattle.base.proofs.Lists.{get_map}
 use Rattle.semantics.specs.declared.object_id.ObjectId.{ObjectId}
 use Rattle.machine_scenes.specs.Statics.{StaticReference}
 use Rattle.machine_collections.specs.Clearing.{cleared_names, holds_cleared}

@@ -1,14 +1,13 @@
-use Rattle.std.proofs.Common.{◌≡◌, ℕ, zero, suc, ◌<◌, true, false, List, [], ◌∷◌, ◌++◌, Option, Some, None, length, map, reverse, sym, ap, ◌∙◌, subst, refl, arith}
-use Rattle.std.specs.Prelude.{IsSome, ◌==◌}
+use Rattle.std.proofs.Common.{◌≡◌, ℕ, zero, suc, ◌<◌, true, false, List, ◌++◌, Option, Some, length, map, reverse, sym, ap, ◌∙◌, subst, refl, arith}
+use Rattle.std.specs.Prelude.{◌==◌}
 use Rattle.std.proofs.lemmas.Bool.Decides.{Decides-eqb}
+use Rattle.std.proofs.lemmas.List.{nil_from_length}
 use Rattle.std.proofs.lemmas.Result.{err_from_is_err_and}
 use Rattle.std.specs.Global.{Vec}
-use Rattle.std.specs.Option.{option_map}
 use Rattle.syntax.specs.Views.{unit_tree}
-use Rattle.heap.specs.Heap.{Block, Space, IsAddress, block_at, left_of}
+use Rattle.heap.specs.Heap.{left_of}
 use Rattle.semantics.specs.ThreadStep.{next_effect, step_within, waits}
 use Rattle.semantics.specs.Effect.{effect_of}
-use Rattle.semantics.specs.Object.{Reference}
 use Rattle.semantics.specs.Thread as source
 use Rattle.semantics.specs.Thread.{Shared, sight_of}
 use Rattle.semantics.specs.World.{World, loaded_objects}
@@ -33,7 +32,9 @@ use Rattle.machine_steps.specs.declared.execute.Executed.TheVariants.{Did, Refus
 use Rattle.machine_steps.specs.declared.execute.Executed.TheVariants as executed
 use Rattle.machine_steps.specs.declared.execute.Executed.{Executed}
 use Rattle.machine_scenes.specs.HeapAgrees.{ReferenceAgrees}
+use Rattle.machine_scenes.proofs.BlocksOfNames.{block_there}
 use Rattle.std.specs.List.{list_all}
+use Rattle.base.proofs.Numbers.{positive}
 use Rattle.world_values.specs.CallArguments.{is_argument}
 use Rattle.world_values.specs.Views.{object_value_view}
 use Rattle.machine_threads.specs.Entry.{IsReady}
@@ -43,7 +44,7 @@ use Rattle.machine_steps.proofs.Pushes.{as_pushed, few_callers, pushed_cells, pu
 use Rattle.machine_steps.proofs.Threads.{Working, calls_of_world, did, resting, returned}
 use Rattle.machine_steps.proofs.Returns.{copier_is, first, has_called, none_below, returned_into}
 use Rattle.machine_steps.proofs.Waits.{executes, work}
-use Rattle.machine_steps.proofs.CallsThere.{running, some_by, last_of}
+use Rattle.machine_steps.proofs.CallsThere.{running, last_of}
 use Rattle.machine_steps.proofs.advance.advance.Goals as goal
 use Rattle.machine_steps.proofs.advance.advance.Goals.{After-owner_at-owner}
 
@@ -162,16 +163,6 @@ returns-in-Ok-Refused-clause-advances c others own shared s shares h steady free
     did c.args.program.now c.args.world.now c.args.store.now others c.args.number own shared c.args.thread.now s h c.execute.new.store true Quiet b.task b.rest b.is c.execute.new.activation c.execute.new.pending
     (does a others own shared s shares h steady c.get_mut.result.now (running c.in-Some.is c.get_mut.ensures.value) c.execute.new.store c.execute.new.activation c.execute.new.pending _ Refused free c.in-Ok-Refused.ensures.done c.in-Ok-Refused.field-0-is)
 
--- an address with a name is that of a block
-there_is : (o : Option Block) (n : ℕ) → option_map (λ (b : Block). b.birth) o ≡ Some n → IsSome o
-there_is None n e = absurd (cc)
-there_is (Some b) n e = refl
-
-named : (space : Space) (o : Option ℕ) (r : Reference) (a : ℕ) → ReferenceAgrees space o r → o ≡ Some a → IsAddress space a
-named space None r a h e = absurd (cc)
-named space (Some b) None a h e = absurd h
-named space (Some b) (Some n) a h e = let same : b ≡ a = cc in subst (IsAddress space) same (there_is (block_at space b) n h)
-
 -- the source's return, and what is pending
 module _ (c : After-owner_at-owner) (activation : Activation) (is : c.args.thread.now.call ≡ Some activation) where
   abbrev a : StandsReady c.args.program.now c.args.world.now c.args.number c.args.store.now c.args.thread.now
@@ -280,14 +271,10 @@ returns-in_err-push-in-Ok-Calls-clause-thread c =
 pub leave-requires : goal.leave-requires
 leave-requires c x is =
     let r = returns_there (goal.at.leave-requires c).After-owner_at-owner c.get_mut.result.now (running c.in-Some.is c.get_mut.ensures.value) c.execute.new.store c.execute.new.activation c.execute.new.pending _ c.in-Ok-Returned.value c.in-Ok-Returned.ensures.done c.in-Ok-Returned.field-0-is in
-    named c.execute.new.store.heap c.execute.new.pending c.requires.agrees.3.pending x r.3 is
+    block_there c.execute.new.store.heap c.execute.new.pending c.requires.agrees.3.pending x r.3 is
 
 none_by : (n : ℕ) → (n == 0) ≡ true → n ≡ 0
 none_by n h = (Decides-eqb n 0).0 h
-
-no_items : {A : Type 0} (xs : List A) → length xs ≡ 0 → xs ≡ []
-no_items [] h = refl
-no_items (x ∷ xs) h = absurd (cc)
 
 pub resume-requires-clause-called : goal.resume-requires-clause-called
 resume-requires-clause-called c below caller last =
@@ -305,7 +292,7 @@ returns-then-is_empty-clause-advances c others own shared s shares h steady free
     let a = (goal.at.returns-then-is_empty-clause-advances c).After-owner_at-owner in
     let b = it a others own shared s shares h steady c.get_mut.result.now (running c.in-Some.is c.get_mut.ensures.value) in
     let left = does a others own shared s shares h steady c.get_mut.result.now (running c.in-Some.is c.get_mut.ensures.value) c.execute.new.store c.execute.new.activation c.execute.new.pending _ (Returned c.in-Ok-Returned.value) free c.in-Ok-Returned.ensures.done c.in-Ok-Returned.field-0-is in
-    let none = no_items c.args.thread.now.callers.items (omega (arith, none_by c.args.thread.now.callers.len (sym c.is_empty.ensures ∙ c.if-is_empty.true), c.args.thread.now.callers.ok.0)) in
+    let none = nil_from_length c.args.thread.now.callers.items (omega (arith, none_by c.args.thread.now.callers.len (sym c.is_empty.ensures ∙ c.if-is_empty.true), c.args.thread.now.callers.ok.0)) in
     let alone = none_below p w.classes old.heap old.elements c.args.number shared (reverse c.args.thread.now.callers.items) own.callers s.callers h.callers (ap reverse none) in
     returned p w old others c.args.number own shared c.args.thread.now s h c.execute.new.store c.leave.new.store c.execute.new.pending c.leave.new.thread b.task b.rest alone b.is left.1 left.2 (steady.return left.0.0 (ap (next_effect shared s) b.is ∙ left.0.1)) left.3 c.requires.agrees.6 (left.0.0, left.0.1) c.leave.ensures.call c.leave.ensures.entering (ap (λ (v : Vec Activation). v.items) c.leave.ensures.callers ∙ none) c.leave.ensures.pending c.leave.ensures.calls c.leave.ensures.ending c.leave.ensures.monitors
 
@@ -319,7 +306,7 @@ returns-else-is_empty-clause-advances c others own shared s shares h steady free
     let a = (goal.at.returns-else-is_empty-clause-advances c).After-owner_at-owner in
     let b = it a others own shared s shares h steady c.get_mut.result.now (running c.in-Some.is c.get_mut.ensures.value) in
     let left = does a others own shared s shares h steady c.get_mut.result.now (running c.in-Some.is c.get_mut.ensures.value) c.execute.new.store c.execute.new.activation c.execute.new.pending _ (Returned c.in-Ok-Returned.value) free c.in-Ok-Returned.ensures.done c.in-Ok-Returned.field-0-is in
-    let some : 0 < length t.callers.items = omega (arith, some_by t.callers.len (sym c.is_empty.ensures ∙ c.if-is_empty.false), t.callers.ok.0) in
+    let some : 0 < length t.callers.items = omega (arith, positive t.callers.len (sym c.is_empty.ensures ∙ c.if-is_empty.false), t.callers.ok.0) in
     let e = last_of t.callers.items some in
     let f = first p w old others k own shared t s h e.0 e.1 e.2 in
     returned_into p w old others k own shared t s h e.0 e.1 e.2 c.requires.lowered shares (steady.callers f.caller f.below f.is) b.task b.rest b.is

@@ -3,14 +3,12 @@ use Rattle.std.specs.Prelude.{slice_get}
 use Rattle.std.specs.Option.{option_to_list}
 use Rattle.std.specs.Global.{Vec}
 use Rattle.std.specs.Vec.{with_items}
-use Rattle.std.proofs.lemmas.List.{with_items_is, places}
+use Rattle.std.proofs.lemmas.List.{places, same_from_push, with_items_is}
 use Rattle.std.proofs.lemmas.Option.{slice_get_within}
 use Rattle.code.specs.Call.{Call, call_view}
 use Rattle.code.specs.Depth.{Listing}
 use Rattle.code.specs.declared.instr.Instr.{Instr}
 use Rattle.code.specs.declared.instr.Instr.TheVariants as instr
-use Rattle.code.specs.declared.instr.Target.{Target}
-use Rattle.code.specs.declared.instr.Target.TheVariants as target
 use Rattle.code_meaning.specs.Lowered.{Lowered, IsLowered}
 use Rattle.jni.specs.JniFunction.{prototype}
 use Rattle.jni.specs.Prototype.{ResultKind}
@@ -24,28 +22,11 @@ use Rattle.machine_threads.specs.declared.thread.Thread.{Thread}
 use Rattle.machine_steps.specs.Received.{HasRoom, HasStatic, HasTarget, Receives, statics_with}
 use Rattle.machine_steps.specs.Resumed.{HasCalled, Resumes}
 use Rattle.machine_steps.specs.Returned.{given_back}
+use Rattle.machine_steps.proofs.MonitorCalls.{statics_stay}
 use Rattle.machine_steps.proofs.Returns.{calls_it, has_room, has_static, has_target}
 use Rattle.machine_steps.proofs.CallsThere.{running}
 use Rattle.machine_steps.proofs.advance.resume.Goals as goal
 use Rattle.machine_steps.proofs.advance.resume.Goals.{After-call-call, After-get_mut-caller}
-
--- the last of a list
-ends_same : {A : Type 0} (xs ys : List A) (x y : A) → xs ++ x ∷ [] ≡ ys ++ y ∷ [] → (xs ≡ ys) × (x ≡ y)
-ends_same [] [] x y e = (refl, cc)
-ends_same [] (b ∷ ys) x y e = absurd (nothing ys y (let rest : [] ≡ ys ++ y ∷ [] = cc in rest))
-  where
-    nothing : {A : Type 0} (ys : List A) (y : A) → [] ≡ ys ++ y ∷ [] → ⊥
-    nothing [] y e = cc
-    nothing (b ∷ ys) y e = cc
-ends_same (a ∷ xs) [] x y e = absurd (nothing xs x (let rest : xs ++ x ∷ [] ≡ [] = cc in rest))
-  where
-    nothing : {A : Type 0} (ys : List A) (y : A) → ys ++ y ∷ [] ≡ [] → ⊥
-    nothing [] y e = cc
-    nothing (b ∷ ys) y e = cc
-ends_same {A} (a ∷ xs) (b ∷ ys) x y e =
-    let first : a ≡ b = cc in
-    let r = ends_same xs ys x y (let rest : xs ++ x ∷ [] ≡ ys ++ y ∷ [] = cc in rest) in
-    (ap (λ (z : A). z ∷ xs) first ∙ ap (λ (l : List A). b ∷ l) r.0, r.1)
 
 -- the caller
 last : (items left : List Activation) (o : Option Activation) (caller : Activation) → items ≡ left ++ option_to_list o → o ≡ Some caller → items ≡ left ++ caller ∷ []
@@ -150,7 +131,7 @@ goes_on : (c : After-call-call) (g : Given) (call : Activation) (spare : Option 
     → statics.items ≡ statics_with c.call-call.result.now.target g c.args.store.now.statics.items
     → Resumes c.args.program.now c.args.value caller below c.args.store.now (record c.args.store.now { statics = statics }) c.args.thread.now (record c.args.thread.now { call = Some call; callers = c.pop.new.self; spare = spare })
 goes_on c g call spare statics below caller is of receives put =
-    let same = ends_same c.pop.new.self.items below c.get_mut-caller.result.now caller (sym (popped_it c) ∙ is) in
+    let same = same_from_push c.pop.new.self.items below c.get_mut-caller.result.now caller (sym (popped_it c) ∙ is) in
     let p = c.args.program.now in
     let old = c.args.store.now in
     let t = c.args.thread.now in
@@ -181,24 +162,13 @@ goes_on c g call spare statics below caller is of receives put =
       stacked = c.frames.ensures.stacked;
     }))
 
--- a number goes to no static
-not_static : (target : Target) (word : ℕ) (statics : List StaticReference) → statics ≡ statics_with target (given.Number word) statics
-not_static (target.Number i) word statics = refl
-not_static (target.Local i) word statics = refl
-not_static (target.FieldId i) word statics = refl
-not_static (target.MethodId i) word statics = refl
-not_static (target.Static i) word statics = refl
-not_static (target.Buffer e i) word statics = refl
-not_static target.Test word statics = refl
-not_static target.Dropped word statics = refl
-
 pub returns-in-None-GivesInt-Number : goal.returns-in-None-GivesInt-Number
 returns-in-None-GivesInt-Number c below caller is =
     let o = (goal.at.returns-in-None-GivesInt-Number c).After-call-call in
     goes_on o (given.Number c.in-None-GivesInt-Number.word) c.receive_word.new.activation c.swap.new.y c.args.store.now.statics below caller is
     (λ j. given_back (sym c.in-None-GivesInt-Number.is-0 j) (result_value (sym c.in-None-GivesInt-Number.is-1 j)) (sym c.in-None-GivesInt-Number.is-2 j))
     (c.receive_word.ensures (result_value c.call-call.result.now.result) None)
-    (not_static c.call-call.result.now.target c.in-None-GivesInt-Number.word c.args.store.now.statics.items)
+    (statics_stay c.call-call.result.now.target c.in-None-GivesInt-Number.word c.args.store.now.statics.items)
 
 pub returns-in_default-2 : goal.returns-in_default-2
 returns-in_default-2 c below caller is =

@@ -1,5 +1,6 @@
-use Rattle.std.proofs.Common.{◌≡◌, ℕ, false, List, Option, Some, None, is_some, refl, sym, ◌∙◌, subst}
+use Rattle.std.proofs.Common.{ℕ, List, sym, ◌∙◌, subst}
 use Rattle.std.specs.Prelude.{length}
+use Rattle.base.proofs.Options.{none_there}
 use Rattle.machine_threads.specs.Entry.{IsReady}
 use Rattle.machine_steps.proofs.ChangedCalls.{entry_waits, ready_to_enter}
 use Rattle.machine_steps.proofs.Entries.{enters}
@@ -11,10 +12,6 @@ enter_again-requires c entering is =
     let a = c.requires.stands in
     subst (λ (l : List ℕ). IsReady c.args.program.now (length l) entering) (sym c.deref.ensures.value)
     (ready_to_enter c.args.program.now c.args.world.now c.args.store.now a.0 c.args.number a.1 a.2 c.args.thread.now a.3 c.requires.lowered a.4 entering is)
-
-none_there : {A : Type 0} (o : Option A) → is_some o ≡ false → o ≡ None
-none_there None e = refl
-none_there (Some x) e = absurd (cc)
 
 pub returns-clause-steps : goal.returns-clause-steps
 returns-clause-steps c is others own shared s stands =

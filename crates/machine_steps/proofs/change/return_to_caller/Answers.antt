@@ -16,7 +16,8 @@ use Rattle.machine_steps.specs.declared.execute.ReturnValue.{ReturnValue}
 use Rattle.machine_scenes.specs.declared.store.Store.{Store}
 use Rattle.semantics.specs.declared.event.Event.TheVariants.{Quiet}
 use Rattle.std.specs.Prelude.{◌==◌}
-use Rattle.machine_steps.proofs.CallsThere.{running, some_by, last_of}
+use Rattle.base.proofs.Numbers.{positive}
+use Rattle.machine_steps.proofs.CallsThere.{running, last_of}
 use Rattle.machine_steps.proofs.change.return_to_caller.Goals as goal
 use Rattle.machine_steps.proofs.change.return_to_caller.Goals.{After-instr_at-instr}
 
@@ -43,7 +44,7 @@ fetched c = record {
 }
 
 some_callers : (c : After-instr_at-instr) → 0 < length c.args.thread.now.callers.items
-some_callers c = omega (arith, some_by c.args.thread.now.callers.len (sym c.is_empty.ensures ∙ c.if-is_empty.false), c.args.thread.now.callers.ok.0)
+some_callers c = omega (arith, positive c.args.thread.now.callers.len (sym c.is_empty.ensures ∙ c.if-is_empty.false), c.args.thread.now.callers.ok.0)
 
 -- an instruction that leaves a function without a number
 by_return : (i : Instr) → (i ≡ instr.Return) ⊎ ((o : ReferenceOperand) × (i ≡ instr.ReturnReference o)) → IsReturn i

@@ -1,6 +1,6 @@
 use Rattle.std.specs.Vec.{with_items}
-use Rattle.std.specs.Prelude.{slice_get, slice_set, if◌then◌else◌}
-use Rattle.std.proofs.lemmas.List.{with_items_is, places, length-set}
+use Rattle.std.specs.Prelude.{slice_get}
+use Rattle.std.proofs.lemmas.List.{with_items_is, places}
 use Rattle.std.proofs.Common.{rules, ◌≡◌, ℕ, Bool, true, false, List, Option, length, refl, sym, ap, ◌∙◌, subst, arith}
 use Rattle.code.specs.Call.{call_view}
 use Rattle.code.specs.declared.instr.Call.{Call}
@@ -20,15 +20,13 @@ use Rattle.semantics.specs.World.{World}
 use Rattle.semantics_safety.specs.Owners.{Owners}
 use Rattle.tables.specs.Locals.{LocalTable}
 use Rattle.machine_answers.specs.Answers.{IsAnswer}
-use Rattle.machine_scenes.specs.Buffers.{Acquired, gives_up}
-use Rattle.machine_calls.specs.CarriedOut.{CarriesOut, GoesByRoom, buffers_after, made_by, shared_after, slots_after}
+use Rattle.machine_scenes.specs.Buffers.{Acquired}
+use Rattle.machine_calls.specs.CarriedOut.{CarriesOut, GoesByRoom, made_by, shared_after, slots_after}
 use Rattle.machine_answers.specs.Copies.{words_of}
 use Rattle.machine_scenes.specs.declared.activation.Activation.{Activation}
 use Rattle.machine_answers.specs.declared.answer.Answer.{Answer}
 use Rattle.machine_answers.specs.declared.answer.Answer.TheVariants as answers
 use Rattle.machine_answers.specs.declared.answer.Given.{Given}
-use Rattle.machine_scenes.specs.declared.buffer.Buffer.{Buffer}
-use Rattle.machine_scenes.specs.declared.buffer.Buffer.TheVariants as buffer
 use Rattle.machine_scenes.specs.Statics.{StaticReference}
 use Rattle.machine_scenes.specs.declared.store.Store.{Store}
 use Rattle.machine_calls.proofs.CellsMade.{cells_made}
@@ -43,7 +41,7 @@ use Rattle.machine_steps.specs.declared.invoke.Invoked.TheVariants as invoked
 use Rattle.machine_steps.specs.Received.{told_slot, statics_with, HasBuffer, HasField, HasNumber, HasReference, HasRoom, HasStatic, HasTold, Receives}
 use Rattle.machine_steps.proofs.AnsweredCalls.{IsNoCall, answered, brings, can_carry, does, free, it, kind_is, no_call, told}
 use Rattle.machine_steps.proofs.AskedCalls.{has_static, has_target, has_told, room_after}
-use Rattle.machine_steps.proofs.CallInstructions.{goes_on}
+use Rattle.machine_steps.proofs.CallInstructions.{goes_on, buffers_long}
 use Rattle.machine_steps.proofs.invoke.finish.Goals as goal
 
 -- the machine is at a call that no check stops
@@ -75,14 +73,6 @@ module _ (p : Lowered) (w : World) (store : Store) (pending : Option ℕ) (call 
 numbers_long : (space : Space) (answer : Answer) (numbers : List ℕ) → length (slots_after space answer numbers) ≡ length numbers
 numbers_long space (answers.CopiesOut region) numbers = length_overlaid numbers region.slot (words_of space region)
 numbers_long space answer numbers = refl
-
-buffers_long : (answer : Answer) (buffers : List Buffer) → length (buffers_after answer buffers) ≡ length buffers
-buffers_long (answers.Releases r) buffers = by_mode (gives_up r.mode)
-  where
-    by_mode : (b : Bool) → length (if b then slice_set buffers r.slot buffer.Null else buffers) ≡ length buffers
-    by_mode true = length-set buffers r.slot buffer.Null
-    by_mode false = refl
-buffers_long answer buffers = refl
 
 pub carry_out-requires-clause-possible : goal.carry_out-requires-clause-possible
 carry_out-requires-clause-possible c =

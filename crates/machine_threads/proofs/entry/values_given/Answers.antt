@@ -2,6 +2,7 @@ use Rattle.std.proofs.Common.{◌≡◌, pos, ◌+◌, List, [], ◌∷◌, ◌+
 use Rattle.std.specs.Prelude.{slice_get}
 use Rattle.std.proofs.lemmas.List.{map-append, take_all}
 use Rattle.std.proofs.lemmas.Option.{slice_get-get_or}
+use Rattle.base.proofs.Lists.{take_next}
 use Rattle.heap.specs.declared.value.Value.{Value}
 use Rattle.semantics.specs.declared.object_value.ObjectValue.{ObjectValue as Argument}
 use Rattle.semantics.specs.declared.object_value.ObjectValue.TheVariants.{Number}
@@ -9,7 +10,6 @@ use Rattle.world_values.specs.CallArguments.{is_argument}
 use Rattle.world_values.specs.Views.{object_value_view}
 use Rattle.machine_threads.specs.Held.{held_value}
 use Rattle.machine_threads.proofs.ArgumentSlots.{argument_at}
-use Rattle.machine_threads.proofs.Lists.{take_next}
 use Rattle.machine_threads.proofs.entry.values_given.Goals as goal
 
 pub held-requires : goal.held-requires

@@ -2,9 +2,9 @@ use Rattle.std.proofs.Common.{ℕ, ◌+◌, List, Option, Some, length, map, ref
 use Rattle.std.specs.Prelude.{slice_get}
 use Rattle.syntax.specs.Views.{unit_tree}
 use Rattle.std.proofs.lemmas.Option.{slice_get_read}
+use Rattle.base.proofs.Lists.{all_at}
 use Rattle.semantics.specs.World.{Invocation, loaded_objects}
 use Rattle.machine_threads.proofs.LoadLemmas.{AgreeSoFar, all_agree, loads_at, none_refused, one_more, refused_at, some_call}
-use Rattle.world_values.proofs.LoadedWorlds.{passes_at}
 use Rattle.world_values.specs.CallArguments.{are_arguments}
 use Rattle.machine_threads.specs.declared.thread.PendingCall.{PendingCall}
 use Rattle.machine_threads.specs.Loading.{IsCallOf}
@@ -13,7 +13,7 @@ use Rattle.machine_threads.proofs.load.load_thread.Goals as goal
 
 pub load_call-requires-clause-given : goal.load_call-requires-clause-given
 load_call-requires-clause-given c =
-    passes_at (are_arguments (length (loaded_objects c.args.world.now))) c.args.calls.now c.loop-call.call-index _ c.requires.given
+    all_at (are_arguments (length (loaded_objects c.args.world.now))) c.args.calls.now c.loop-call.call-index _ c.requires.given
     (slice_get_read c.args.calls.now (length c.args.calls.now) c.loop-call.call-index c.call-item.result refl c.loop-call-test.true c.call-item.is)
 
 pub returns-clause-agrees : goal.returns-clause-agrees

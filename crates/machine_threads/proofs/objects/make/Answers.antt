@@ -3,11 +3,11 @@ use Rattle.std.specs.Prelude.{slice_get, slice_index_or, IsSome}
 use Rattle.std.specs.Option.{option_map}
 use Rattle.std.proofs.lemmas.List.{length-map}
 use Rattle.std.proofs.lemmas.Option.{slice_get-map, slice_get-get_or}
+use Rattle.base.proofs.Lists.{all_at}
 use Rattle.heap.specs.declared.value.Value.TheVariants.{Null}
 use Rattle.heap.specs.Heap.{Space, end_of, fresh_block, with_block, with_value, values_at}
 use Rattle.heap.specs.Marks.{Marks, with_new}
 use Rattle.semantics.specs.Object.{ObjectValue}
-use Rattle.world_values.proofs.LoadedWorlds.{passes_at}
 use Rattle.world_values.specs.CallArguments.{is_argument}
 use Rattle.semantics.specs.declared.object_value.ObjectValue.{ObjectValue as InMemory}
 use Rattle.world_values.specs.Views.{object_value_view}
@@ -44,7 +44,7 @@ held-requires c =
     let i = c.loop-place.place in
     let same : length c.args.loaded.now.items ≡ length c.deref.result.now = sym (ap length (c.deref.ensures.value ∙ c.in_ok-reserve.ensures.items)) in
     subst (λ n. is_argument n (object_value_view (slice_index_or xs i (InMemory.Number (lib.IntN.pos 0)))) ≡ true) same
-    (passes_at (is_argument (length c.args.loaded.now.items)) (map object_value_view xs) i _ c.requires.given (value_read xs i _ c.loop-place-test.true))
+    (all_at (is_argument (length c.args.loaded.now.items)) (map object_value_view xs) i _ c.requires.given (value_read xs i _ c.loop-place-test.true))
 
 pub set-requires-clause-place : goal.set-requires-clause-place
 set-requires-clause-place c =

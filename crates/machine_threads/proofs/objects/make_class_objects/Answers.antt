@@ -1,26 +1,19 @@
-use Rattle.std.proofs.Common.{◌≡◌, ℕ, ◌+◌, true, List, [], ◌∷◌, ◌++◌, length, map, take, sym, ap, ◌∙◌, subst, arith}
+use Rattle.std.proofs.Common.{◌≡◌, ◌+◌, true, List, [], ◌∷◌, ◌++◌, length, map, take, sym, ap, ◌∙◌, subst, arith}
 use Rattle.std.specs.List.{list_all}
 use Rattle.std.proofs.lemmas.List.{length-map}
-use Rattle.classes.proofs.FoundFields.{map-both}
 use Rattle.class_rules.specs.BuiltIns.{class_class}
-use Rattle.class_rules.specs.Class.{Field, Classes}
-use Rattle.class_rules.specs.Fields.{FieldId, own_statics}
+use Rattle.class_rules.specs.Class.{Classes}
+use Rattle.class_rules.specs.Fields.{own_statics}
 use Rattle.semantics.specs.Heap.{Heap}
 use Rattle.semantics.specs.Object.{ObjectValue, Object}
-use Rattle.semantics.specs.World.{initial, class_object, loaded_objects}
-use Rattle.world_values.proofs.LoadedWorlds.{loaded_class, initial_given}
+use Rattle.semantics.specs.World.{class_object, loaded_objects}
+use Rattle.world_values.proofs.LoadedWorlds.{loaded_class, initial_given, statics_new}
 use Rattle.world_values.specs.CallArguments.{is_argument}
 use Rattle.world_values.specs.Views.{object_value_view}
 use Rattle.machine_scenes.specs.HeapAgrees.{AreMade}
 use Rattle.machine_threads.proofs.MadeInOrder.{room, next}
 use Rattle.machine_threads.proofs.objects.make_class_objects.Goals.{After-deref}
 use Rattle.machine_threads.proofs.objects.make_class_objects.Goals as goal
-
--- the values of a class object
-statics_new : (T : Classes) (c : ℕ) (fields : List Field) → map (λ f. let g : FieldId = record { class = c; is_static = true; field = f } in g) fields ≡ own_statics T c → map (λ (f : Field). initial f.type) fields ≡ (class_object T c).values
-statics_new T c fields e =
-    map-both (λ f. let g : FieldId = record { class = c; is_static = true; field = f } in g) (λ (g : FieldId). initial g.field.type) fields
-    ∙ ap (map (λ (g : FieldId). initial g.field.type)) e
 
 values_are : (c : After-deref) → map object_value_view c.deref.result.now ≡ (class_object c.args.world.now.classes (c.loop-place.place + 1)).values
 values_are c =

@@ -1,4 +1,5 @@
 use Rattle.std.proofs.Common.{◌≡◌, List, [], ◌∷◌, ◌++◌, length, map, take, sym, ap, ◌∙◌}
+use Rattle.base.proofs.Lists.{take_next}
 use Rattle.class_rules.specs.BuiltIns.{out_of_memory_error}
 use Rattle.class_rules.specs.Class.{Classes}
 use Rattle.class_rules.specs.Fields.{FieldId, layout}
@@ -7,7 +8,6 @@ use Rattle.semantics.specs.Object.{ObjectValue, Object}
 use Rattle.semantics.specs.World.{initial, fresh_object, loaded_objects}
 use Rattle.world_values.proofs.LoadedWorlds.{loaded_error}
 use Rattle.world_values.specs.Views.{object_value_view}
-use Rattle.replay_objects.proofs.Lists.{take_next}
 use Rattle.replay_objects.proofs.loaded.loaded_store.Goals as goal
 
 pub make_objects-requires : goal.make_objects-requires

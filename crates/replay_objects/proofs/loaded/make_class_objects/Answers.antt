@@ -1,23 +1,16 @@
-use Rattle.std.proofs.Common.{◌≡◌, ℕ, ◌+◌, List, [], ◌∷◌, ◌++◌, length, map, take, sym, ap, ◌∙◌, arith, true}
+use Rattle.std.proofs.Common.{◌≡◌, ◌+◌, List, [], ◌∷◌, ◌++◌, length, map, take, sym, ap, ◌∙◌, arith}
 use Rattle.std.proofs.lemmas.List.{length-map}
-use Rattle.classes.proofs.FoundFields.{map-both}
+use Rattle.base.proofs.Lists.{take_next}
 use Rattle.class_rules.specs.BuiltIns.{class_class}
-use Rattle.class_rules.specs.Class.{Field, Classes}
-use Rattle.class_rules.specs.Fields.{FieldId, own_statics}
+use Rattle.class_rules.specs.Class.{Classes}
+use Rattle.class_rules.specs.Fields.{own_statics}
 use Rattle.semantics.specs.Heap.{Heap}
 use Rattle.semantics.specs.Object.{ObjectValue, Object}
-use Rattle.semantics.specs.World.{initial, class_object, loaded_objects}
-use Rattle.world_values.proofs.LoadedWorlds.{loaded_class}
+use Rattle.semantics.specs.World.{class_object, loaded_objects}
+use Rattle.world_values.proofs.LoadedWorlds.{loaded_class, statics_new}
 use Rattle.world_values.specs.Views.{object_value_view}
-use Rattle.replay_objects.proofs.Lists.{take_next}
 use Rattle.replay_objects.proofs.LoadedLemmas.{loaded_short}
 use Rattle.replay_objects.proofs.loaded.make_class_objects.Goals as goal
-
--- the values of a class object
-statics_new : (T : Classes) (c : ℕ) (fields : List Field) → map (λ f. let g : FieldId = record { class = c; is_static = true; field = f } in g) fields ≡ own_statics T c → map (λ (f : Field). initial f.type) fields ≡ (class_object T c).values
-statics_new T c fields e =
-    map-both (λ f. let g : FieldId = record { class = c; is_static = true; field = f } in g) (λ (g : FieldId). initial g.field.type) fields
-    ∙ ap (map (λ (g : FieldId). initial g.field.type)) e
 
 pub add-requires : goal.add-requires
 add-requires c =

@@ -2,13 +2,13 @@ use Rattle.std.proofs.Common.{◌≡◌, ℕ, ◌+◌, List, [], ◌∷◌, ◌+
 use Rattle.std.specs.Prelude.{slice_get}
 use Rattle.std.proofs.lemmas.List.{length-map, take_all}
 use Rattle.std.proofs.lemmas.Option.{slice_get_read}
+use Rattle.base.proofs.Lists.{take_next}
 use Rattle.semantics.specs.Heap.{Heap}
 use Rattle.semantics.specs.Object.{ObjectValue, Object}
 use Rattle.semantics.specs.World.{loaded_objects}
 use Rattle.semantics.proofs.ShownRows.{length-loaded}
 use Rattle.world_values.proofs.LoadedWorlds.{loaded_object}
 use Rattle.world_values.specs.Views.{object_value_view}
-use Rattle.replay_objects.proofs.Lists.{take_next}
 use Rattle.replay_objects.proofs.LoadedLemmas.{loaded_short}
 use Rattle.replay_objects.proofs.loaded.make_objects.Goals as goal
 

@@ -2,8 +2,7 @@ use Rattle.std.proofs.lemmas.Result.{err_from_is_err_and}
 use Rattle.report.specs.ReportText.{report_text}
 use Rattle.report.specs.Shown.{report_with}
 use Rattle.semantics.specs.JournalText.{journal_line}
-use Rattle.sinks.proofs.Puts.{AppendsText-then, StopsWithin-then, StopsWithin-more}
-use Rattle.report.proofs.ReportLemmas.{Writes-flushed}
+use Rattle.sinks.proofs.Puts.{AppendsText-then, StopsWithin-then, StopsWithin-more, Writes-flushed}
 use Rattle.report.proofs.writing.write_run.Goals as goal
 
 pub returns-in_err-write_report-clause-text : goal.returns-in_err-write_report-clause-text

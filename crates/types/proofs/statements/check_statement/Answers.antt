@@ -1,8 +1,9 @@
 use Rattle.std.proofs.Common.{OnOk, take, subst, sym, ap, ◌∙◌}
 use Rattle.syntax.specs.Views.{result_tree, stmt_tree}
+use Rattle.syntax.proofs.StatementLines.{line_is}
 use Rattle.type_rules.specs.TypeRules.{typing_rules}
 use Rattle.types.specs.Faults.{Tells, scope_of, refused_of}
-use Rattle.types.proofs.StatementLemmas.{statement-faults, line-of}
+use Rattle.types.proofs.StatementLemmas.{statement-faults}
 use Rattle.types.proofs.KeptLemmas.{tells-none}
 use Rattle.types.proofs.JudgedLemmas.{judged-none}
 use Rattle.types.proofs.statements.check_statement.Goals as goal
@@ -14,7 +15,7 @@ returns-in-Some c =
     let taken = c.args.taken.now in
     let s = stmt_tree c.args.stmt.now in
     subst (λ broken. OnOk c.keep_broken.result (Tells c.args.all c.args.faults.now.items c.keep_broken.new.faults.items (take 1 broken)))
-    (sym (statement-faults returned known taken s ∙ ap (λ line. refused_of returned known taken s line typing_rules) (line-of c.args.stmt.now.line c.args.stmt.now.form)))
+    (sym (statement-faults returned known taken s ∙ ap (λ line. refused_of returned known taken s line typing_rules) (line_is c.args.stmt.now.line c.args.stmt.now.form)))
     (c.keep_broken.ensures _ (c.in-Some.ensures c.args.stmt.now.line))
 
 pub returns-in-None : goal.returns-in-None
@@ -26,5 +27,5 @@ returns-in-None c =
     let line = c.args.stmt.now.line in
     let faults = c.args.faults.now.items in
     subst (λ broken. Tells c.args.all faults faults (take 1 broken))
-    (sym (statement-faults returned known taken s ∙ ap (λ line. refused_of returned known taken s line typing_rules) (line-of line c.args.stmt.now.form) ∙ judged-none line _ (c.in-None.ensures line)))
+    (sym (statement-faults returned known taken s ∙ ap (λ line. refused_of returned known taken s line typing_rules) (line_is line c.args.stmt.now.form) ∙ judged-none line _ (c.in-None.ensures line)))
     (tells-none c.args.all faults)

@@ -1,8 +1,9 @@
 use Rattle.std.proofs.Common.{◌≡◌, ℕ, ◌+◌, ◌-◌, ◌<◌, ◌≤◌, length, subst, slice_get, ◌∙◌, ap, sym, false, arith, length-append}
 use Rattle.std.specs.Option.{option_map}
+use Rattle.base.proofs.Lists.{get_left}
 use Rattle.class_rules.specs.Fields.{own_fields}
 use Rattle.classes.proofs.FoundFields.{identified}
-use Rattle.classes.proofs.Layouts.{layout_within, layout-above, layout-top, own-within, own-length, at-own, get-front}
+use Rattle.classes.proofs.Layouts.{layout_within, layout-above, layout-top, own-within, own-length, at-own}
 use Rattle.classes.proofs.table.ClassTable.layout_field.Goals as goal
 
 pub overflow_sub-start : goal.overflow_sub-start
@@ -46,7 +47,7 @@ loop-preserved c =
     record {
       within = omega arith;
       counted = count;
-      same = sym (get-front front (own_fields T c.loop.declarer.number) c.args.place within) ∙ ap (λ w. slice_get w c.args.place) (sym whole) ∙ c.loop.invariant.same;
+      same = sym (get_left front (own_fields T c.loop.declarer.number) c.args.place within) ∙ ap (λ w. slice_get w c.args.place) (sym whole) ∙ c.loop.invariant.same;
     }
 
 pub returns : goal.returns

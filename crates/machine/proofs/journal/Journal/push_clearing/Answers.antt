@@ -1,7 +1,7 @@
-use Rattle.std.proofs.Common.{◌≡◌, ◌+◌, ◌<◌, ℕ, zero, suc, false, List, [], ◌∷◌, ◌++◌, length, sym, ap, ◌∙◌, arith}
-use Rattle.std.specs.Prelude.{◌==◌}
+use Rattle.std.proofs.Common.{◌≡◌, ◌+◌, ◌<◌, List, [], ◌∷◌, ◌++◌, length, sym, ap, ◌∙◌, arith}
 use Rattle.std.specs.Global.{Vec}
 use Rattle.std.proofs.lemmas.List.{length-append}
+use Rattle.base.proofs.Numbers.{positive}
 use Rattle.semantics.specs.Journal.{Entry, Clearing, clearings_in}
 use Rattle.semantics.specs.Views.{names_of}
 use Rattle.semantics.specs.declared.object_id.ObjectId.{ObjectId}
@@ -20,11 +20,6 @@ noted c =
     ∙ ap (λ (l : List (Vec ObjectId)). entries_of (j.notes.items ++ _ ∷ []) l) c.push_reserved-then-not-is_empty.ensures.items
     ∙ clearing_noted j.notes.items j.cleared.items c.args.objects c.self.invariant
 
--- a number that isn't 0
-not_none : (n : ℕ) → false ≡ (n == 0) → 0 < n
-not_none zero h = absurd (cc)
-not_none (suc n) h = omega arith
-
 pub invariant_of-self : goal.invariant_of-self
 invariant_of-self c =
     let a = (goal.at.invariant_of-self c).After-push_reserved-then-not-is_empty in
@@ -38,6 +33,6 @@ invariant_of-self c =
 pub returns-then-not-is_empty-clause-entries : goal.returns-then-not-is_empty-clause-entries
 returns-then-not-is_empty-clause-entries c =
     let a = (goal.at.returns-then-not-is_empty-clause-entries c).After-push_reserved-then-not-is_empty in
-    let some : 0 < length c.args.objects.items = omega (arith, not_none _ c.if-not-is_empty.ensures, c.args.objects.ok) in
+    let some : 0 < length c.args.objects.items = omega (arith, positive _ (sym c.if-not-is_empty.ensures), c.args.objects.ok) in
     noted a ∙ ap (λ (w : Writing). w.entries ++ Clearing (names_of c.args.objects.items) ∷ []) c.self.view_is
     ∙ ap (λ (l : List Entry). c.args.self.now.entries ++ l) (sym (is_told c.args.objects.items some))

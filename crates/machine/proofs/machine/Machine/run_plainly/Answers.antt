@@ -4,7 +4,7 @@ use Rattle.semantics.specs.declared.schedule.ScheduleWord.TheVariants.{Turn as W
 use Rattle.semantics.specs.EventViews.{ending_view}
 use Rattle.semantics.specs.Step.{is_unfinished}
 use Rattle.std.proofs.lemmas.Option.{slice_get_within}
-use Rattle.machine_answers.proofs.SetPlaces.{get_set_same}
+use Rattle.base.proofs.Lists.{get_set_same}
 use Rattle.machine.specs.declared.turn.Turn.{Turn}
 use Rattle.semantics.specs.declared.event.Stop.{Stop}
 use Rattle.machine.specs.Run.{CanGoOn, Corresponds, Run, RunsAlong, WentOn, replay_of, seen}

@@ -1,7 +1,8 @@
 use Rattle.std.proofs.Common.{ap, sym, ◌∙◌}
+use Rattle.base.proofs.Results.{on_ok}
 use Rattle.semantics.specs.Variable.{Statics, assign}
 use Rattle.replay_terms.specs.Views.{held_view}
-use Rattle.replay_terms.proofs.ByNameLemmas.{inserted, on_ok, values}
+use Rattle.replay_terms.proofs.ByNameLemmas.{inserted, values}
 use Rattle.replay_terms.proofs.statics.Statics.set.Goals as goal
 
 pub returns : goal.returns

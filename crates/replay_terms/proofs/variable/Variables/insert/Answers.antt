@@ -1,8 +1,9 @@
 use Rattle.std.proofs.Common.{ap, sym, ◌∙◌, subst, arith}
+use Rattle.base.proofs.Results.{on_ok}
 use Rattle.semantics.specs.Variable.{assign, copied_length}
 use Rattle.replay_terms.specs.Views.{Contents, Takes, by_name, content_view, count_viewed, variables_view}
 use Rattle.replay_terms.proofs.BufferLemmas.{had_within, takes_set}
-use Rattle.replay_terms.proofs.ByNameLemmas.{inserted, on_ok, values}
+use Rattle.replay_terms.proofs.ByNameLemmas.{inserted, values}
 use Rattle.replay_terms.proofs.variable.Variables.insert.Goals as goal
 
 pub exchanged-requires-clause-copied : goal.exchanged-requires-clause-copied

@@ -1,5 +1,6 @@
-use Rattle.std.proofs.Common.{ap, ◌∙◌, map, length, arith}
+use Rattle.std.proofs.Common.{ap, ◌+◌, ◌∙◌, map, length, arith}
 use Rattle.std.specs.List.{list_all}
+use Rattle.std.proofs.lemmas.Bool.{ltb-true}
 use Rattle.std.proofs.lemmas.List.{length-map}
 use Rattle.base.specs.Element.{JInt}
 use Rattle.world.specs.GatheredViews.{gathered_of}
@@ -8,6 +9,13 @@ use Rattle.world_values.specs.WorldLines.{ObjectLine}
 use Rattle.world_values.specs.WorldRules.{value_in_range}
 use Rattle.world.proofs.KeptRules.{keeps, all_in_jint}
 use Rattle.world.proofs.builder.WorldBuilder.take_object.Goals as goal
+
+pub put_values-requires-clause-few : goal.put_values-requires-clause-few
+put_values-requires-clause-few c =
+    let g = gathered_of c.args.self.now in
+    let k = keeps g (ObjectLine c.args.object.now.name.now c.args.object.now.class.now (map value_view c.args.object.now.values.items)) c.requires in
+    let few = ltb-true (length g.names + 1) 65537 k.place in
+    omega (arith, few)
 
 pub put_values-requires-clause-room : goal.put_values-requires-clause-room
 put_values-requires-clause-room c =

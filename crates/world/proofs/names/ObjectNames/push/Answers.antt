@@ -1,9 +1,10 @@
 use Rattle.std.proofs.Common.{◌≡◌, ◌++◌, ◌∷◌, [], ◌∙◌, sym, ap, ℕ, None}
 use Rattle.indexmap.proofs.CallerLemmas.{insert_entry-new}
 use Rattle.base.specs.Bytes.{lookup, ByName}
+use Rattle.base.proofs.Results.{on_ok}
 use Rattle.class_rules.proofs.ClassIds.{no_class}
 use Rattle.world.specs.NameViews.{names_view}
-use Rattle.world.proofs.NamesInMemory.{lookup-view, names_view-more, on_ok}
+use Rattle.world.proofs.NamesInMemory.{lookup-view, names_view-more}
 use Rattle.world.proofs.names.ObjectNames.push.Goals as goal
 
 pub returns-clause-ok : goal.returns-clause-ok

@@ -1,0 +1,5 @@
+pub mod Truths
+pub mod Numbers
+pub mod Options
+pub mod Results
+pub mod Lists
