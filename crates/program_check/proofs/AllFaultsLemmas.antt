@@ -14,11 +14,12 @@ use Rattle.parse_lexemes.specs.Lexemes.{lexemes}
 use Rattle.parse_lexemes.specs.Results.{Fails}
 use Rattle.parse.specs.Reading.{unit_at}
 use Rattle.parse.specs.Spelling.{SpellsUnit}
-use Rattle.type_rules.specs.TypeRules.{TypeRule, IsWellTyped, BreaksTypeRule, first_broken}
+use Rattle.type_rules.specs.declared.rule.TypeRule.{TypeRule}
+use Rattle.type_rules.specs.TypeRules.{IsWellTyped, BreaksTypeRule, first_broken}
 use Rattle.types.specs.AllFaults.{typing_faults}
 use Rattle.types.specs.Faults.{TypeFault, fault_of as type_of}
 use Rattle.types.proofs.UnitLemmas.{none-told, first-fault, earned-faults}
-use Rattle.region_rules.specs.RegionRules.{RegionRule}
+use Rattle.region_rules.specs.declared.rule.RegionRule.{RegionRule}
 use Rattle.region_rules.specs.Regions.{HasRegions, BreaksRegionRule}
 use Rattle.regions.specs.AllFaults.{AreRegionFaults}
 use Rattle.regions.specs.Findings.{RegionFault, fault_of as region_of}

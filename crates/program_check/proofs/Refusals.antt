@@ -14,7 +14,7 @@ use Rattle.parse_lexemes.specs.Results.{Fails}
 use Rattle.parse.specs.Spelling.{SpellsUnit}
 use Rattle.types.specs.declared.fault.TypeError.{TypeError}
 use Rattle.types.specs.declared.fault.TypeError.TheVariants as typing
-use Rattle.types.specs.Faults.{IfBroken, fault_of, rule_of}
+use Rattle.types.specs.Faults.{IfBroken, fault_of}
 use Rattle.type_rules.specs.TypeRules.{IsWellTyped, first_broken}
 use Rattle.regions.specs.declared.fault.CheckError.{CheckError}
 use Rattle.regions.specs.declared.fault.CheckError.TheVariants as region_checking
@@ -34,8 +34,8 @@ parse_refusal text tokens (parsing.Fault fault) s h = by_parse tokens fault s h
 
 pub types_refusal : (text : List ℕ) (unit : SourceUnit) (f : TypeError) → SpellsUnit text unit → IfBroken f (λ g. first_broken unit ≡ Some (fault_of g)) → IsRefusal text (of_types f)
 types_refusal text unit typing.Memory s h = tt
-types_refusal text unit (typing.Fault fault) s h = by_types unit (rule_of fault.rule) fault.line s h
+types_refusal text unit (typing.Fault fault) s h = by_types unit fault.rule fault.line s h
 
-pub regions_refusal : (text : List ℕ) (unit : SourceUnit) (f : CheckError) → SpellsUnit text unit → IsWellTyped unit → findings.IfBroken f (λ g. IsFirstRegionFault (findings.rule_of g.rule) g.line unit) → IsRefusal text (of_regions f)
+pub regions_refusal : (text : List ℕ) (unit : SourceUnit) (f : CheckError) → SpellsUnit text unit → IsWellTyped unit → findings.IfBroken f (λ g. IsFirstRegionFault g.rule g.line unit) → IsRefusal text (of_regions f)
 regions_refusal text unit region_checking.Memory s t h = tt
-regions_refusal text unit (region_checking.Fault fault) s t h = by_regions unit (findings.rule_of fault.rule) fault.line s t h
+regions_refusal text unit (region_checking.Fault fault) s t h = by_regions unit fault.rule fault.line s t h

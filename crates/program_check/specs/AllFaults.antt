@@ -10,9 +10,11 @@ use Rattle.parse_lexemes.specs.Faults.{ParseFault, parse_rule_number}
 use Rattle.parse_lexemes.specs.Lexemes.{lexemes}
 use Rattle.parse.specs.Reading.{unit_at}
 use Rattle.parse.specs.Spelling.{SpellsUnit}
-use Rattle.type_rules.specs.TypeRules.{TypeRule, type_rule_number, IsWellTyped, BreaksTypeRule}
+use Rattle.type_rules.specs.declared.rule.TypeRule.{TypeRule}
+use Rattle.type_rules.specs.TypeRules.{type_rule_number, IsWellTyped, BreaksTypeRule}
 use Rattle.types.specs.AllFaults.{typing_faults}
-use Rattle.region_rules.specs.RegionRules.{RegionRule, region_rule_number}
+use Rattle.region_rules.specs.declared.rule.RegionRule.{RegionRule}
+use Rattle.region_rules.specs.RegionRules.{region_rule_number}
 use Rattle.region_rules.specs.Regions.{HasRegions, BreaksRegionRule}
 use Rattle.regions.specs.AllFaults.{AreRegionFaults}
 use Rattle.code_meaning.specs.Length.{IsTooLong}

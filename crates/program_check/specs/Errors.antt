@@ -7,11 +7,9 @@ use Rattle.parse_lexemes.specs.declared.fault.ParseError.TheVariants as parsing
 use Rattle.parse_lexemes.specs.Faults.{parse_rule_number}
 use Rattle.types.specs.declared.fault.TypeError.{TypeError}
 use Rattle.types.specs.declared.fault.TypeError.TheVariants as typing
-use Rattle.types.specs.Faults as type_faults
 use Rattle.type_rules.specs.TypeRules.{type_rule_number}
 use Rattle.regions.specs.declared.fault.CheckError.{CheckError}
 use Rattle.regions.specs.declared.fault.CheckError.TheVariants as region_checking
-use Rattle.regions.specs.Findings as region_faults
 use Rattle.region_rules.specs.RegionRules.{region_rule_number}
 use Rattle.places.specs.declared.place.Place.TheVariants.{Line}
 use Rattle.program_check.specs.declared.fault.RunError.{RunError}
@@ -28,11 +26,11 @@ of_parse (parsing.Fault fault) = Fault (parse_rule_number fault.rule) (Line whic
 
 abbrev pub of_types : TypeError → RunError
 of_types typing.Memory = Memory
-of_types (typing.Fault fault) = Fault (type_rule_number (type_faults.rule_of fault.rule)) (Line which.Program fault.line)
+of_types (typing.Fault fault) = Fault (type_rule_number fault.rule) (Line which.Program fault.line)
 
 abbrev pub of_regions : CheckError → RunError
 of_regions region_checking.Memory = Memory
-of_regions (region_checking.Fault fault) = Fault (region_rule_number (region_faults.rule_of fault.rule)) (Line which.Program fault.line)
+of_regions (region_checking.Fault fault) = Fault (region_rule_number fault.rule) (Line which.Program fault.line)
 
 -- a function is too long, which has no line
 abbrev pub too_long : RunError

@@ -10,8 +10,10 @@ use Rattle.parse_lexemes.specs.Faults.{ParseFault, parse_rule_number}
 use Rattle.parse_lexemes.specs.Lexemes.{lexemes}
 use Rattle.parse.specs.Reading.{unit_at}
 use Rattle.parse.specs.Spelling.{SpellsUnit}
-use Rattle.type_rules.specs.TypeRules.{TypeRule, type_rule_number, IsWellTyped, first_broken}
-use Rattle.region_rules.specs.RegionRules.{RegionRule, region_rule_number}
+use Rattle.type_rules.specs.declared.rule.TypeRule.{TypeRule}
+use Rattle.type_rules.specs.TypeRules.{type_rule_number, IsWellTyped, first_broken}
+use Rattle.region_rules.specs.declared.rule.RegionRule.{RegionRule}
+use Rattle.region_rules.specs.RegionRules.{region_rule_number}
 use Rattle.region_rules.specs.Regions.{HasRegions}
 use Rattle.region_rules.specs.FirstFaults.{IsFirstRegionFault}
 

@@ -2,7 +2,9 @@
 use Rattle.std.proofs.Common.{◌≡◌, ℕ, zero, suc, slice_get, Bool, true, false, not, ◌&&◌, List, [], ◌∷◌, Some, refl, sym, ap, ◌∙◌, true≢false}
 use Rattle.std.specs.List.{list_all}
 use Rattle.syntax.specs.Tree.{Stmt}
-use Rattle.region_rules.specs.RegionRules.{RegionRule, CallWhileCritical, ReturnWithBuffer, HeldBuffer, UntestedBuffer, WrongBuffer, ReturnInFrame, PopLastFrame, DeadReference, ArrayInUse, PathsDiffer, WrongLevel, NoReturn, breaks_region_rule, own_rules, Obeys}
+use Rattle.region_rules.specs.declared.rule.RegionRule.{RegionRule}
+use Rattle.region_rules.specs.declared.rule.RegionRule.TheVariants.{CallWhileCritical, ReturnWithBuffer, HeldBuffer, UntestedBuffer, WrongBuffer, ReturnInFrame, PopLastFrame, DeadReference, ArrayInUse, PathsDiffer, WrongLevel, NoReturn}
+use Rattle.region_rules.specs.RegionRules.{breaks_region_rule, own_rules, Obeys}
 use Rattle.region_rules.specs.RegionStates.{RegionState}
 
 -- each rule of the list is unbroken

@@ -2,7 +2,9 @@
 use Rattle.std.specs.Prelude.{◌≡◌, ℕ, ◌⊎◌, List, [], ◌∷◌, Option, Some, find, IsTrue}
 use Rattle.syntax.specs.Parts.{line_of, functions_of}
 use Rattle.syntax.specs.Tree.{Stmt, If, IfElse, While, Block, End, Next, Function, SourceUnit}
-use Rattle.region_rules.specs.RegionRules.{RegionRule, HeldBuffer, PathsDiffer, NoReturn, breaks_region_rule, own_rules, Obeys}
+use Rattle.region_rules.specs.declared.rule.RegionRule.{RegionRule}
+use Rattle.region_rules.specs.declared.rule.RegionRule.TheVariants.{HeldBuffer, PathsDiffer, NoReturn}
+use Rattle.region_rules.specs.RegionRules.{breaks_region_rule, own_rules, Obeys}
 use Rattle.region_rules.specs.RegionStates.{RegionState, state_at_entry}
 use Rattle.region_rules.specs.Regions.{Path, On, Returned, Keeps, KeepsBlock, AcceptedFunction, where_true, where_false, holds_own, Differ, EndLine, BreaksAfter, BreaksFunction, BreaksRegionRule, HasRegions}
 

@@ -8,6 +8,8 @@ use Rattle.syntax.specs.Parts.{own_expressions, used_names, written_name, assign
 use Rattle.syntax.specs.Tree.{Stmt, PutJint, Return, ReturnValue}
 use Rattle.jni.specs.Access.{is_critical, same_access}
 use Rattle.jni.specs.JniFunction.{JniFunction, GetBuffer, ReleaseBuffer}
+use Rattle.region_rules.specs.declared.rule.RegionRule.{RegionRule}
+use Rattle.region_rules.specs.declared.rule.RegionRule.TheVariants.{CallWhileCritical, ReturnWithBuffer, HeldBuffer, UntestedBuffer, WrongBuffer, ReturnInFrame, PopLastFrame, DeadReference, ArrayInUse, PathsDiffer, WrongLevel, NoReturn}
 use Rattle.region_rules.specs.RegionStates.{VariableState, RegionState, state_of, held_by, held_buffers, function_called, get_of, Release, release_of, deleted_name, pops, frame_count_after, Free, Untested, ReferenceAt, BufferIn}
 
 -- ---- the rules on one statement
@@ -72,10 +74,6 @@ is_array_in_use state x = list_any (λ held. bytes_eq held.1 x) (held_buffers st
 abbrev pub is_level : ℕ → Option VariableState → Bool
 is_level frames (Some (ReferenceAt level live)) = level == frames
 is_level frames s = false
-
--- the rules on buffers, references, frames and paths
-pub data RegionRule : Type 0 where
-  CallWhileCritical ReturnWithBuffer HeldBuffer UntestedBuffer WrongBuffer ReturnInFrame PopLastFrame DeadReference ArrayInUse PathsDiffer WrongLevel NoReturn : RegionRule
 
 -- the number of the fault
 abbrev pub region_rule_number : RegionRule → ℕ

@@ -5,7 +5,9 @@ use Rattle.base.specs.Bytes.{Identifier}
 use Rattle.syntax.specs.Tree.{Null}
 use Rattle.syntax.specs.Parts.{line_of, functions_of}
 use Rattle.syntax.specs.Tree.{Equal, NotEqual, Named, Variable, Binary, Test, TestExpr, TestCall, Stmt, If, IfElse, While, Return, ReturnValue, Block, End, Next, Function, SourceUnit}
-use Rattle.region_rules.specs.RegionRules.{holds_buffer, RegionRule, HeldBuffer, PathsDiffer, NoReturn, breaks_region_rule, Obeys}
+use Rattle.region_rules.specs.declared.rule.RegionRule.{RegionRule}
+use Rattle.region_rules.specs.declared.rule.RegionRule.TheVariants.{HeldBuffer, PathsDiffer, NoReturn}
+use Rattle.region_rules.specs.RegionRules.{holds_buffer, breaks_region_rule, Obeys}
 use Rattle.region_rules.specs.RegionStates.{made_free, Untested, Usable, VariableState, BufferIn, RegionState, with_changed, state_after, state_at_entry}
 
 -- ---- tests and blocks

@@ -3,5 +3,7 @@
 #![tactic(auto)]
 
 mod checked;
+mod rule;
 
 pub use checked::Checked;
+pub use rule::RegionRule;

@@ -11,7 +11,9 @@ use Rattle.region_states.specs.StateEffects.{EffectCall, call_state_effect, got,
 use Rattle.region_rules.specs.FirstFaults.{first_broken}
 use Rattle.region_states.specs.Judgements.{judged, first_judged, is_wrong_release, effected, settled}
 use Rattle.region_states.specs.VariableChanges.{set_from}
-use Rattle.region_rules.specs.RegionRules.{RegionRule, CallWhileCritical, ReturnWithBuffer, HeldBuffer, UntestedBuffer, WrongBuffer, ReturnInFrame, PopLastFrame, DeadReference, ArrayInUse, PathsDiffer, WrongLevel, NoReturn, breaks_region_rule, own_rules, is_put_jint, is_array_in_use, is_level, is_reference_now}
+use Rattle.region_rules.specs.declared.rule.RegionRule.{RegionRule}
+use Rattle.region_rules.specs.declared.rule.RegionRule.TheVariants.{CallWhileCritical, ReturnWithBuffer, HeldBuffer, UntestedBuffer, WrongBuffer, ReturnInFrame, PopLastFrame, DeadReference, ArrayInUse, PathsDiffer, WrongLevel, NoReturn}
+use Rattle.region_rules.specs.RegionRules.{breaks_region_rule, own_rules, is_put_jint, is_array_in_use, is_level, is_reference_now}
 use Rattle.region_rules.specs.RegionStates.{RegionState, VariableState, ReferenceAt, BufferIn, FunctionCall, state_of, function_called, call_of, deleted_name, with_new, with_changed, with_some_changed, after_pop, after_release, after_call, killed, buffer_from, set_to, with_set, state_after}
 use Rattle.region_states.specs.StatesInMemory.{asks, holds_of}
 use Rattle.region_states.proofs.EffectLemmas.{get_is, release_is, deleted_is, pops_is, forbidden_is}

@@ -7,7 +7,9 @@ use Rattle.syntax.specs.Tree.{ReferenceVariable, Declare, DeclareBuffer, Declare
 use Rattle.jni.specs.Access.{is_critical}
 use Rattle.region_states.specs.declared.states.Condition.TheVariants as condition
 use Rattle.region_states.specs.StateEffects.{EffectCall, got, released, deleted, popped, is_forbidden}
-use Rattle.region_rules.specs.RegionRules.{RegionRule, CallWhileCritical, ReturnWithBuffer, HeldBuffer, UntestedBuffer, WrongBuffer, ReturnInFrame, PopLastFrame, DeadReference, ArrayInUse, WrongLevel, own_rules, is_return, is_put_jint, is_reference_now, is_mismatched, is_level, holds_buffer}
+use Rattle.region_rules.specs.declared.rule.RegionRule.{RegionRule}
+use Rattle.region_rules.specs.declared.rule.RegionRule.TheVariants.{CallWhileCritical, ReturnWithBuffer, HeldBuffer, UntestedBuffer, WrongBuffer, ReturnInFrame, PopLastFrame, DeadReference, ArrayInUse, WrongLevel}
+use Rattle.region_rules.specs.RegionRules.{own_rules, is_return, is_put_jint, is_reference_now, is_mismatched, is_level, holds_buffer}
 use Rattle.region_rules.specs.RegionStates.{RegionState, VariableState, ReferenceAt, BufferIn, Release, state_of, with_new, with_changed, with_some_changed, after_pop, after_release, killed, buffer_from}
 use Rattle.region_states.specs.StatesInMemory.{asks, holds_critical, holds_of, has_young_array}
 use Rattle.region_states.specs.VariableChanges.{set_from}

@@ -3,11 +3,13 @@ use Rattle.std.proofs.Common.{ℕ, ◌⊎◌, subst, inl, inr}
 use Rattle.syntax.specs.Tree.{Stmt, Declare, DeclareBuffer, DeclareChars, DeclareArray, Assign, AssignElement, Perform, PutJint, If, IfElse, While, Return, ReturnValue, Block, End, Next, Function}
 use Rattle.region_rules.specs.FirstFaults.{FirstHere, FirstIn, FirstBlock, FirstInFunction}
 use Rattle.region_rules.proofs.KeptRules.{kept, not_both}
-use Rattle.region_rules.specs.RegionRules.{RegionRule, breaks_region_rule, own_rules}
+use Rattle.region_rules.specs.declared.rule.RegionRule.{RegionRule}
+use Rattle.region_rules.specs.RegionRules.{breaks_region_rule, own_rules}
 use Rattle.region_rules.specs.RegionStates.{RegionState, state_at_entry}
 use Rattle.region_rules.specs.Regions.{Path, On, Returned, Join, ComesBack, IsEnd, Keeps, KeepsBlock, holds_own, where_true, where_false, Differ, BreaksAfter, BreaksHere, BreaksIn, BreaksBlock, BreaksFunction, AcceptedFunction}
+use Rattle.region_rules.proofs.Returns.{goes_on}
 use Rattle.regions.proofs.Paths.{find_some}
-use Rattle.regions.proofs.FaultLemmas.{one_path, one_end, on_is, on_returned}
+use Rattle.regions.proofs.FaultLemmas.{one_path, one_end, on_is}
 use Rattle.regions.proofs.FirstPaths.{first_or_accepted}
 
 -- ---- a first fault is of a rule that is broken at its line
@@ -125,10 +127,10 @@ mutual
         | inl here' ↦ elim h [ inl on ↦ no_path before s rule l (On on.0) here' on.1 | inr stopped ↦ no_path before s rule l Returned here' stopped.0 ]
         | inr (inl further) ↦ elim h [
           | inl on ↦ no_end outer on.0 rest rule l w (subst (λ m. BreaksBlock rule l outer m rest) (on_is on.0 further.0 (one_path before s (On on.0) (On further.0) on.1 further.1)) further.2) on.2
-          | inr stopped ↦ on_returned further.0 (one_path before s (On further.0) Returned further.1 stopped.0)
+          | inr stopped ↦ goes_on further.0 (one_path before s (On further.0) Returned further.1 stopped.0)
         ]
         | inr (inr behind') ↦ elim h [
-          | inl on ↦ on_returned on.0 (one_path before s (On on.0) Returned on.1 behind'.0)
+          | inl on ↦ goes_on on.0 (one_path before s (On on.0) Returned on.1 behind'.0)
           | inr stopped ↦ not_end rule l rest behind'.1 stopped.1
         ]
       ]
@@ -140,7 +142,7 @@ pub breaks_nothing : (f : Function) (rule : RegionRule) (l : ℕ) → AcceptedFu
 breaks_nothing f rule l a b =
     elim b [
       | inl inner ↦ no_end (state_at_entry f) (state_at_entry f) f.body rule l Returned inner a
-      | inr open' ↦ on_returned (open'.2).0 (one_end (state_at_entry f) (state_at_entry f) f.body (On (open'.2).0) Returned (open'.2).1 a)
+      | inr open' ↦ goes_on (open'.2).0 (one_end (state_at_entry f) (state_at_entry f) f.body (On (open'.2).0) Returned (open'.2).1 a)
     ]
 
 -- and a function that breaks none is accepted

@@ -2,7 +2,8 @@
 use Rattle.std.proofs.Common.{◌≡◌, ℕ, Bool, true, false, ◌⊎◌, Option, Some, None, Result, Ok, Err, refl, sym, ap, ◌∙◌, inl, inr, true≢false}
 use Rattle.syntax.specs.Parts.{line_of}
 use Rattle.syntax.specs.Tree.{Stmt, Block, End, Next}
-use Rattle.region_rules.specs.RegionRules.{RegionRule, PathsDiffer, NoReturn}
+use Rattle.region_rules.specs.declared.rule.RegionRule.{RegionRule}
+use Rattle.region_rules.specs.declared.rule.RegionRule.TheVariants.{PathsDiffer, NoReturn}
 use Rattle.region_rules.specs.RegionStates.{RegionState}
 use Rattle.region_rules.specs.Regions.{Path, On, Returned, Keeps, KeepsBlock, Differ, EndLine, BreaksAfter}
 use Rattle.region_states.specs.SameStates.{same_state}
@@ -68,9 +69,6 @@ one_end outer before b v w h k = ok_is w v (sym (answers_block outer before b w 
 
 pub on_is : (a b : RegionState) → On a ≡ On b → b ≡ a
 on_is a b e = cc
-
-pub on_returned : (a : RegionState) → On a ≡ Returned → ⊥
-on_returned a e = cc
 
 pub end_is : (body : Block) (l m : ℕ) → EndLine body l → EndLine body m → l ≡ m
 end_is (End line) l m e f = e ∙ sym f

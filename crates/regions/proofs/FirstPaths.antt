@@ -1,19 +1,22 @@
 -- The first fault is the answer, and there is one at most.
 use Rattle.std.proofs.Common.{◌≡◌, ℕ, Bool, true, false, not, ◌⊎◌, List, [], ◌∷◌, Option, Some, Result, Ok, Err, refl, sym, ap, ◌∙◌, subst, inl, inr, true≢false}
 use Rattle.std.specs.List.{AllByRecursion}
-use Rattle.std.proofs.lemmas.Bool.{not-false}
+use Rattle.std.proofs.lemmas.Bool.{not-false, not_from_true}
 use Rattle.syntax.specs.Parts.{line_of}
 use Rattle.syntax.specs.Tree.{Stmt, Declare, DeclareBuffer, DeclareChars, DeclareArray, Assign, AssignElement, Perform, PutJint, If, IfElse, While, Return, ReturnValue, Block, End, Next, Function}
 use Rattle.region_rules.specs.FirstFaults.{FirstInFunction, FirstInFunctions, first_broken, FirstHere, FirstIn, FirstBlock}
-use Rattle.region_rules.specs.RegionRules.{RegionRule, HeldBuffer, PathsDiffer, NoReturn, Obeys}
+use Rattle.region_rules.specs.declared.rule.RegionRule.{RegionRule}
+use Rattle.region_rules.specs.declared.rule.RegionRule.TheVariants.{HeldBuffer, PathsDiffer, NoReturn}
+use Rattle.region_rules.specs.RegionRules.{Obeys}
 use Rattle.region_rules.specs.RegionStates.{RegionState, state_at_entry}
 use Rattle.region_rules.specs.Regions.{Path, On, Returned, holds_own, left, where_true, where_false, Differ, BreaksAfter, AcceptedFunction}
+use Rattle.region_rules.proofs.Returns.{goes_on}
 use Rattle.region_states.specs.SameStates.{same_state}
 use Rattle.regions.specs.Paths.{Found, own_path, path_after, path_if, returned_before, join_paths, turn_path, path_of, path_of_block}
 use Rattle.region_states.proofs.Same.{state_decides}
 use Rattle.regions.proofs.Paths.{ok_is, obeys, unbroken, keeps, keeps_block, answers, answers_block}
 use Rattle.regions.specs.Findings.{end_line_of}
-use Rattle.regions.proofs.FaultLemmas.{ok_err', err_is, if_err, own_err, join_err, turn_err, after_err, returned_err, one_end, on_returned, end-line}
+use Rattle.regions.proofs.FaultLemmas.{ok_err', err_is, if_err, own_err, join_err, turn_err, after_err, returned_err, one_end, end-line}
 
 -- ---- the first fault is the answer
 
@@ -50,10 +53,6 @@ second_fault line Returned f = refl
 pub held_end : (t : Bool) (a : Path) (f : Found) → t ≡ false → path_if t a f ≡ Err f
 held_end true a f e = absurd (true≢false e)
 held_end false a f e = refl
-
-pub not_of : (b : Bool) → b ≡ true → not b ≡ false
-not_of true h = refl
-not_of false h = absurd (true≢false (sym h))
 
 pub after_of : (rest : Block) (rule : RegionRule) (l : ℕ) → BreaksAfter rule l rest → returned_before rest ≡ Err (l, rule)
 after_of (End line) rule l b = absurd b
@@ -103,7 +102,7 @@ mutual
 
   pub first_block_is : (outer before : RegionState) (block : Block) (rule : RegionRule) (l : ℕ) → FirstBlock rule l outer before block → path_of_block outer before block ≡ Err (l, rule)
   first_block_is outer before (End line) rule l b =
-      held_end (not (holds_own outer before)) (On (left outer before)) (line, HeldBuffer) (not_of (holds_own outer before) b.2)
+      held_end (not (holds_own outer before)) (On (left outer before)) (line, HeldBuffer) (not_from_true (holds_own outer before) b.2)
       ∙ ap (λ r. Err (line, r)) (sym b.0) ∙ ap (λ n. Err (n, rule)) (sym b.1)
   first_block_is outer before (Next s rest) rule l b =
       elim b [
@@ -222,7 +221,7 @@ pub no_first : (f : Function) (rule : RegionRule) (l : ℕ) → FirstInFunction 
 no_first f rule l b a =
     elim b [
       | inl inner ↦ ok_err' Returned (l, rule) (sym (answers_block (state_at_entry f) (state_at_entry f) f.body Returned a) ∙ first_block_is (state_at_entry f) (state_at_entry f) f.body rule l inner)
-      | inr open' ↦ on_returned (open'.2).0 (one_end (state_at_entry f) (state_at_entry f) f.body (On (open'.2).0) Returned (open'.2).1 a)
+      | inr open' ↦ goes_on (open'.2).0 (one_end (state_at_entry f) (state_at_entry f) f.body (On (open'.2).0) Returned (open'.2).1 a)
     ]
 
 pub no_first_in : (functions : List Function) (rule : RegionRule) (l : ℕ) → FirstInFunctions rule l functions → AllByRecursion AcceptedFunction functions → ⊥

@@ -2,6 +2,7 @@
 use Rattle.std.proofs.Common.{◌≡◌, ℕ, suc, ◌+◌, ◌<◌, true, false, not, List, [], ◌∷◌, length, get_or, drop, Some, None, Result, Ok, Err, refl, sym, ap, ◌∙◌, subst, add-one, drop-cons}
 use Rattle.std.specs.Prelude.{IfOk}
 use Rattle.base.specs.Bytes.{Identifier}
+use Rattle.base.proofs.Lists.{item_here}
 use Rattle.syntax.specs.declared.call.Test.{Test as TestInMemory}
 use Rattle.syntax.specs.declared.stmt.Form.{Form as FormInMemory}
 use Rattle.syntax.specs.declared.stmt.Form.TheVariants as form
@@ -17,7 +18,8 @@ use Rattle.regions.specs.declared.joins.Path.{Path as PathInMemory}
 use Rattle.regions.specs.declared.joins.Branch.{Branch}
 use Rattle.regions.specs.Findings.{fault_of, end_line_of}
 use Rattle.region_rules.specs.FirstFaults.{first_broken}
-use Rattle.region_rules.specs.RegionRules.{RegionRule, HeldBuffer, PathsDiffer, NoReturn}
+use Rattle.region_rules.specs.declared.rule.RegionRule.{RegionRule}
+use Rattle.region_rules.specs.declared.rule.RegionRule.TheVariants.{HeldBuffer, PathsDiffer, NoReturn}
 use Rattle.region_rules.specs.RegionStates.{RegionState}
 use Rattle.region_rules.specs.Regions.{Path, On, Returned, left, where_false}
 use Rattle.region_states.specs.NewNames.{own_names, AreNew, DeclaresNew}
@@ -25,6 +27,7 @@ use Rattle.regions.specs.Walks.{Stops, Goes, Branches, Awaits, go_on, inner_path
 use Rattle.region_states.specs.StatesInMemory.{names_of, holds_other}
 use Rattle.regions.specs.Paths.{Found, path_if, own_path, path_after, returned_before, join_paths, turn_path, path_of, path_of_block}
 use Rattle.syntax.specs.declared.unit.Item.{Item as ItemInMemory}
+use Rattle.syntax.proofs.StatementLines.{line_is}
 use Rattle.region_states.proofs.Same.{same_swapped}
 use Rattle.region_states.proofs.StateLemmas.{own_is}
 use Rattle.region_states.proofs.NameLemmas.{where_false_names}
@@ -57,11 +60,6 @@ passed_names (Ok b) now before test expected h = ap names_of h.4 ∙ where_false
 passed_names (Err e) now before test expected h = tt
 
 -- ---- statements
-
-pub line_is : (line : ℕ) (f : FormInMemory) → line_of (form_tree line f) ≡ line
-line_is line (form.Return None) = refl
-line_is line (form.Return (Some e)) = refl
-line_is line f = refl
 
 pub path_is : (before : RegionState) (s : Stmt) → path_of before s ≡ own_path (first_broken before s) (line_of s) (inner_path before s)
 path_is before (If line test then') = refl
@@ -118,13 +116,9 @@ plain_new names line (form.Return (Some e)) h new at = new
 
 -- ---- blocks
 
--- the statements from the next one on
-pub stmt_next : (items : List StmtInMemory) (i : ℕ) (s : StmtInMemory) → i < length items → s ≡ get_or items i s → drop i items ≡ s ∷ drop (i + 1) items
-stmt_next items i s h e = rw add-one (drop-cons items i s h ∙ ap (λ x. x ∷ drop (suc i) items) (sym e))
-
 pub go_rest : (outer : RegionState) (w : Path) (items : List StmtInMemory) (i : ℕ) (s : StmtInMemory) (end_line : ℕ) → i < length items → s ≡ get_or items i s
     → go_on outer w (statements_tree (drop i items) end_line) ≡ go_on outer w (Next (stmt_tree s) (statements_tree (drop (i + 1) items) end_line))
-go_rest outer w items i s end_line h e = ap (λ rest. go_on outer w (statements_tree rest end_line)) (stmt_next items i s h e)
+go_rest outer w items i s end_line h e = ap (λ rest. go_on outer w (statements_tree rest end_line)) (item_here items i s s h e refl)
 
 -- one statement more
 pub go_step : (outer before : RegionState) (w : Path) (s : Stmt) (rest : Block) → path_of before s ≡ Ok w → go_on outer (On before) (Next s rest) ≡ go_on outer w rest

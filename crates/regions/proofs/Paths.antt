@@ -3,7 +3,9 @@ use Rattle.std.proofs.Common.{◌≡◌, ℕ, zero, suc, Bool, true, false, not,
 use Rattle.std.specs.List.{AllByRecursion, list_all, slice_get}
 use Rattle.syntax.specs.Tree.{Stmt, Declare, DeclareBuffer, DeclareChars, DeclareArray, Assign, AssignElement, Perform, PutJint, If, IfElse, While, Return, ReturnValue, Block, End, Next}
 use Rattle.region_rules.specs.FirstFaults.{first_broken}
-use Rattle.region_rules.specs.RegionRules.{RegionRule, HeldBuffer, PathsDiffer, breaks_region_rule, own_rules, Obeys}
+use Rattle.region_rules.specs.declared.rule.RegionRule.{RegionRule}
+use Rattle.region_rules.specs.declared.rule.RegionRule.TheVariants.{HeldBuffer, PathsDiffer}
+use Rattle.region_rules.specs.RegionRules.{breaks_region_rule, own_rules, Obeys}
 use Rattle.region_rules.specs.RegionStates.{RegionState}
 use Rattle.region_rules.specs.Regions.{Path, On, Returned, Join, ComesBack, IsEnd, Keeps, KeepsBlock, holds_own, left, where_true, where_false}
 use Rattle.region_states.specs.SameStates.{same_state}

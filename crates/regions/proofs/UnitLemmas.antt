@@ -9,9 +9,10 @@ use Rattle.syntax.specs.Tree.{Function, Item, StaticItem, FunctionItem, SourceUn
 use Rattle.regions.specs.declared.fault.CheckError.{CheckError}
 use Rattle.regions.specs.declared.fault.CheckError.TheVariants.{Memory, Fault}
 use Rattle.regions.specs.AllFaults.{AreFunctionFaults, for_none, for_accepted, for_refused, AreRegionFaults}
-use Rattle.regions.specs.Findings.{Finds, Refuses, IfBroken, RegionFault, rule_of, fault_of, end_line_of, fault_at_end, function_fault, items_fault, items_faults, first_fault}
+use Rattle.regions.specs.Findings.{Finds, Refuses, IfBroken, RegionFault, fault_of, end_line_of, fault_at_end, function_fault, items_fault, items_faults, first_fault}
 use Rattle.region_rules.specs.FirstFaults.{FirstInFunction, FirstInFunctions, IsFirstRegionFault}
-use Rattle.region_rules.specs.RegionRules.{RegionRule, NoReturn}
+use Rattle.region_rules.specs.declared.rule.RegionRule.{RegionRule}
+use Rattle.region_rules.specs.declared.rule.RegionRule.TheVariants.{NoReturn}
 use Rattle.region_rules.specs.RegionStates.{state_at_entry}
 use Rattle.region_rules.specs.Regions.{Path, On, Returned, AcceptedFunction, BreaksFunction, BreaksRegionRule, HasRegions}
 use Rattle.regions.specs.Paths.{Found, path_of_block}
@@ -125,13 +126,13 @@ pub accepted-memory : (items : List Item) (e : CheckError) → Refuses e (items_
 accepted-memory items Memory h accepted = refl
 accepted-memory items (Fault f) h accepted = absurd (accepted-none (functions_of (record { items = items })) (fault_of f) (sym (items-fault items) ∙ h) accepted)
 
-pub fault-first : (items : List Item) (e : CheckError) → Refuses e (items_fault items) → IfBroken e (λ f. FirstInFunctions (rule_of f.rule) f.line (functions_of (record { items = items })))
+pub fault-first : (items : List Item) (e : CheckError) → Refuses e (items_fault items) → IfBroken e (λ f. FirstInFunctions f.rule f.line (functions_of (record { items = items })))
 fault-first items Memory h = tt
 fault-first items (Fault f) h = faulty-all (functions_of (record { items = items })) (fault_of f) (sym (items-fault items) ∙ h)
 
-pub fault-broken : (items : List Item) (e : CheckError) → Refuses e (items_fault items) → IfBroken e (λ f. BreaksRegionRule (rule_of f.rule) f.line (record { items = items }))
+pub fault-broken : (items : List Item) (e : CheckError) → Refuses e (items_fault items) → IfBroken e (λ f. BreaksRegionRule f.rule f.line (record { items = items }))
 fault-broken items Memory h = tt
-fault-broken items (Fault f) h = first_broken_in (functions_of (record { items = items })) (rule_of f.rule) f.line (fault-first items (Fault f) h)
+fault-broken items (Fault f) h = first_broken_in (functions_of (record { items = items })) f.rule f.line (fault-first items (Fault f) h)
 
 -- ---- all faults
 
@@ -187,7 +188,7 @@ unfolding IsBrokenIn
 broken-faults items faults h = broken_of_all (functions_of (record { items = items })) (functions_of (record { items = items })) faults (λ f c. c) h
 
 broken_in_memory : (items : List Item) (faults : List RegionFault) → AllByRecursion (λ (g : Found). BreaksRegionRule g.1 g.0 (record { items = items })) (map fault_of faults)
-    → AllByRecursion (λ f. BreaksRegionRule (rule_of f.rule) f.line (record { items = items })) faults
+    → AllByRecursion (λ f. BreaksRegionRule f.rule f.line (record { items = items })) faults
 broken_in_memory items [] h = tt
 broken_in_memory items (f ∷ faults) h = (h.0, broken_in_memory items faults h.1)
 
@@ -207,9 +208,9 @@ get_in_memory : (faults : List RegionFault) (f : RegionFault) → slice_get faul
 get_in_memory [] f e = absurd cc
 get_in_memory (g ∷ faults) f e = let k : g ≡ f = cc in ap (λ (x : RegionFault). Some (fault_of x)) k
 
-pub first-told : (unit : SourceUnit) (faults : List RegionFault) → AreRegionFaults unit (map fault_of faults) → (f : RegionFault) → slice_get faults 0 ≡ Some f → IsFirstRegionFault (rule_of f.rule) f.line unit
+pub first-told : (unit : SourceUnit) (faults : List RegionFault) → AreRegionFaults unit (map fault_of faults) → (f : RegionFault) → slice_get faults 0 ≡ Some f → IsFirstRegionFault f.rule f.line unit
 first-told unit faults h f e = first_of_all (functions_of unit) (map fault_of faults) (fault_of f) h (get_in_memory faults f e)
 
-pub broken-told : (items : List Item) (faults : List RegionFault) → AreRegionFaults (record { items = items }) (map fault_of faults) → All (λ f. BreaksRegionRule (rule_of f.rule) f.line (record { items = items })) faults
+pub broken-told : (items : List Item) (faults : List RegionFault) → AreRegionFaults (record { items = items }) (map fault_of faults) → All (λ f. BreaksRegionRule f.rule f.line (record { items = items })) faults
 broken-told items faults h =
     All-from_recursion _ faults (broken_in_memory items faults (broken-faults items (map fault_of faults) h))

@@ -2,7 +2,7 @@
 use Rattle.std.specs.Prelude.{ℕ, List, [], ◌∷◌}
 use Rattle.syntax.specs.Parts.{functions_of}
 use Rattle.syntax.specs.Tree.{Function, SourceUnit}
-use Rattle.region_rules.specs.RegionRules.{RegionRule}
+use Rattle.region_rules.specs.declared.rule.RegionRule.{RegionRule}
 use Rattle.region_rules.specs.Regions.{AcceptedFunction}
 use Rattle.region_rules.specs.FirstFaults.{FirstInFunction}
 

@@ -2,38 +2,22 @@
 use Rattle.std.specs.Prelude.{◌≡◌, ℕ, List, [], ◌∷◌, Option, Some, None, Result, Ok, Err, filter_map}
 use Rattle.std.specs.Option.{option_or}
 use Rattle.syntax.specs.Tree.{Block, End, Next, Function, Item, StaticItem, FunctionItem}
-use Rattle.regions.specs.declared.fault.RegionRule.{RegionRule as RuleInMemory}
-use Rattle.regions.specs.declared.fault.RegionRule.TheVariants as rules
 use Rattle.places.specs.declared.fault.Fault.{Fault as FaultAt}
 use Rattle.regions.specs.declared.fault.CheckError.{CheckError}
 use Rattle.regions.specs.declared.fault.CheckError.TheVariants.{Memory, Fault}
-use Rattle.region_rules.specs.RegionRules.{RegionRule, CallWhileCritical, ReturnWithBuffer, HeldBuffer, UntestedBuffer, WrongBuffer, ReturnInFrame, PopLastFrame, DeadReference, ArrayInUse, PathsDiffer, WrongLevel, NoReturn}
+use Rattle.region_rules.specs.declared.rule.RegionRule.{RegionRule}
+use Rattle.region_rules.specs.declared.rule.RegionRule.TheVariants.{NoReturn}
 use Rattle.region_rules.specs.RegionStates.{state_at_entry}
 use Rattle.region_rules.specs.Regions.{Path, On, Returned}
 use Rattle.regions.specs.Paths.{Found, path_of_block}
 
--- the rule of the definitions
-abbrev pub rule_of : RuleInMemory → RegionRule
-rule_of rules.CallWhileCritical = CallWhileCritical
-rule_of rules.ReturnWithBuffer = ReturnWithBuffer
-rule_of rules.HeldBuffer = HeldBuffer
-rule_of rules.UntestedBuffer = UntestedBuffer
-rule_of rules.WrongBuffer = WrongBuffer
-rule_of rules.ReturnInFrame = ReturnInFrame
-rule_of rules.PopLastFrame = PopLastFrame
-rule_of rules.DeadReference = DeadReference
-rule_of rules.ArrayInUse = ArrayInUse
-rule_of rules.PathsDiffer = PathsDiffer
-rule_of rules.WrongLevel = WrongLevel
-rule_of rules.NoReturn = NoReturn
-
 -- a rule that is broken, and the line
 abbrev pub RegionFault : Type 0
-RegionFault = FaultAt RuleInMemory ℕ
+RegionFault = FaultAt RegionRule ℕ
 
 -- the line and the rule
 abbrev pub fault_of : RegionFault → Found
-fault_of f = (f.line, rule_of f.rule)
+fault_of f = (f.line, f.rule)
 
 -- memory ran out, or this is the fault
 abbrev pub Refuses : CheckError → Option Found → Type 0

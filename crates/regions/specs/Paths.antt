@@ -3,7 +3,8 @@ use Rattle.std.specs.Prelude.{ℕ, Bool, true, false, not, Option, Some, None, R
 use Rattle.syntax.specs.Tree.{Stmt, If, IfElse, While, Return, ReturnValue, Block, End, Next}
 use Rattle.syntax.specs.Parts.{line_of}
 use Rattle.region_rules.specs.RegionStates.{RegionState, state_after}
-use Rattle.region_rules.specs.RegionRules.{RegionRule, HeldBuffer, PathsDiffer, NoReturn}
+use Rattle.region_rules.specs.declared.rule.RegionRule.{RegionRule}
+use Rattle.region_rules.specs.declared.rule.RegionRule.TheVariants.{HeldBuffer, PathsDiffer, NoReturn}
 use Rattle.region_states.specs.SameStates.{same_state}
 use Rattle.region_rules.specs.Regions.{Path, On, Returned, holds_own, left, where_true, where_false}
 use Rattle.region_rules.specs.FirstFaults.{first_broken}

@@ -6,7 +6,7 @@ ghost use Rattle.syntax.specs.Views.{unit_tree};
 ghost use Rattle.region_rules.specs.Regions.{HasRegions, BreaksRegionRule};
 ghost use Rattle.region_rules.specs.FirstFaults.{IsFirstRegionFault};
 ghost use Rattle.regions.specs.AllFaults.{AreRegionFaults};
-ghost use Rattle.regions.specs.Findings.{RegionFault as Found, rule_of, fault_of, IfBroken};
+ghost use Rattle.regions.specs.Findings.{RegionFault as Found, fault_of, IfBroken};
 
 use crate::fault::{CheckError, RegionFault};
 use crate::walk::{check_items, faults_of_items};
@@ -24,9 +24,9 @@ pub fn check(alloc: Global, typed: Typed) -> Result<Checked, CheckError>
     // An accepted unit is answered, unless memory runs out.
     ensures only { HasRegions (unit_tree typed) → IsOkUnless result CheckError.Memory }
     // The fault is the first in text order, and at one place the one of the least number.
-    ensures first { IfErr result (λ e. IfBroken e (λ f. IsFirstRegionFault (rule_of f.rule) f.line (unit_tree typed))) }
+    ensures first { IfErr result (λ e. IfBroken e (λ f. IsFirstRegionFault f.rule f.line (unit_tree typed))) }
     // Its rule is broken at its line.
-    ensures broken { IfErr result (λ e. IfBroken e (λ f. BreaksRegionRule (rule_of f.rule) f.line (unit_tree typed))) }
+    ensures broken { IfErr result (λ e. IfBroken e (λ f. BreaksRegionRule f.rule f.line (unit_tree typed))) }
 {
     check_items(alloc, typed.items())?;
     Ok(Checked::of(typed))
@@ -40,9 +40,9 @@ pub fn region_faults(alloc: Global, typed: &Typed) -> Result<Vec<RegionFault>, A
     ensures accepted { IfOk result (λ faults. faults.items ≡ [] → HasRegions (unit_tree typed.now)) }
     // The first is the one that `check` answers.
     ensures first { IfOk result (λ faults. (f : Found) → slice_get faults.items 0 ≡ Some f
-        → IsFirstRegionFault (rule_of f.rule) f.line (unit_tree typed.now)) }
+        → IsFirstRegionFault f.rule f.line (unit_tree typed.now)) }
     // The rule of each is broken at its line.
-    ensures broken { IfOk result (λ faults. All (λ f. BreaksRegionRule (rule_of f.rule) f.line (unit_tree typed.now)) faults.items) }
+    ensures broken { IfOk result (λ faults. All (λ f. BreaksRegionRule f.rule f.line (unit_tree typed.now)) faults.items) }
 {
     faults_of_items(alloc, typed.items())
 }

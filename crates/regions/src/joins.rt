@@ -8,12 +8,12 @@ ghost use Rattle.region_rules.specs.RegionStates.{RegionState};
 ghost use Rattle.region_rules.specs.Regions.{On, where_true, where_false};
 ghost use Rattle.regions.specs.Paths.{join_paths};
 ghost use Rattle.region_states.specs.StatesInMemory.{names_of, IsSaved, HasCounts};
-ghost use Rattle.regions.specs.Findings.{rule_of};
 ghost use Rattle.regions.specs.Walks.{PathOrFault, path_value, Goes, Branches, Awaits};
 
-use crate::fault::{CheckError, RegionRule};
+use crate::fault::CheckError;
 use crate::telling::paths_detail;
 use places::{Detail, Fault, Line};
+use region_rules::RegionRule;
 use region_states::states::{Facts, FlowState};
 use std::alloc::Global;
 use syntax::Test;
@@ -34,7 +34,7 @@ pub(crate) struct Branch<'a> {
 
 /// The fault of a rule on this line, with what was found there.
 pub(crate) fn refuse(rule: RegionRule, line: usize, detail: Detail) -> Result<Path, CheckError>
-    ensures fault { (after : RegionState) → Goes result after (Err (line, rule_of rule)) }
+    ensures fault { (after : RegionState) → Goes result after (Err (line, rule)) }
     ensures never { IfOk result (λ _. ⊥) }
 {
     Err(CheckError::Fault(Fault {

@@ -11,8 +11,8 @@ mod walk;
 ghost use Rattle.region_rules.specs.FirstFaults.{AcceptedBreaksNothing, AcceptedOrBroken, AcceptedOrFirst, FirstIsBroken, NotBoth, OneFirst, OneFirstOfUnit};
 
 pub use checked::{check, region_faults};
-pub use fault::{CheckError, RegionFault, RegionRule};
-pub use region_rules::Checked;
+pub use fault::{CheckError, RegionFault};
+pub use region_rules::{Checked, RegionRule};
 
 /// A function that is accepted breaks no rule.
 pub fn accepted_breaks_nothing()

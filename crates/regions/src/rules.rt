@@ -7,14 +7,14 @@ ghost use Rattle.syntax.specs.Parts.{assigned_name};
 ghost use Rattle.syntax.specs.Tree.{Stmt};
 ghost use Rattle.syntax.specs.Views.{form_tree};
 ghost use Rattle.region_rules.specs.FirstFaults.{first_broken};
-ghost use Rattle.region_rules.specs.RegionRules.{CallWhileCritical, ReturnWithBuffer, HeldBuffer, UntestedBuffer, WrongBuffer, ReturnInFrame, PopLastFrame, DeadReference, ArrayInUse, WrongLevel, is_return, is_put_jint, is_level, is_mismatched};
+ghost use Rattle.region_rules.specs.declared.rule.RegionRule.TheVariants.{CallWhileCritical, ReturnWithBuffer, HeldBuffer, UntestedBuffer, WrongBuffer, ReturnInFrame, PopLastFrame, DeadReference, ArrayInUse, WrongLevel};
+ghost use Rattle.region_rules.specs.RegionRules.{is_return, is_put_jint, is_level, is_mismatched};
 ghost use Rattle.region_rules.specs.RegionStates.{state_of};
 ghost use Rattle.region_states.specs.StatesInMemory.{variable_state, asks};
 ghost use Rattle.region_states.specs.StateEffects.{EffectCall, made_value, release_value, got};
-ghost use Rattle.regions.specs.Findings.{rule_of};
 ghost use Rattle.region_states.specs.Judgements.{judged, first_judged, is_wrong_release, is_other_level, frames_after, pops_array, gets_elsewhere};
 
-use crate::fault::RegionRule;
+use region_rules::RegionRule;
 use region_states::calls::{
     MadeCall, Release, called, deleted, got, is_forbidden, popped, released,
 };
@@ -277,7 +277,7 @@ pub(crate) fn first_judged(
     form: &Form,
     call: Option<MadeCall>,
 ) -> Option<RegionRule>
-    ensures { (line : ℕ) → option_map rule_of result
+    ensures { (line : ℕ) → result
         ≡ first_judged state.now (form_tree line form.now) (option_map made_value call.entry) }
 {
     if breaks_critical(state, form, call) {
@@ -315,7 +315,7 @@ pub(crate) fn first_judged(
 
 /// The rule of least number that a statement breaks by itself.
 pub(crate) fn first_broken(state: &FlowState, form: &Form) -> Option<RegionRule>
-    ensures { (line : ℕ) → option_map rule_of result ≡ first_broken state.now (form_tree line form.now) }
+    ensures { (line : ℕ) → result ≡ first_broken state.now (form_tree line form.now) }
 {
     first_judged(state, form, called(form))
 }

@@ -1,9 +1,9 @@
 //! What is told of a broken rule: the variable, and what is known of it.
 
-use crate::fault::RegionRule;
 use crate::rules::{assigned_name, gets_elsewhere, level_after, mismatches};
 use jni::JniFunction;
 use places::Detail;
+use region_rules::RegionRule;
 use region_states::calls::{MadeCall, called, deleted, got, released};
 use region_states::found::Sought;
 use region_states::states::{Condition, Facts, FlowState, VariableState};

@@ -11,14 +11,15 @@ ghost use Rattle.region_rules.specs.Regions.{where_true, where_false};
 ghost use Rattle.regions.specs.Paths.{Found, join_paths, path_of, path_of_block};
 ghost use Rattle.region_states.specs.StatesInMemory.{names_of, Grows};
 ghost use Rattle.region_states.specs.NewNames.{own_names, AreNew, DeclaresNew, DeclareNew, DeclaresOnce, ItemOnce};
-ghost use Rattle.regions.specs.Findings.{Finds, fault_of, rule_of, function_fault, item_fault, items_fault, items_faults};
+ghost use Rattle.regions.specs.Findings.{Finds, fault_of, function_fault, item_fault, items_fault, items_faults};
 ghost use Rattle.regions.specs.Walks.{PathOrFault, path_value, Goes, Branches, Awaits, go_on, plain_path, inner_path};
 
-use crate::fault::{CheckError, RegionFault, RegionRule};
+use crate::fault::{CheckError, RegionFault};
 use crate::joins::{Branch, Path, join, no_turn, one_path, refuse, take_else, take_then};
 use crate::rules::{first_broken, is_return};
 use crate::telling::{end_detail, held_detail, statement_detail, unreached_detail};
 use places::{Fault, Line};
+use region_rules::RegionRule;
 use region_states::states::{FlowState, VariableState};
 use semantics::CALL_LEVEL;
 use std::alloc::{AllocError, Global};
@@ -142,7 +143,7 @@ fn inner_path<'a>(
 /// The fault of a statement that breaks a rule itself.
 #[cold]
 fn refuse_statement(state: &FlowState, stmt: &Stmt, rule: RegionRule) -> Result<Path, CheckError>
-    ensures fault { (after : RegionState) → Goes result after (Err (stmt.now.line, rule_of rule)) }
+    ensures fault { (after : RegionState) → Goes result after (Err (stmt.now.line, rule)) }
     ensures never { IfOk result (λ _. ⊥) }
 {
     refuse(rule, stmt.line, statement_detail(state, &stmt.form, rule))

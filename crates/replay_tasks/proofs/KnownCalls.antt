@@ -1,13 +1,16 @@
 -- In a well-typed unit each call is of a function that is there.
-use Rattle.std.proofs.Common.{◌≡◌, Bool, true, not, ◌&&◌, List, [], ◌∷◌, ◌++◌, map, refl, ap, ◌∙◌}
+use Rattle.std.proofs.Common.{◌≡◌, Bool, true, not, List, [], ◌∷◌, ◌++◌, map, refl, ap, ◌∙◌}
 use Rattle.std.specs.Prelude.{flat_map}
 use Rattle.std.specs.List.{list_any, list_all}
+use Rattle.std.proofs.lemmas.Bool.{and_from}
 use Rattle.std.proofs.lemmas.List.Folds.{list_all-append}
 use Rattle.base.specs.Bytes.{Identifier}
 use Rattle.syntax.specs.Parts.{functions_of, line_of, names_declared, parameter_names, statements_of, statements_within}
 use Rattle.syntax.specs.Tree.{ResultType, Void, Stmt, If, IfElse, While, Block, End, Next, Function, Item, StaticItem, FunctionItem, SourceUnit}
 use Rattle.type_rules.specs.ExprTypes.{Ref, Scope}
-use Rattle.type_rules.specs.TypeRules.{TypeRule, UnknownName, DeclaredTwice, TypeMisfit, UnknownFunction, ArgumentCount, ReferenceCopied, BadMode, ReadOnlyWrite, typing_rules, Place, StaticForm, HeadForm, StatementForm, breaks, broken_at, parameter_type, with_declared, places_within, places_of, function_places, item_places, IsWellTyped, static_type}
+use Rattle.type_rules.specs.declared.rule.TypeRule.{TypeRule}
+use Rattle.type_rules.specs.declared.rule.TypeRule.TheVariants.{UnknownName, DeclaredTwice, TypeMisfit, UnknownFunction, ArgumentCount, ReferenceCopied, BadMode, ReadOnlyWrite}
+use Rattle.type_rules.specs.TypeRules.{typing_rules, Place, StaticForm, HeadForm, StatementForm, breaks, broken_at, parameter_type, with_declared, places_within, places_of, function_places, item_places, IsWellTyped, static_type}
 use Rattle.type_rules.proofs.PlaceLists.{AreUnbroken, first_empty, second_empty, front_unbroken, back_unbroken, none_broken, first_false, second_false}
 use Rattle.replay_tasks.specs.Tasks.{calls_known}
 
@@ -34,19 +37,15 @@ here returns known taken s none =
     let types = second_false (p TypeMisfit) (list_any p after_types) twice in
     ap not (first_false (p UnknownFunction) (list_any p after_functions) types)
 
--- it, and those inside it
-both : (a b : Bool) → a ≡ true → b ≡ true → (a && b) ≡ true
-both a b h k = λ i. h i && k i
-
 joined : (xs ys : List Stmt) → list_all calls_known xs ≡ true → list_all calls_known ys ≡ true → list_all calls_known (xs ++ ys) ≡ true
-joined xs ys h k = list_all-append calls_known xs ys ∙ both (list_all calls_known xs) (list_all calls_known ys) h k
+joined xs ys h k = list_all-append calls_known xs ys ∙ and_from (list_all calls_known xs) (list_all calls_known ys) h k
 
 mutual
   within : (returns : ResultType) (known : Scope) (taken : List Identifier) (s : Stmt) → AreUnbroken (places_within returns known taken s) → list_all calls_known (statements_within s) ≡ true
   within returns known taken (If line test then') h =
       let s = If line test then' in
       let inside = places_of returns known taken then' in
-      both (calls_known s) (list_all calls_known (statements_of then'))
+      and_from (calls_known s) (list_all calls_known (statements_of then'))
       (here returns known taken s (first_empty (broken_at (place_of returns known taken s)) (flat_map broken_at inside) h))
       (block returns known taken then' (second_empty (broken_at (place_of returns known taken s)) (flat_map broken_at inside) h))
   within returns known taken (IfElse line test then' else') h =
@@ -54,7 +53,7 @@ mutual
       let front = places_of returns known taken then' in
       let back = places_of returns known (taken ++ names_declared (statements_of then')) else' in
       let inside = second_empty (broken_at (place_of returns known taken s)) (flat_map broken_at (front ++ back)) h in
-      both (calls_known s) (list_all calls_known (statements_of then' ++ statements_of else'))
+      and_from (calls_known s) (list_all calls_known (statements_of then' ++ statements_of else'))
       (here returns known taken s (first_empty (broken_at (place_of returns known taken s)) (flat_map broken_at (front ++ back)) h))
       (joined (statements_of then') (statements_of else')
       (block returns known taken then' (front_unbroken front back inside))
@@ -62,10 +61,10 @@ mutual
   within returns known taken (While line test body) h =
       let s = While line test body in
       let inside = places_of returns known taken body in
-      both (calls_known s) (list_all calls_known (statements_of body))
+      and_from (calls_known s) (list_all calls_known (statements_of body))
       (here returns known taken s (first_empty (broken_at (place_of returns known taken s)) (flat_map broken_at inside) h))
       (block returns known taken body (second_empty (broken_at (place_of returns known taken s)) (flat_map broken_at inside) h))
-  within returns known taken s h = both (calls_known s) true (here returns known taken s (first_empty (broken_at (place_of returns known taken s)) [] h)) refl
+  within returns known taken s h = and_from (calls_known s) true (here returns known taken s (first_empty (broken_at (place_of returns known taken s)) [] h)) refl
 
   block : (returns : ResultType) (known : Scope) (taken : List Identifier) (b : Block) → AreUnbroken (places_of returns known taken b) → list_all calls_known (statements_of b) ≡ true
   block returns known taken (End line) h = refl
@@ -97,7 +96,7 @@ items_known (StaticItem g ∷ items) taken statics h =
 items_known (FunctionItem f ∷ items) taken statics h =
     let own = function_places taken statics f in
     let further = item_places (f.name ∷ taken) statics items in
-    both (list_all calls_known (statements_of f.body)) (all_known (functions_of (record { items = items })))
+    and_from (list_all calls_known (statements_of f.body)) (all_known (functions_of (record { items = items })))
     (body taken statics f (front_unbroken own further h))
     (items_known items (f.name ∷ taken) statics (back_unbroken own further h))
 

@@ -9,7 +9,9 @@ use Rattle.base.specs.Bytes.{Identifier, lookup}
 use Rattle.syntax.specs.Parts.{functions_of, statics_of, parameter_names}
 use Rattle.syntax.specs.Tree.{Void, StaticType, ReferenceStatic, WeakStatic, Static, Function, Item, StaticItem, FunctionItem, SourceUnit}
 use Rattle.type_rules.specs.ExprTypes.{ExprType, Scope, is_weak, type_in}
-use Rattle.type_rules.specs.TypeRules.{TypeRule, UnknownName, DeclaredTwice, TypeMisfit, UnknownFunction, ArgumentCount, ReferenceCopied, BadMode, ReadOnlyWrite, typing_rules, Place, StaticForm, HeadForm, has_name, has_repeated, breaks, broken_at, places_of, function_places, item_places, IsWellTyped, static_type}
+use Rattle.type_rules.specs.declared.rule.TypeRule.{TypeRule}
+use Rattle.type_rules.specs.declared.rule.TypeRule.TheVariants.{UnknownName, DeclaredTwice, TypeMisfit, UnknownFunction, ArgumentCount, ReferenceCopied, BadMode, ReadOnlyWrite}
+use Rattle.type_rules.specs.TypeRules.{typing_rules, Place, StaticForm, HeadForm, has_name, has_repeated, breaks, broken_at, places_of, function_places, item_places, IsWellTyped, static_type}
 use Rattle.region_rules.specs.Regions.{AcceptedFunction, HasRegions}
 use Rattle.semantics.specs.Journal.{Journal}
 use Rattle.semantics.specs.Load.{Loads}

@@ -21,7 +21,8 @@ use Rattle.type_rules.specs.TypeRules as rules
 use Rattle.type_rules.specs.TypeRules.{result_fits, call_fits, value_sets}
 use Rattle.type_rules.specs.TypeGroups.{IsNumberType}
 use Rattle.type_rules.proofs.TypeTests.{jint_is, flag_is, ref_is, field_is, method_is, word_is, null_is, first_passed}
-use Rattle.region_rules.specs.RegionRules.{HeldBuffer, ArrayInUse, WrongLevel, is_reference_now, is_level, is_held, is_array_in_use, Obeys}
+use Rattle.region_rules.specs.declared.rule.RegionRule.TheVariants.{HeldBuffer, ArrayInUse, WrongLevel}
+use Rattle.region_rules.specs.RegionRules.{is_reference_now, is_level, is_held, is_array_in_use, Obeys}
 use Rattle.region_rules.specs.RegionStates.{VariableState, BufferState, Free, Untested, Usable, ReferenceAt, BufferIn, RegionState, state_of, held_by, held_buffers, function_called, get_of, Release, release_of, deleted_name, pops, frame_count_after, made_free, killed, killed_from, with_changed, with_some_changed, after_release, after_pop, after_call, buffer_from, set_to, FunctionCall}
 use Rattle.semantics.specs.Task.{Assigned, set_task}
 use Rattle.semantics_safety.specs.Points.{Point, AreOnce}

@@ -20,7 +20,9 @@ use Rattle.type_rules.specs.ExprTypes.{arguments_fit}
 use Rattle.type_rules.specs.TypeRules.{modes_fit}
 use Rattle.type_rules.proofs.TypeTests.{same_types}
 use Rattle.type_rules.proofs.CallParameters.{parameters_count, modes_of_all}
-use Rattle.region_rules.specs.RegionRules.{RegionRule, CallWhileCritical, UntestedBuffer, WrongBuffer, PopLastFrame, DeadReference, ArrayInUse, is_put_jint, is_critical_call, is_dead, is_reference_now, is_untested, is_free, is_mismatched, is_array_in_use, is_level, breaks_region_rule, Obeys}
+use Rattle.region_rules.specs.declared.rule.RegionRule.{RegionRule}
+use Rattle.region_rules.specs.declared.rule.RegionRule.TheVariants.{CallWhileCritical, UntestedBuffer, WrongBuffer, PopLastFrame, DeadReference, ArrayInUse}
+use Rattle.region_rules.specs.RegionRules.{is_put_jint, is_critical_call, is_dead, is_reference_now, is_untested, is_free, is_mismatched, is_array_in_use, is_level, breaks_region_rule, Obeys}
 use Rattle.region_rules.specs.RegionStates.{VariableState, BufferState, Untested, Usable, ReferenceAt, BufferIn, RegionState, state_of, buffer_of, held_by, held_buffers, FunctionCall, function_called, argument_name, get_of, has_commit, Release, release_of, deleted_name, pops, after_call}
 use Rattle.region_rules.proofs.KeptRules.{kept}
 use Rattle.semantics.specs.Task.{Operand, operand}

@@ -20,7 +20,8 @@ use Rattle.type_rules.specs.TypeRules.{may_be_dropped, is_droppable, return_fits
 use Rattle.type_rules.specs.TypeGroups.{IsNumberType}
 use Rattle.type_rules.proofs.TypeCases.{indexed, index_is_value, number_is_value}
 use Rattle.type_rules.proofs.TypeTests.{jint_is, ref_is}
-use Rattle.region_rules.specs.RegionRules.{CallWhileCritical, ReturnWithBuffer, ReturnInFrame, UntestedBuffer, WrongBuffer, is_return, is_put_jint, is_critical_call, is_dead, is_held, is_free, is_untested, holds_buffer, Obeys}
+use Rattle.region_rules.specs.declared.rule.RegionRule.TheVariants.{CallWhileCritical, ReturnWithBuffer, ReturnInFrame, UntestedBuffer, WrongBuffer}
+use Rattle.region_rules.specs.RegionRules.{is_return, is_put_jint, is_critical_call, is_dead, is_held, is_free, is_untested, holds_buffer, Obeys}
 use Rattle.region_rules.specs.RegionStates.{VariableState, BufferState, Free, Untested, Usable, BufferIn, state_of, held_by, held_buffers, function_called, after_call}
 use Rattle.semantics.specs.Task.{Target, Dropped, set_task}
 use Rattle.semantics.specs.Term as term

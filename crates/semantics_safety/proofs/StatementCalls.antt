@@ -12,7 +12,8 @@ use Rattle.jni.specs.JniFunction.{JniFunction, PushLocalFrame, function_named, p
 use Rattle.type_rules.specs.ExprTypes.{call_arguments_fit, arguments_fit}
 use Rattle.type_rules.specs.TypeRules as rules
 use Rattle.type_rules.specs.TypeRules.{has_wrong_count, has_wrong_mode, modes_fit, may_be_tested}
-use Rattle.region_rules.specs.RegionRules.{PopLastFrame, Obeys}
+use Rattle.region_rules.specs.declared.rule.RegionRule.TheVariants.{PopLastFrame}
+use Rattle.region_rules.specs.RegionRules.{Obeys}
 use Rattle.region_rules.specs.RegionStates.{VariableState, ReferenceAt, BufferIn, RegionState, FunctionCall, function_called, Release, release_of, deleted_name, pops, made_free, killed, killed_from, with_some_changed, after_release, after_pop, after_call, get_of}
 use Rattle.semantics.specs.Task.{Target, Tested, invocation, task_of}
 use Rattle.semantics_safety.specs.Points.{Point}

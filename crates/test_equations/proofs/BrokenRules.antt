@@ -2,7 +2,7 @@
 use Rattle.std.specs.Prelude.{◌∷◌, true, false, [], codes, refl}
 use Rattle.base.specs.Element.{JInt}
 use Rattle.syntax.specs.Tree.{AssignElement, Binary, Declare, DeclareBuffer, Equal, FromCall, If, JIntArray, JIntVariable, JObject, Named, NotEqual, Null, Number, Perform, ReferenceVariable, Return, SourceUnit, TestCall, TestExpr, Value, Variable, Void}
-use Rattle.region_rules.specs.RegionRules.{CallWhileCritical, ReturnWithBuffer, UntestedBuffer, ReturnInFrame, DeadReference, PathsDiffer, NoReturn}
+use Rattle.region_rules.specs.declared.rule.RegionRule.TheVariants.{CallWhileCritical, ReturnWithBuffer, UntestedBuffer, ReturnInFrame, DeadReference, PathsDiffer, NoReturn}
 use Rattle.test_equations.specs.Claims.{IsRefused}
 use Rattle.test_equations.proofs.Programs.{unit_of, native, block, reference_parameter, call, given}
 use Rattle.test_equations.proofs.Computed.{opened, bad_path}

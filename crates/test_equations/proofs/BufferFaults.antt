@@ -2,7 +2,7 @@
 use Rattle.std.specs.Prelude.{◌∷◌, true, false, [], codes, refl}
 use Rattle.base.specs.Element.{JInt}
 use Rattle.syntax.specs.Tree.{Assign, AssignElement, Binary, Commit, Declare, DeclareBuffer, Element, Equal, FromCall, FromExpr, If, JIntArray, JObject, Named, NotEqual, Null, Number, Perform, PutJint, ReferenceVariable, Return, SourceUnit, TestCall, TestExpr, Value, Variable, Void}
-use Rattle.region_rules.specs.RegionRules.{CallWhileCritical, HeldBuffer, UntestedBuffer, WrongBuffer, ArrayInUse}
+use Rattle.region_rules.specs.declared.rule.RegionRule.TheVariants.{CallWhileCritical, HeldBuffer, UntestedBuffer, WrongBuffer, ArrayInUse}
 use Rattle.test_equations.specs.Claims.{IsRefused}
 use Rattle.test_equations.proofs.Programs.{unit_of, native, block, static_reference, reference_parameter, call, given}
 use Rattle.test_equations.proofs.Computed.{opened, bad_path}

@@ -7,7 +7,7 @@ use Rattle.semantics.specs.World.{World}
 use Rattle.world_values.specs.WorldLines.{NumberValue, NullValue, NamedObject, ClassLine, ArrayLine, ThreadLine, Lines}
 use Rattle.world_values.specs.WorldMeaning.{world_of}
 use Rattle.world_values.specs.WorldRules.{IsWorldText}
-use Rattle.region_rules.specs.RegionRules.{CallWhileCritical, ReturnWithBuffer, HeldBuffer, UntestedBuffer, WrongBuffer, PathsDiffer}
+use Rattle.region_rules.specs.declared.rule.RegionRule.TheVariants.{CallWhileCritical, ReturnWithBuffer, HeldBuffer, UntestedBuffer, WrongBuffer, PathsDiffer}
 use Rattle.test_equations.specs.Claims.{IsAccepted, IsRefused, IsWorkedRun}
 use Rattle.test_equations.proofs.Programs.{unit_of, native, block, reference_parameter, call, given}
 use Rattle.test_equations.proofs.Computed.{opened, accepted, bad_path, world-text, worked-run}

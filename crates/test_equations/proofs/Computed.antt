@@ -12,7 +12,8 @@ use Rattle.class_rules.specs.BuiltIns.{built_ins}
 use Rattle.class_rules.specs.Class.{Classes}
 use Rattle.class_rules.specs.Mangling.{unmangle}
 use Rattle.jni.specs.JniFunction.{function_named}
-use Rattle.type_rules.specs.TypeRules.{TypeRule, type_rule_number, IsWellTyped, first_broken}
+use Rattle.type_rules.specs.declared.rule.TypeRule.{TypeRule}
+use Rattle.type_rules.specs.TypeRules.{type_rule_number, IsWellTyped, first_broken}
 use Rattle.semantics.specs.declared.schedule.ScheduleWord.{ScheduleWord}
 use Rattle.semantics.specs.declared.schedule.ScheduleWord.TheVariants.{Turn, Collect, Slice}
 use Rattle.semantics.specs.Journal.{Journal, Entry, Step, Clearing, steps_in, clearings_in}
@@ -39,7 +40,8 @@ use Rattle.semantics.specs.Checks.{go_together, trap_of}
 use Rattle.regions.specs.Findings.{first_fault}
 use Rattle.semantics.specs.Load.{first_load_fault}
 use Rattle.semantics.specs.Reachable.{live_size}
-use Rattle.region_rules.specs.RegionRules.{RegionRule, region_rule_number}
+use Rattle.region_rules.specs.declared.rule.RegionRule.{RegionRule}
+use Rattle.region_rules.specs.RegionRules.{region_rule_number}
 use Rattle.semantics.specs.ReportOf.{report}
 use Rattle.semantics.specs.Run.{Follows, Over, Collects, Clears, Slices, SliceClears, Waits, Steps, ClearsAndSteps, ClearsLost, IsFair, Fits, FitsUnmarked, IsFairMarked, EachFrom, made_between, made, wanted, replay}
 use Rattle.report.specs.RunText.{Writes}

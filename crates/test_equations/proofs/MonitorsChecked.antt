@@ -2,13 +2,13 @@
 use Rattle.std.specs.Prelude.{◌∷◌, ◌++◌, true, false, [], Some, None, codes, refl}
 use Rattle.base.specs.Element.{JInt}
 use Rattle.syntax.specs.Tree.{Assign, Binary, Declare, DeclareBuffer, DeclareChars, FromCall, If, JBoolean, JClass, JIntArray, JIntVariable, JObject, JString, Named, NotEqual, Null, Number, Perform, Prefix, PutJint, ReferenceVariable, Return, SourceUnit, TestCall, TestExpr, Text, ToInt, Value, Variable, Void}
-use Rattle.type_rules.specs.TypeRules.{TypeMisfit, ArgumentCount}
+use Rattle.type_rules.specs.declared.rule.TypeRule.TheVariants.{TypeMisfit, ArgumentCount}
 use Rattle.semantics.specs.declared.schedule.ScheduleWord.TheVariants.{Turn}
 use Rattle.semantics.specs.World.{World}
 use Rattle.world_values.specs.WorldLines.{NullValue, NamedObject, ClassLine, ObjectLine, ThreadLine, Lines}
 use Rattle.world_values.specs.WorldMeaning.{world_of}
 use Rattle.world_values.specs.WorldRules.{IsWorldText}
-use Rattle.region_rules.specs.RegionRules.{CallWhileCritical, DeadReference}
+use Rattle.region_rules.specs.declared.rule.RegionRule.TheVariants.{CallWhileCritical, DeadReference}
 use Rattle.test_equations.specs.Claims.{IsAccepted, IsRefused, IsWorkedRun, IsWorkedReplay, IsStoppedReplay}
 use Rattle.test_equations.proofs.Programs.{unit_of, native, block, static_reference, reference_parameter, int_parameter, call, given, entry, entries}
 use Rattle.test_equations.proofs.Computed.{opened, accepted, ill_typed, bad_path, world-text, worked-run, worked-replay, stopped-replay}

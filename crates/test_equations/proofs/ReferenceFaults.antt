@@ -2,7 +2,7 @@
 use Rattle.std.specs.Prelude.{◌∷◌, true, false, [], codes, refl}
 use Rattle.base.specs.Element.{JInt}
 use Rattle.syntax.specs.Tree.{Assign, Binary, Declare, DeclareBuffer, Equal, FromCall, FromExpr, If, IfElse, JIntArray, JIntVariable, JObject, Named, Null, Number, Perform, PutJint, ReferenceVariable, Return, SourceUnit, TestCall, TestExpr, Value, Void, While}
-use Rattle.region_rules.specs.RegionRules.{HeldBuffer, ReturnInFrame, PopLastFrame, DeadReference, PathsDiffer, WrongLevel, NoReturn}
+use Rattle.region_rules.specs.declared.rule.RegionRule.TheVariants.{HeldBuffer, ReturnInFrame, PopLastFrame, DeadReference, PathsDiffer, WrongLevel, NoReturn}
 use Rattle.test_equations.specs.Claims.{IsRefused}
 use Rattle.test_equations.proofs.Programs.{unit_of, native, block, reference_parameter, call, given}
 use Rattle.test_equations.proofs.Computed.{opened, bad_path}

@@ -2,7 +2,7 @@
 use Rattle.std.specs.Prelude.{◌∷◌, true, false, [], codes, refl}
 use Rattle.base.specs.Element.{JInt}
 use Rattle.syntax.specs.Tree.{Add, Assign, AssignElement, Binary, Declare, DeclareBuffer, DeclareChars, Equal, FromCall, FromExpr, If, JIntArray, JIntVariable, JObject, JString, Named, Null, Number, Perform, PutJint, ReferenceVariable, Return, SourceUnit, TestExpr, True, UInt32, Value, Variable, Void}
-use Rattle.type_rules.specs.TypeRules.{UnknownName, DeclaredTwice, TypeMisfit, UnknownFunction, ArgumentCount, ReferenceCopied, BadMode, ReadOnlyWrite}
+use Rattle.type_rules.specs.declared.rule.TypeRule.TheVariants.{UnknownName, DeclaredTwice, TypeMisfit, UnknownFunction, ArgumentCount, ReferenceCopied, BadMode, ReadOnlyWrite}
 use Rattle.test_equations.specs.Claims.{IsRefused}
 use Rattle.test_equations.proofs.Programs.{unit_of, native, block, static_reference, reference_parameter, int_parameter, call, given}
 use Rattle.test_equations.proofs.Computed.{opened, ill_typed}

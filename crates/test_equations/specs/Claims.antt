@@ -2,7 +2,8 @@
 use Rattle.std.specs.Prelude.{◌≡◌, ℕ, ◌+◌, List, ◌∷◌, ◌++◌, length, Some, None}
 use Rattle.syntax.specs.Limits.{IsTree}
 use Rattle.syntax.specs.Tree.{SourceUnit}
-use Rattle.type_rules.specs.TypeRules.{TypeRule, type_rule_number, IsWellTyped, first_broken}
+use Rattle.type_rules.specs.declared.rule.TypeRule.{TypeRule}
+use Rattle.type_rules.specs.TypeRules.{type_rule_number, IsWellTyped, first_broken}
 use Rattle.semantics.specs.Journal.{Entry, Journal}
 use Rattle.world_schedules.specs.JournalMeaning.{IsJournalText}
 use Rattle.semantics.specs.Schedule.{Schedule}
@@ -11,7 +12,8 @@ use Rattle.semantics.specs.World.{World}
 use Rattle.world_values.specs.WorldRules.{IsWorldText}
 use Rattle.region_rules.specs.FirstFaults.{IsFirstRegionFault}
 use Rattle.semantics.specs.Load.{first_load_fault}
-use Rattle.region_rules.specs.RegionRules.{RegionRule, region_rule_number}
+use Rattle.region_rules.specs.declared.rule.RegionRule.{RegionRule}
+use Rattle.region_rules.specs.RegionRules.{region_rule_number}
 use Rattle.region_rules.specs.Regions.{HasRegions}
 use Rattle.semantics.specs.Run.{JournalFollows, UnmarkedFit, MarkedAreFair, replay}
 use Rattle.report.specs.RunText.{Writes}

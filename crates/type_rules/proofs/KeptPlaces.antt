@@ -10,7 +10,9 @@ use Rattle.syntax.specs.Parts.{statements_of, statements_within, line_of, declar
 use Rattle.syntax.specs.Tree.{ResultType, Static, Test, Stmt, If, IfElse, While, Block, Next}
 use Rattle.jni.specs.JniFunction.{function_named}
 use Rattle.type_rules.specs.ExprTypes.{Scope, call_arguments_fit}
-use Rattle.type_rules.specs.TypeRules.{TypeRule, UnknownName, DeclaredTwice, TypeMisfit, UnknownFunction, ArgumentCount, ReferenceCopied, BadMode, ReadOnlyWrite, typing_rules, Place, StaticForm, StatementForm, has_name, is_formed, statement_fits, has_wrong_count, has_wrong_mode, copies_reference, set_type, breaks, broken_at, with_declared, places_within, places_of}
+use Rattle.type_rules.specs.declared.rule.TypeRule.{TypeRule}
+use Rattle.type_rules.specs.declared.rule.TypeRule.TheVariants.{UnknownName, DeclaredTwice, TypeMisfit, UnknownFunction, ArgumentCount, ReferenceCopied, BadMode, ReadOnlyWrite}
+use Rattle.type_rules.specs.TypeRules.{typing_rules, Place, StaticForm, StatementForm, has_name, is_formed, statement_fits, has_wrong_count, has_wrong_mode, copies_reference, set_type, breaks, broken_at, with_declared, places_within, places_of}
 use Rattle.type_rules.proofs.PlaceLists.{AreUnbroken, first_empty, second_empty, front_unbroken, back_unbroken, none_broken, not_twice}
 
 -- what a statement that breaks no rule is known for

@@ -4,7 +4,9 @@ use Rattle.std.specs.Prelude.{flat_map}
 use Rattle.std.specs.List.{list_any}
 use Rattle.std.proofs.lemmas.Bool.{or_parts}
 use Rattle.std.proofs.lemmas.Grind.{flat_map-append}
-use Rattle.type_rules.specs.TypeRules.{TypeRule, UnknownName, DeclaredTwice, TypeMisfit, UnknownFunction, ArgumentCount, ReferenceCopied, BadMode, ReadOnlyWrite, typing_rules, Place, breaks, broken_at}
+use Rattle.type_rules.specs.declared.rule.TypeRule.{TypeRule}
+use Rattle.type_rules.specs.declared.rule.TypeRule.TheVariants.{UnknownName, DeclaredTwice, TypeMisfit, UnknownFunction, ArgumentCount, ReferenceCopied, BadMode, ReadOnlyWrite}
+use Rattle.type_rules.specs.TypeRules.{typing_rules, Place, breaks, broken_at}
 
 -- no rule is broken at any of the places
 abbrev pub AreUnbroken : List Place → Type 0

@@ -11,6 +11,8 @@ use Rattle.syntax.specs.Tree.{ResultType, Void, IntResult, ReferenceResult, Para
 use Rattle.class_rules.specs.Mangling.{unmangle}
 use Rattle.jni.specs.JniFunction.{JniFunction, PushLocalFrame, function_named, prototype, takes_count}
 use Rattle.jni.specs.Prototype.{ParameterKind, Mode, ResultKind, GivesNothing, GivesInt, GivesFlag, NewLocal, NewGlobal, NewWeak, GivesField, GivesMethod, GivesBuffer}
+use Rattle.type_rules.specs.declared.rule.TypeRule.{TypeRule}
+use Rattle.type_rules.specs.declared.rule.TypeRule.TheVariants.{UnknownName, DeclaredTwice, TypeMisfit, UnknownFunction, ArgumentCount, ReferenceCopied, BadMode, ReadOnlyWrite}
 use Rattle.type_rules.specs.ExprTypes.{ExprType, Word, Jint, Flag, Ref, Global, Weak, FieldId, MethodId, Buffer, Array, Scope, type_in, is_unknown, type_of, is_word, is_jint, is_flag, is_truth, is_ref, is_field, is_method, is_index, has_elements, is_buffer_for, is_read_only, is_null, name_type, call_arguments_fit}
 
 -- ---- places: the forms of a unit that a rule can be broken at
@@ -204,10 +206,6 @@ is_formed scope (Variable x) = true
 is_formed scope e = is_some (type_of scope e)
 
 -- ---- the rules
-
--- the rules on names and types
-pub data TypeRule : Type 0 where
-  UnknownName DeclaredTwice TypeMisfit UnknownFunction ArgumentCount ReferenceCopied BadMode ReadOnlyWrite : TypeRule
 
 -- the rules in the order of their numbers
 abbrev pub typing_rules : List TypeRule

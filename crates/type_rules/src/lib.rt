@@ -4,11 +4,13 @@
 mod calls;
 mod known;
 mod names;
+mod rule;
 mod ty;
 mod typed;
 
 pub use calls::own_call;
 pub use known::Known;
 pub use names::{Question, first_name};
+pub use rule::TypeRule;
 pub use ty::{ExprType, parameter_type, static_type, variable_type};
 pub use typed::Typed;

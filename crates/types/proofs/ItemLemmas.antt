@@ -12,7 +12,8 @@ use Rattle.syntax.specs.Tree.{Void, Item, StaticItem, FunctionItem}
 use Rattle.syntax.specs.Views.{parameter_type_tree, parameter_tree, function_tree, static_tree, item_tree, result_tree, block_tree}
 use Rattle.type_rules.specs.declared.ty.ExprType.{ExprType as TypeInMemory}
 use Rattle.type_rules.specs.ExprTypes.{ExprType, Ref, Scope}
-use Rattle.type_rules.specs.TypeRules.{Place, StaticForm, HeadForm, UnknownName, DeclaredTwice, has_name, has_repeated, breaks, broken_at, parameter_type, places_of, function_places, item_places}
+use Rattle.type_rules.specs.declared.rule.TypeRule.TheVariants.{UnknownName, DeclaredTwice}
+use Rattle.type_rules.specs.TypeRules.{Place, StaticForm, HeadForm, has_name, has_repeated, breaks, broken_at, parameter_type, places_of, function_places, item_places}
 use Rattle.types.specs.AllFaults.{told_at}
 use Rattle.types.specs.Faults.{broken_if, found, scope_of, entry_scope, head_faults, own_places, with_static}
 use Rattle.types.proofs.RuleLemmas.{listed}

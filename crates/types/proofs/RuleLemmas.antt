@@ -1,6 +1,7 @@
 -- The rules that are broken at one place, one after the other.
 use Rattle.std.proofs.Common.{◌≡◌, ℕ, Bool, true, false, List, [], ◌∷◌, ◌++◌, refl, ap, ◌∙◌, map, filter, flat_map, if◌then◌else◌}
-use Rattle.type_rules.specs.TypeRules.{TypeRule, typing_rules}
+use Rattle.type_rules.specs.declared.rule.TypeRule.{TypeRule}
+use Rattle.type_rules.specs.TypeRules.{typing_rules}
 use Rattle.types.specs.Faults.{broken_if}
 
 one : (line : ℕ) (rule : TypeRule) (b : Bool) (rest : List TypeRule) → map (λ r. (line, r)) (if b then rule ∷ rest else rest) ≡ broken_if b rule line ++ map (λ r. (line, r)) rest

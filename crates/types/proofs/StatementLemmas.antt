@@ -1,17 +1,16 @@
 -- What is refused at a statement, rule by rule.
-use Rattle.std.proofs.Common.{◌≡◌, ℕ, Bool, true, false, ◌||◌, List, [], Option, Some, None, refl, ap₂, ◌∙◌}
+use Rattle.std.proofs.Common.{◌≡◌, Bool, true, false, ◌||◌, List, [], Option, Some, None, refl, ap₂, ◌∙◌}
 use Rattle.std.specs.List.{list_any}
 use Rattle.std.specs.Option.{option_to_list}
 use Rattle.std.proofs.lemmas.List.Folds.{list_any-append}
 use Rattle.base.specs.Bytes.{Identifier}
 use Rattle.base.specs.Options.{some_passes}
-use Rattle.syntax.specs.declared.stmt.Form.{Form as FormInMemory}
 use Rattle.syntax.specs.declared.stmt.Form.TheVariants as form
 use Rattle.syntax.specs.Parts.{line_of, used_names, assigned_name}
 use Rattle.syntax.specs.Tree.{ResultType, Void, Stmt}
-use Rattle.syntax.specs.Views.{form_tree}
 use Rattle.type_rules.specs.ExprTypes.{Scope, is_unknown}
-use Rattle.type_rules.specs.TypeRules.{UnknownName, typing_rules, breaks_type_rule, broken_at}
+use Rattle.type_rules.specs.declared.rule.TypeRule.TheVariants.{UnknownName}
+use Rattle.type_rules.specs.TypeRules.{typing_rules, breaks_type_rule, broken_at}
 use Rattle.types.specs.Faults.{statement_place, refused_of}
 use Rattle.type_rules.specs.Uses.{uses}
 use Rattle.types.proofs.RuleLemmas.{listed}
@@ -33,9 +32,3 @@ unknown_names known s =
 
 pub statement-faults : (returns : ResultType) (known : Scope) (taken : List Identifier) (s : Stmt) → broken_at (statement_place returns known taken s) ≡ refused_of returns known taken s (line_of s) typing_rules
 statement-faults returns known taken s = listed (λ rule. breaks_type_rule rule known taken returns s) (line_of s)
-
--- a statement in memory has its line
-pub line-of : (line : ℕ) (f : FormInMemory) → line_of (form_tree line f) ≡ line
-line-of line (form.Return None) = refl
-line-of line (form.Return (Some e)) = refl
-line-of line f = refl

@@ -6,9 +6,10 @@ use Rattle.std.specs.List.{All, AllByRecursion}
 use Rattle.syntax.specs.Tree.{SourceUnit}
 use Rattle.types.specs.declared.fault.TypeError.{TypeError}
 use Rattle.types.specs.declared.fault.TypeError.TheVariants.{Memory, Fault}
-use Rattle.type_rules.specs.TypeRules.{TypeRule, typing_rules, Place, IsWellTyped, BreaksTypeRule, breaks, broken_at, broken, first_broken, places}
+use Rattle.type_rules.specs.declared.rule.TypeRule.{TypeRule}
+use Rattle.type_rules.specs.TypeRules.{typing_rules, Place, IsWellTyped, BreaksTypeRule, breaks, broken_at, broken, first_broken, places}
 use Rattle.types.specs.AllFaults.{told_at, typing_faults}
-use Rattle.types.specs.Faults.{Faults, TypeFault, Refuses, IfBroken, Tells, first, fault_of, rule_of}
+use Rattle.types.specs.Faults.{Faults, TypeFault, Refuses, IfBroken, Tells, first, fault_of}
 
 -- ---- what is told, and what is broken
 
@@ -73,7 +74,7 @@ at_place (p ∷ all) f h =
       | inr rest ↦ let further = at_place all f rest in (further.0, (suc (further.1).0, omega (arith, (further.1).1), (further.1).2), further.2, further.3)
     ]
 
-pub earned-unit : (unit : SourceUnit) (e : TypeError) → Refuses e (broken unit) → IfBroken e (λ f. BreaksTypeRule (rule_of f.rule) f.line unit)
+pub earned-unit : (unit : SourceUnit) (e : TypeError) → Refuses e (broken unit) → IfBroken e (λ f. BreaksTypeRule f.rule f.line unit)
 earned-unit unit Memory h = tt
 earned-unit unit (Fault f) h = at_place (places unit) (fault_of f) h
 
@@ -102,11 +103,11 @@ all_earned all (p ∷ left) within = by (broken_at p) refl (all_earned all left 
 pub earned-faults : (unit : SourceUnit) → AllByRecursion (λ (f : ℕ × TypeRule). BreaksTypeRule f.1 f.0 unit) (typing_faults unit)
 earned-faults unit = all_earned (places unit) (places unit) (λ p c. c)
 
-earned_in_memory : (unit : SourceUnit) (faults : List TypeFault) → AllByRecursion (IsEarned (places unit)) (map fault_of faults) → AllByRecursion (λ f. BreaksTypeRule (rule_of f.rule) f.line unit) faults
+earned_in_memory : (unit : SourceUnit) (faults : List TypeFault) → AllByRecursion (IsEarned (places unit)) (map fault_of faults) → AllByRecursion (λ f. BreaksTypeRule f.rule f.line unit) faults
 earned_in_memory unit [] h = tt
 earned_in_memory unit (f ∷ faults) h = (h.0, earned_in_memory unit faults h.1)
 
-pub earned-all : (unit : SourceUnit) (faults : List TypeFault) → map fault_of faults ≡ typing_faults unit → All (λ f. BreaksTypeRule (rule_of f.rule) f.line unit) faults
+pub earned-all : (unit : SourceUnit) (faults : List TypeFault) → map fault_of faults ≡ typing_faults unit → All (λ f. BreaksTypeRule f.rule f.line unit) faults
 earned-all unit faults e =
     All-from_recursion _ faults (earned_in_memory unit faults (subst (AllByRecursion (IsEarned (places unit))) (sym e) (earned-faults unit)))
 

@@ -1,7 +1,8 @@
 -- All faults of a unit that are told, and not only the first.
 use Rattle.std.specs.Prelude.{ℕ, List, take, flat_map}
 use Rattle.syntax.specs.Tree.{SourceUnit}
-use Rattle.type_rules.specs.TypeRules.{TypeRule, Place, broken_at, places}
+use Rattle.type_rules.specs.declared.rule.TypeRule.{TypeRule}
+use Rattle.type_rules.specs.TypeRules.{Place, broken_at, places}
 
 -- of a place at which rules are broken the one of the least number
 abbrev pub told_at : Place → List (ℕ × TypeRule)

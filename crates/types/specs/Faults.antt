@@ -9,33 +9,22 @@ use Rattle.syntax.specs.Parts.{line_of, statements_of, names_declared}
 use Rattle.syntax.specs.Tree.{ResultType, Void, Stmt, If, IfElse, While, Item, StaticItem, FunctionItem}
 use Rattle.syntax.specs.Views.{parameter_type_tree}
 use Rattle.types.specs.AllFaults.{told_at}
-use Rattle.types.specs.declared.fault.TypeRule.{TypeRule as RuleInMemory}
-use Rattle.types.specs.declared.fault.TypeRule.TheVariants as rules
 use Rattle.types.specs.declared.fault.TypeError.{TypeError}
 use Rattle.types.specs.declared.fault.TypeError.TheVariants.{Memory, Fault}
 use Rattle.type_rules.specs.declared.ty.ExprType.{ExprType as TypeInMemory}
 use Rattle.type_rules.specs.ExprTypes.{Ref, Scope}
 use Rattle.type_rules.specs.TypeViews.{type_value}
-use Rattle.type_rules.specs.TypeRules.{TypeRule, UnknownName, DeclaredTwice, TypeMisfit, UnknownFunction, ArgumentCount, ReferenceCopied, BadMode, ReadOnlyWrite, Place, StaticForm, StatementForm, breaks_type_rule, places_of, function_places, has_name, has_repeated, parameter_type, static_type}
-
--- the rule of the definitions
-abbrev pub rule_of : RuleInMemory → TypeRule
-rule_of rules.UnknownName = UnknownName
-rule_of rules.DeclaredTwice = DeclaredTwice
-rule_of rules.TypeMisfit = TypeMisfit
-rule_of rules.UnknownFunction = UnknownFunction
-rule_of rules.ArgumentCount = ArgumentCount
-rule_of rules.ReferenceCopied = ReferenceCopied
-rule_of rules.BadMode = BadMode
-rule_of rules.ReadOnlyWrite = ReadOnlyWrite
+use Rattle.type_rules.specs.declared.rule.TypeRule.{TypeRule}
+use Rattle.type_rules.specs.declared.rule.TypeRule.TheVariants.{UnknownName, DeclaredTwice}
+use Rattle.type_rules.specs.TypeRules.{Place, StaticForm, StatementForm, breaks_type_rule, places_of, function_places, has_name, has_repeated, parameter_type, static_type}
 
 -- a rule that is broken, and the line
 abbrev pub TypeFault : Type 0
-TypeFault = FaultAt RuleInMemory ℕ
+TypeFault = FaultAt TypeRule ℕ
 
 -- the line and the rule
 abbrev pub fault_of : TypeFault → ℕ × TypeRule
-fault_of f = (f.line, rule_of f.rule)
+fault_of f = (f.line, f.rule)
 
 -- the names that are known
 abbrev pub scope_of : ByName TypeInMemory → Scope
@@ -63,8 +52,8 @@ Finds (Ok x) broken = broken ≡ []
 Finds (Err e) broken = Refuses e broken
 
 -- no rule is broken, or this one is the first, on this line
-abbrev pub Judges : Option RuleInMemory → ℕ → Faults → Type 0
-Judges rule line broken = first broken ≡ option_map (λ r. (line, rule_of r)) rule
+abbrev pub Judges : Option TypeRule → ℕ → Faults → Type 0
+Judges rule line broken = first broken ≡ option_map (λ r. (line, r)) rule
 
 -- the fact of the broken rule, unless memory ran out
 abbrev pub IfBroken : TypeError → (TypeFault → Type 0) → Type 0

@@ -4,18 +4,19 @@ ghost use Rattle.std.specs.Prelude.{◌≡◌, List, ◌∷◌, ◌++◌, OnOk, 
 ghost use Rattle.base.specs.Bytes.{Identifier};
 ghost use Rattle.syntax.specs.Parts.{item_name};
 ghost use Rattle.syntax.specs.Views.{block_tree, function_tree, item_tree, result_tree, static_type_tree};
-ghost use Rattle.type_rules.specs.TypeRules.{DeclaredTwice, has_name, has_repeated, static_type, places_of, function_places, item_places};
+ghost use Rattle.type_rules.specs.declared.rule.TypeRule.TheVariants.{DeclaredTwice};
+ghost use Rattle.type_rules.specs.TypeRules.{has_name, has_repeated, static_type, places_of, function_places, item_places};
 ghost use Rattle.types.specs.Faults.{Faults, Refuses, Finds, Tells, broken_if, scope_of, found, head_faults, own_places, with_static};
 
 use crate::blocks::check_block;
-use crate::fault::{TypeError, TypeFault, TypeRule, keep, refuse_if, refuse_name_if, told};
+use crate::fault::{TypeError, TypeFault, keep, refuse_if, refuse_name_if, told};
 use crate::scope::{enter, has_name};
 use crate::taken::Taken;
 use crate::telling::head_detail;
 use class_rules::mangling::is_mangled;
 use std::alloc::{AllocError, Global};
 use syntax::{Function, Item, Name, Static};
-use type_rules::{ExprType, Known, static_type};
+use type_rules::{ExprType, Known, TypeRule, static_type};
 
 /// The first rule that a function's head breaks after items of these names; `repeated` is whether two of its parameters and
 /// the statics are spelled alike.

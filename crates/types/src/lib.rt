@@ -13,6 +13,6 @@ mod telling;
 mod ty;
 mod typed;
 
-pub use fault::{TypeError, TypeFault, TypeRule};
-pub use type_rules::Typed;
+pub use fault::{TypeError, TypeFault};
+pub use type_rules::{TypeRule, Typed};
 pub use typed::{type_faults, type_unit};

@@ -12,7 +12,8 @@ ghost use Rattle.syntax.specs.Views.{right_side_tree, test_tree, form_tree, stmt
 ghost use Rattle.jni.specs.JniFunction.{function_named};
 ghost use Rattle.jni.specs.Table.{function_value};
 ghost use Rattle.type_rules.specs.ExprTypes.{type_in, is_unknown, type_of, has_elements, is_index, is_jint, call_arguments_fit};
-ghost use Rattle.type_rules.specs.TypeRules.{is_formed, value_sets, right_side_sets, buffer_begins, test_fits, return_fits, statement_fits, copies_reference, typing_rules, UnknownName, DeclaredTwice, TypeMisfit, UnknownFunction, ArgumentCount, ReferenceCopied, BadMode, ReadOnlyWrite, breaks_type_rule};
+ghost use Rattle.type_rules.specs.declared.rule.TypeRule.TheVariants.{UnknownName, DeclaredTwice, TypeMisfit, UnknownFunction, ArgumentCount, ReferenceCopied, BadMode, ReadOnlyWrite};
+ghost use Rattle.type_rules.specs.TypeRules.{is_formed, value_sets, right_side_sets, buffer_begins, test_fits, return_fits, statement_fits, copies_reference, typing_rules, breaks_type_rule};
 ghost use Rattle.types.specs.Called.{function_in, call_of_test, declared};
 ghost use Rattle.type_rules.specs.TypeViews.{type_value};
 ghost use Rattle.types.specs.AllFaults.{told_at};
@@ -24,7 +25,7 @@ use crate::calls::{
     may_be_dropped, may_be_tested,
 };
 use crate::expressions::{has_unknown, is_null, name_type, type_of};
-use crate::fault::{TypeError, TypeFault, TypeRule, keep};
+use crate::fault::{TypeError, TypeFault, keep};
 use crate::scope::{is_unknown, type_in};
 use crate::taken::Taken;
 use crate::telling::statement_detail;
@@ -35,7 +36,7 @@ use jni::{JniFunction, function_named};
 use places::{Fault, Line};
 use std::alloc::AllocError;
 use syntax::{Call, ElementType, ExprRef, Form, Name, ResultType, RightSide, Stmt, Test};
-use type_rules::{ExprType, Known, own_call, variable_type};
+use type_rules::{ExprType, Known, TypeRule, own_call, variable_type};
 
 /// The function that a statement calls, if it is known.
 pub(crate) fn function_called(form: &Form) -> Option<JniFunction>

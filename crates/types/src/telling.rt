@@ -2,7 +2,6 @@
 
 use crate::calls::argument_fits;
 use crate::expressions::{is_null, type_of};
-use crate::fault::TypeRule;
 use crate::scope::{has_name, is_unknown, type_in};
 use crate::statements::{declared, function_called, statement_fits};
 use crate::ty::{has_elements, is_index};
@@ -13,7 +12,7 @@ use syntax::{
     Argument, BinaryOp, Call, Constant, ElementType, ExprRef, Form, Function, Name, PrefixOp,
     ResultType, RightSide, Shape, Test,
 };
-use type_rules::{ExprType, Known, Question, first_name, own_call, variable_type};
+use type_rules::{ExprType, Known, Question, TypeRule, first_name, own_call, variable_type};
 
 /// An element type in C's words.
 fn element_words(element: ElementType) -> &'static [u8] {

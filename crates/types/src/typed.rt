@@ -5,7 +5,7 @@ ghost use Rattle.std.specs.List.{All};
 ghost use Rattle.syntax.specs.Views.{unit_tree};
 ghost use Rattle.type_rules.specs.TypeRules.{IsWellTyped, BreaksTypeRule, first_broken};
 ghost use Rattle.types.specs.AllFaults.{typing_faults};
-ghost use Rattle.types.specs.Faults.{Tells, IfBroken, fault_of, rule_of};
+ghost use Rattle.types.specs.Faults.{Tells, IfBroken, fault_of};
 
 use crate::fault::{TypeError, TypeFault};
 use crate::items::check_items;
@@ -41,7 +41,7 @@ pub fn type_unit(alloc: Global, unit: Unit) -> Result<Typed, TypeError>
     // The fault is the first in text order, and at one statement the one of the least number.
     ensures first { IfErr result (λ e. IfBroken e (λ f. first_broken (unit_tree unit) ≡ Some (fault_of f))) }
     // Its rule is broken on its line.
-    ensures earned { IfErr result (λ e. IfBroken e (λ f. BreaksTypeRule (rule_of f.rule) f.line (unit_tree unit))) }
+    ensures earned { IfErr result (λ e. IfBroken e (λ f. BreaksTypeRule f.rule f.line (unit_tree unit))) }
 {
     let mut faults = check_unit(alloc, &unit, false)?;
     if faults.is_empty() {
@@ -61,7 +61,7 @@ pub fn type_faults(alloc: Global, unit: &Unit) -> Result<Vec<TypeFault>, AllocEr
     // The first is the one that `type_unit` answers.
     ensures first { IfOk result (λ faults. slice_get (map fault_of faults.items) 0 ≡ first_broken (unit_tree unit.now)) }
     // The rule of each is broken on its line.
-    ensures earned { IfOk result (λ faults. All (λ f. BreaksTypeRule (rule_of f.rule) f.line (unit_tree unit.now)) faults.items) }
+    ensures earned { IfOk result (λ faults. All (λ f. BreaksTypeRule f.rule f.line (unit_tree unit.now)) faults.items) }
 {
     check_unit(alloc, unit, true)
 }

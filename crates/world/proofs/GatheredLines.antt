@@ -19,20 +19,22 @@ use Rattle.world.specs.Gathered.{Gathered, gather, is_known, can_hold, each_can_
 use Rattle.world_lines.specs.ClassRules.{broken_class_rule, is_formed}
 use Rattle.world_lines.specs.LineContents.{written_values, name_given, cells_added}
 use Rattle.world.specs.ReadingWorlds.{rule_broken, least_rule as least_of}
+use Rattle.world_values.specs.declared.part.Part.{Part}
+use Rattle.world_values.specs.declared.part.Part.TheVariants as parts
 use Rattle.world_values.specs.WorldLines.{WorldValue, NumberValue, NullValue, NamedObject, NamedClass, WorldLine, MethodsLine, ClassLine, FieldLine, StaticLine, ObjectLine, ObjectsLine, ArrayLine, StringLine, ThreadLine, CallLine, Lines}
 use Rattle.world_values.specs.WorldMeaning.{table_of, object_defined, objects_defined, values_of_line, invocation_of_line, with_last, threads_with, threads_of, has_methods, cells_of}
-use Rattle.world_values.specs.WorldRules.{part_of, is_in_order, is_formed_value, is_well_formed, is_class_allowed, is_name_taken, is_known_value, holds_value, types_of_line, each_holds, value_in_range, each_in_range, is_within_limits, line_breaks}
+use Rattle.world_values.specs.WorldRules.{part_of, is_no_later, is_in_order, is_formed_value, is_well_formed, is_class_allowed, is_name_taken, is_known_value, holds_value, types_of_line, each_holds, value_in_range, each_in_range, is_within_limits, line_breaks}
 use Rattle.world.proofs.GrownLines.{defined_grow, threads_grow}
 use Rattle.world.proofs.OrderedLines.{AreOrdered, order_told}
 use Rattle.world.proofs.Soundness.{AreSound}
 use Rattle.world.proofs.WorldCells.{cells_grow}
 
 -- what is known of lines that keep the rules
-pub record AreGathered (cells part : ℕ) (lines : Lines) : Type 0 where
+pub record AreGathered (cells : ℕ) (part : Part) (lines : Lines) : Type 0 where
   pub sound : AreSound cells lines
   pub ordered : AreOrdered lines part
   pub few_calls : list_all (λ calls. nat_le (length calls) 256) (threads_of lines) ≡ true
-  pub started : (length (threads_of lines) == 0) ≡ not (part == 2)
+  pub started : (length (threads_of lines) == 0) ≡ not (is_no_later parts.Threads part)
 
 -- ---- tests
 
@@ -117,7 +119,7 @@ text_in_range (b ∷ text) h =
     let low = leb-true b 126 (and_parts (nat_le 32 b) (nat_le b 126) first.0).1 in
     and_from (nat_le b 2147483647) (list_all (value_in_range JInt) (map (λ b. NumberValue (pos b)) text)) (le-leb b 2147483647 (omega (arith, low))) (text_in_range text first.1)
 
-module _ (heap_line cells part : ℕ) (L : Lines) where
+module _ (heap_line cells : ℕ) (part : Part) (L : Lines) where
   abbrev T : Classes
   T = table_of L
 
@@ -288,13 +290,13 @@ module _ (heap_line cells part : ℕ) (L : Lines) where
     abbrev said_last : ℕ → WorldLine → Bool → Option LineRule
     said_last n line ranged =
         cond (not ranged || not (is_within_limits (L ++ (n, line) ∷ []))) (Some OutOfLimit)
-        (cond (nat_lt (part_of line) 2 && nat_lt cells (cells_of (L ++ (n, line) ∷ []))) (Some HeapFull) None)
+        (cond (is_no_later (part_of line) parts.Objects && nat_lt cells (cells_of (L ++ (n, line) ∷ []))) (Some HeapFull) None)
 
     above_is_full : (added : ℕ) (all : ℕ) → all ≡ cells_of L + added → nat_lt cells all ≡ not (nat_le (cells_of L + added) cells)
     above_is_full added all e = grind (arith, nat_tests, e)
 
     last_told : (n : ℕ) (line : WorldLine) (ranged : Bool) → is_within_limits (L ++ (n, line) ∷ []) ≡ has_place g line
-        → (nat_lt (part_of line) 2 && nat_lt cells (cells_of (L ++ (n, line) ∷ []))) ≡ not (nat_le (cells_of L + cells_added line) cells) → asked_last n line ranged ≡ said_last n line ranged
+        → (is_no_later (part_of line) parts.Objects && nat_lt cells (cells_of (L ++ (n, line) ∷ []))) ≡ not (nat_le (cells_of L + cells_added line) cells) → asked_last n line ranged ≡ said_last n line ranged
     last_told n line ranged within full =
         ap (λ b. cond b (Some OutOfLimit) (cond (not (nat_le (cells_of L + cells_added line) cells)) (Some HeapFull) None)) (sym (de_morgan ranged (has_place g line)) ∙ ap (λ b. not ranged || not b) (sym within))
         ∙ ap (λ b. cond (not ranged || not (is_within_limits (L ++ (n, line) ∷ []))) (Some OutOfLimit) (cond b (Some HeapFull) None)) (sym full)

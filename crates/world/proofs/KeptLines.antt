@@ -1,13 +1,14 @@
 -- What is known of a line that keeps the rules, and of lines that keep them one after another.
-use Rattle.std.proofs.Common.{◌≡◌, ℕ, ◌<◌, ◌≤◌, Bool, true, false, cond, List, [], ◌∷◌, ◌++◌, length, map, refl, sym, ap, ◌∙◌}
+use Rattle.std.proofs.Common.{◌≡◌, ℕ, ◌≤◌, Bool, true, false, cond, List, [], ◌∷◌, ◌++◌, length, map, refl, sym, ap, ◌∙◌}
 use Rattle.std.specs.Prelude.{not, ◌&&◌, ◌||◌, nat_lt, nat_le, filter}
 use Rattle.std.specs.List.{list_all}
-use Rattle.std.proofs.lemmas.Bool.{and_parts, or_parts, not-false, lt-ltb, leb-true, ltb-false}
+use Rattle.std.proofs.lemmas.Bool.{and_parts, or_parts, not-false, leb-true, ltb-false}
 use Rattle.class_rules.specs.Additions.{ClassRule, NameTaken, BadSuperclass, BadSignature, TooMany}
 use Rattle.world_schedules.specs.LineRules.{LineRule, OfClass, LineForm, WrongName, OutOfLimit, HeapFull, line_rules}
+use Rattle.world_values.specs.declared.part.Part.TheVariants as parts
 use Rattle.world_values.specs.WorldLines.{WorldLine, Lines}
 use Rattle.world_values.specs.WorldMeaning.{table_of, objects_defined, values_of_line, threads_of, has_methods, cells_of}
-use Rattle.world_values.specs.WorldRules.{part_of, is_in_order, is_formed_value, is_well_formed, is_class_allowed, is_name_taken, is_known_value, types_of_line, each_holds, each_in_range, is_within_limits, breaks_class_rule, line_breaks, broken_by_line, broken_after}
+use Rattle.world_values.specs.WorldRules.{part_of, is_no_later, is_in_order, is_formed_value, is_well_formed, is_class_allowed, is_name_taken, is_known_value, types_of_line, each_holds, each_in_range, is_within_limits, breaks_class_rule, line_breaks, broken_by_line, broken_after}
 use Rattle.world_lines.proofs.Tests.{filter_none}
 
 -- a line that is in its order, and what each rule asks of it
@@ -24,7 +25,7 @@ pub record IsKept (cells : ℕ) (earlier : Lines) (line : ℕ × WorldLine) : Ty
   pub few_objects : length (objects_defined (earlier ++ line ∷ [])) ≤ 65536
   pub few_threads : length (threads_of (earlier ++ line ∷ [])) ≤ 8
   pub few_calls : list_all (λ calls. nat_le (length calls) 256) (threads_of (earlier ++ line ∷ [])) ≡ true
-  pub room : part_of line.1 < 2 → cells_of (earlier ++ line ∷ []) ≤ cells
+  pub room : is_no_later (part_of line.1) parts.Objects ≡ true → cells_of (earlier ++ line ∷ []) ≤ cells
 
 module _ (cells : ℕ) (earlier : Lines) (n : ℕ) (line : WorldLine) where
   abbrev breaks : LineRule → Bool
@@ -81,7 +82,7 @@ module _ (cells : ℕ) (earlier : Lines) (n : ℕ) (line : WorldLine) where
         few_objects = leb-true _ _ counts.0;
         few_threads = leb-true _ _ counts.1;
         few_calls = limits.1;
-        room = λ first. ltb-false cells (cells_of next) (sym (ap (λ b. b && nat_lt cells (cells_of next)) (lt-ltb (part_of line) 2 first)) ∙ full);
+        room = λ first. ltb-false cells (cells_of next) (sym (ap (λ b. b && nat_lt cells (cells_of next)) first) ∙ full);
       }
 
   pub kept_line : broken_by_line cells earlier (n, line) ≡ [] → IsKept cells earlier (n, line)

@@ -17,12 +17,14 @@ use Rattle.world_schedules.specs.declared.fault.TextFault.{TextFault}
 use Rattle.world_schedules.specs.Rule.{rule_of}
 use Rattle.world.specs.Gathered.{Gathered, gather, gathered_read, gathered_world, whole_read, all_read, world_left, least_rule, with_line}
 use Rattle.world.specs.LinesLeft.{lines_left}
+use Rattle.world_values.specs.declared.part.Part.{Part}
+use Rattle.world_values.specs.declared.part.Part.TheVariants as parts
 use Rattle.world_values.specs.declared.world.World.{World as InMemory}
 use Rattle.world_lines.specs.ReadingLines.{HeapLine, heap_of_line, line_of}
 use Rattle.world.specs.ReadingWorlds.{held_rule, rule_broken, ruled, line_read, lines_read, heap_read, last_number, world_read, numbered_read, world_of_text}
 use Rattle.world_values.specs.SoundWorlds.{IsSound}
 use Rattle.world_values.specs.WorldLines.{WorldLine, MethodsLine, Lines, text_lines}
-use Rattle.world_values.specs.WorldRules.{first_lines, part_of, IsWorldText}
+use Rattle.world_values.specs.WorldRules.{first_lines, part_of, is_no_later, IsWorldText}
 use Rattle.world.proofs.GatheredLines.{AreGathered, rule_same}
 use Rattle.world.proofs.GatheredNext.{gathered_next, are_gathered}
 use Rattle.world.proofs.OrderedLines.{AreOrdered, none_ordered, more_ordered}
@@ -44,7 +46,7 @@ held_same held.Heap = refl
 
 -- ---- one line
 
-module _ (heap_line cells part : ℕ) (L : Lines) (s : AreGathered cells part L) (n : ℕ) where
+module _ (heap_line cells : ℕ) (part : Part) (L : Lines) (s : AreGathered cells part L) (n : ℕ) where
   abbrev g : Gathered
   g = gather heap_line cells part L
 
@@ -80,24 +82,24 @@ module _ (heap_line cells part : ℕ) (L : Lines) (s : AreGathered cells part L)
 record IsReading (g : Gathered) (last : ℕ) (rest : List (ℕ × List ℕ)) (read : Result World TextFault) : Type 0 where
   pub heap_line : ℕ
   pub cells : ℕ
-  pub part : ℕ
+  pub part : Part
   pub lines : Lines
   pub high : cells ≤ 1048576
   pub is : g ≡ gather heap_line cells part lines
   pub state : AreGathered cells part lines
   pub further : (lines_read cells lines rest >>= λ all. world_read heap_line cells (last_number last rest) all) ≡ read
 
-first_ordered : (n : ℕ) (methods : Bool) → AreOrdered (first_lines n methods) 0
-first_ordered n true = more_ordered [] 0 n MethodsLine none_ordered refl
+first_ordered : (n : ℕ) (methods : Bool) → AreOrdered (first_lines n methods) parts.Classes
+first_ordered n true = more_ordered [] parts.Classes n MethodsLine none_ordered refl
 first_ordered n false = none_ordered
 
-first_gathered : (cells n : ℕ) (methods : Bool) → 512 ≤ cells → AreGathered cells 0 (first_lines n methods)
+first_gathered : (cells n : ℕ) (methods : Bool) → 512 ≤ cells → AreGathered cells parts.Classes (first_lines n methods)
 first_gathered cells n true low = record { sound = first_sound cells n true low; ordered = first_ordered n true; few_calls = refl; started = refl }
 first_gathered cells n false low = record { sound = first_sound cells n false low; ordered = first_ordered n false; few_calls = refl; started = refl }
 
 -- after the line of the heap
-starts : (g : Gathered) (number cells : ℕ) (methods : Bool) (rest : List (ℕ × List ℕ)) → (512 ≤ cells) × (cells ≤ 1048576) → g ≡ gather number cells 0 (first_lines number methods) → IsReading g number rest (world_left (cells, methods) number rest)
-starts g number cells methods rest size is = record { heap_line = number; cells = cells; part = 0; lines = first_lines number methods; high = size.1; is = is; state = first_gathered cells number methods size.0; further = refl }
+starts : (g : Gathered) (number cells : ℕ) (methods : Bool) (rest : List (ℕ × List ℕ)) → (512 ≤ cells) × (cells ≤ 1048576) → g ≡ gather number cells parts.Classes (first_lines number methods) → IsReading g number rest (world_left (cells, methods) number rest)
+starts g number cells methods rest size is = record { heap_line = number; cells = cells; part = parts.Classes; lines = first_lines number methods; high = size.1; is = is; state = first_gathered cells number methods size.0; further = refl }
 
 -- the line of the heap is read
 by_heap : (number : ℕ) (bytes : List ℕ) (rest : List (ℕ × List ℕ)) (text : List ℕ) (heap : Result HeapLine TextFault) → text_lines text ≡ (number, bytes) ∷ rest → heap_read number (heap_of_line bytes) ≡ heap
@@ -155,7 +157,7 @@ unfolding lines_read world_read
 ends g last read r =
     ap (λ x. finished_read x last) r.is
     ∙ ap (λ b. cond b (refused held.Limit last) (Ok (gathered_world (gather r.heap_line r.cells r.part r.lines)))) r.state.started
-    ∙ by_test (r.part == 2)
+    ∙ by_test (is_no_later parts.Threads r.part)
     ∙ sym (ap (λ b. cond b (Ok (gathered_world (gather r.heap_line r.cells r.part r.lines))) (refused held.Limit last)) r.state.ordered.threads)
     ∙ r.further
   where
@@ -187,10 +189,10 @@ same_all ((number, bytes) ∷ rest) g last read r = by_line (gathered_read g num
     by_line (Err f) e further = refuses g last number bytes rest read r f e
 
 -- what is gathered before them, after the line of the heap
-same_left : (g : Gathered) (number cells : ℕ) (methods : Bool) (rest : List (ℕ × List ℕ)) → (512 ≤ cells) × (cells ≤ 1048576) → g ≡ gather number cells 0 (first_lines number methods) → Same (all_read g number rest) (world_left (cells, methods) number rest)
+same_left : (g : Gathered) (number cells : ℕ) (methods : Bool) (rest : List (ℕ × List ℕ)) → (512 ≤ cells) × (cells ≤ 1048576) → g ≡ gather number cells parts.Classes (first_lines number methods) → Same (all_read g number rest) (world_left (cells, methods) number rest)
 same_left g number cells methods rest size is = same_all rest g number (world_left (cells, methods) number rest) (starts g number cells methods rest size is)
 
-module _ (g : Gathered) (number cells : ℕ) (methods : Bool) (rest : List (ℕ × List ℕ)) (size : (512 ≤ cells) × (cells ≤ 1048576)) (is : g ≡ gather number cells 0 (first_lines number methods)) where
+module _ (g : Gathered) (number cells : ℕ) (methods : Bool) (rest : List (ℕ × List ℕ)) (size : (512 ≤ cells) × (cells ≤ 1048576)) (is : g ≡ gather number cells parts.Classes (first_lines number methods)) where
   -- they make a world
   pub make_world : (whole : Gathered) → all_read g number rest ≡ Ok whole → (world_left (cells, methods) number rest ≡ Ok (gathered_world whole)) × IsSound (gathered_world whole)
   make_world whole e = subst (λ (o : Result Gathered TextFault). Same o (world_left (cells, methods) number rest)) e (same_left g number cells methods rest size is)

@@ -1,5 +1,5 @@
 -- Lines that keep the rules, each after those before it, define a sound world.
-use Rattle.std.proofs.Common.{◌≡◌, ℕ, ◌+◌, ◌<◌, ◌≤◌, Bool, true, false, List, [], ◌∷◌, ◌++◌, length, map, Option, Some, None, refl, sym, ap, ◌∙◌, subst, arith, append_assoc, append-nil, ◌⊎◌, inl, inr}
+use Rattle.std.proofs.Common.{◌≡◌, ℕ, ◌+◌, ◌≤◌, Bool, true, false, List, [], ◌∷◌, ◌++◌, length, map, Option, Some, None, refl, sym, ap, ◌∙◌, subst, arith, append_assoc, append-nil, ◌⊎◌, inl, inr}
 use Rattle.std.specs.Prelude.{◌&&◌, ◌||◌, codes}
 use Rattle.std.specs.Option.{option_map, option_to_list}
 use Rattle.std.specs.List.{list_all}
@@ -17,13 +17,14 @@ use Rattle.semantics.specs.Reachable.{loaded_count}
 use Rattle.semantics.specs.World.{Invocation, class_objects, fresh_object, made_before}
 use Rattle.world_values.specs.CallArguments.{is_argument, are_arguments}
 use Rattle.world_values.specs.SoundWorlds.{IsObjectAfter, AreObjectsAfter, has_call, IsSound}
+use Rattle.world_values.specs.declared.part.Part.TheVariants as parts
 use Rattle.world_values.specs.WorldLines.{WorldValue, WorldLine, MethodsLine, ClassLine, FieldLine, StaticLine, ObjectLine, ObjectsLine, ArrayLine, StringLine, ThreadLine, CallLine, Lines}
 use Rattle.world_values.specs.WorldMeaning.{table_with, table_of, objects_defined, value_of, values_of_line, object_of, invocation_of_line, with_last, threads_with, threads_of, is_methods_line, has_methods, world_of, cells_of}
-use Rattle.world_values.specs.WorldRules.{first_lines, part_of, is_well_formed, is_class_allowed, is_known_value, value_in_range, types_of_line, each_in_range, breaks_class_rule}
+use Rattle.world_values.specs.WorldRules.{first_lines, part_of, is_no_later, is_well_formed, is_class_allowed, is_known_value, value_in_range, types_of_line, each_in_range, breaks_class_rule}
 use Rattle.world.proofs.DeclaredTables.{Declares, built_ins_declare, line_declares, declares_well}
 use Rattle.world.proofs.FittingObjects.{made_so_far, same_classes, made-length, are_given, object_fits}
 use Rattle.world.proofs.GrownClasses.{IsGrownTable, built_ins_grown, line_grows}
-use Rattle.world.proofs.GrownLines.{objects_of, are_known, table_grows, table_stays, first_or_later, before_or_thread, known_grow, objects_grow, threads_grow, no_thread, no_threads, first_lines_next, no_objects_made, thread_no_object}
+use Rattle.world.proofs.GrownLines.{objects_of, are_known, table_grows, table_stays, IsAfterClasses, IsBeforeThreads, first_or_later, before_or_thread, known_grow, objects_grow, threads_grow, no_thread, no_threads, first_lines_next, no_objects_made, thread_no_object}
 use Rattle.world.proofs.KeptBuiltIns.{KeepsBuiltIns, built_ins_kept, line_kept, error_kept}
 use Rattle.world.proofs.WorldTables.{built_ins_table}
 use Rattle.world.proofs.KeptLines.{IsKept}
@@ -188,7 +189,7 @@ module _ (cells : ℕ) (L : Lines) (n : ℕ) (line : WorldLine) (s : AreSound ce
   fitting_next : AreObjectsAfter (table_of next) (made_before (table_of next)) (objects_of next)
   fitting_next = by_part (first_or_later line)
     where
-      by_part : (part_of line ≡ 0) ⊎ (0 < part_of line) → AreObjectsAfter (table_of next) (made_before (table_of next)) (objects_of next)
+      by_part : (part_of line ≡ parts.Classes) ⊎ IsAfterClasses line → AreObjectsAfter (table_of next) (made_before (table_of next)) (objects_of next)
       by_part (inl p) = subst (AreObjectsAfter (table_of next) (made_before (table_of next))) (sym (no_objects_made next next (first_lines_next L n line k.ordered p))) tt
       by_part (inr p) =
           subst (λ T. AreObjectsAfter T (made_before T) (objects_of next)) (sym (table_stays L n line p))
@@ -227,13 +228,13 @@ module _ (cells : ℕ) (L : Lines) (n : ℕ) (line : WorldLine) (s : AreSound ce
       given f vs (ap (list_all (is_known_value L)) (sym e) ∙ k.known) (ap (λ xs. each_in_range [] xs) (sym e) ∙ ap (λ types. each_in_range types (values_of_line line)) (sym t) ∙ k.ranged)
 
   -- the same objects as before a line of a thread
-  same_objects : part_of line ≡ 2 → objects_of next ≡ objects_of L
+  same_objects : part_of line ≡ parts.Threads → objects_of next ≡ objects_of L
   same_objects p =
       let made : Identifier × ℕ → Object = λ o. record { class = o.1; values = map (value_of L) (values_of_line line) } in
       objects_next ∙ ap (λ o. objects_of L ++ option_to_list (option_map made o)) (thread_no_object (table_of L) line p) ∙ append-nil (objects_of L)
 
-  same_table : part_of line ≡ 2 → table_of next ≡ table_of L
-  same_table p = table_stays L n line (omega (arith, p))
+  same_table : part_of line ≡ parts.Threads → table_of next ≡ table_of L
+  same_table p = table_stays L n line (ap (λ part. is_no_later part parts.Classes) p)
 
   arguments_next : list_all (list_all (are_arguments (loaded_count (world_of 0 cells next)))) (threads_of next) ≡ true
   arguments_next = by_part (before_or_thread line)
@@ -241,8 +242,8 @@ module _ (cells : ℕ) (L : Lines) (n : ℕ) (line : WorldLine) (s : AreSound ce
       made : ℕ
       made = loaded_count (world_of 0 cells L)
 
-      by_part : (part_of line ≤ 1) ⊎ (part_of line ≡ 2) → list_all (list_all (are_arguments (loaded_count (world_of 0 cells next)))) (threads_of next) ≡ true
-      by_part (inl p) = ap (list_all (list_all (are_arguments (loaded_count (world_of 0 cells next))))) (threads_next ∙ no_thread L (threads_of L) n line (le-leb (part_of line) 1 p) ∙ no_threads L n line k.ordered s.known k.known p)
+      by_part : IsBeforeThreads line ⊎ (part_of line ≡ parts.Threads) → list_all (list_all (are_arguments (loaded_count (world_of 0 cells next)))) (threads_of next) ≡ true
+      by_part (inl p) = ap (list_all (list_all (are_arguments (loaded_count (world_of 0 cells next))))) (threads_next ∙ no_thread L (threads_of L) n line p ∙ no_threads L n line k.ordered s.known k.known p)
       by_part (inr p) =
           ap (λ T. list_all (list_all (are_arguments (length T + 1 + length (objects_of next)))) (threads_of next)) (same_table p)
           ∙ ap (λ os. list_all (list_all (are_arguments (length (table_of L) + 1 + length os))) (threads_of next)) (same_objects p)
@@ -257,8 +258,8 @@ module _ (cells : ℕ) (L : Lines) (n : ℕ) (line : WorldLine) (s : AreSound ce
   fits_next : cells_of next ≤ cells
   fits_next = by_part (before_or_thread line)
     where
-      by_part : (part_of line ≤ 1) ⊎ (part_of line ≡ 2) → cells_of next ≤ cells
-      by_part (inl p) = k.room (omega (arith, p))
+      by_part : IsBeforeThreads line ⊎ (part_of line ≡ parts.Threads) → cells_of next ≤ cells
+      by_part (inl p) = k.room p
       by_part (inr p) =
           subst (λ w. sizes w ≤ cells)
           (sym (ap (λ T. class_objects T ++ fresh_object T out_of_memory_error ∷ objects_of next) (same_table p) ∙ ap (λ os. class_objects (table_of L) ++ fresh_object (table_of L) out_of_memory_error ∷ os) (same_objects p))) s.fits

@@ -19,9 +19,11 @@ use Rattle.world_lines.specs.LineContents.{written_values, name_given, cells_add
 use Rattle.world_lines.specs.ReadingLines.{HeapLine, line_of}
 use Rattle.world.specs.ReadingWorlds.{ruled, lines_read, last_number, world_read}
 use Rattle.world_schedules.specs.LineRules.{LineRule, OfClass, LineForm, WrongName, OutOfLimit, HeapFull}
+use Rattle.world_values.specs.declared.part.Part.{Part}
+use Rattle.world_values.specs.declared.part.Part.TheVariants as parts
 use Rattle.world_values.specs.WorldLines.{WorldValue, NumberValue, NullValue, NamedObject, NamedClass, WorldLine, MethodsLine, ClassLine, FieldLine, StaticLine, ObjectLine, ObjectsLine, ArrayLine, StringLine, ThreadLine, CallLine, Lines}
 use Rattle.world_values.specs.WorldMeaning.{class_number, field_of, table_of, objects_defined, object_of, with_last, threads_of, has_methods, cells_of}
-use Rattle.world_values.specs.WorldRules.{first_lines, part_of, is_call_line, is_class_allowed, types_of_line, each_in_range}
+use Rattle.world_values.specs.WorldRules.{first_lines, part_of, is_no_later, is_call_line, is_class_allowed, types_of_line, each_in_range}
 
 pub record Gathered : Type 0 where
   -- the line of the heap, and whether it allows methods
@@ -36,10 +38,10 @@ pub record Gathered : Type 0 where
   -- the cells that are used at load
   pub used : ℕ
   -- the part of the last line
-  pub part : ℕ
+  pub part : Part
 
 -- what these lines say, the last of which is of this part
-abbrev pub gather : (heap_line cells part : ℕ) → Lines → Gathered
+abbrev pub gather : (heap_line cells : ℕ) → (part : Part) → Lines → Gathered
 gather heap_line cells part lines = record {
   heap_line = heap_line;
   methods = has_methods lines;
@@ -56,7 +58,7 @@ gather heap_line cells part lines = record {
 
 -- no line of a later part is before it, and a thread is before a further call
 abbrev pub comes_in_order : Gathered → WorldLine → Bool
-comes_in_order g line = nat_le g.part (part_of line) && (not (is_call_line line) || (g.part == 2))
+comes_in_order g line = is_no_later g.part (part_of line) && (not (is_call_line line) || is_no_later parts.Threads g.part)
 
 -- whether a value's object or class is known
 abbrev pub is_known : Classes → ByName ℕ → WorldValue → Bool
@@ -141,7 +143,7 @@ with_object g x class values = record g {
   names = g.names ++ (x, class) ∷ [];
   objects = g.objects ++ (record { class = class; values = values }) ∷ [];
   used = g.used + object_size (length values);
-  part = 1;
+  part = parts.Objects;
 }
 
 -- a call
@@ -150,7 +152,7 @@ call_with g number function arguments = record { line = number; function = funct
 
 -- one more call of a new thread, or of the last one
 abbrev pub with_threads : Gathered → List (List Invocation) → Gathered
-with_threads g threads = record g { threads = threads; part = 2 }
+with_threads g threads = record g { threads = threads; part = parts.Threads }
 
 -- the number of a class of arrays
 abbrev pub array_number : Classes → Identifier → ℕ
@@ -158,21 +160,21 @@ array_number classes element = class_number classes (array_name element)
 
 -- what is there after the line of this number
 abbrev pub with_line : Gathered → ℕ → WorldLine → Gathered
-with_line g number MethodsLine = record g { methods = true; classes = with_methods g.classes; used = g.used + 6; part = 0 }
+with_line g number MethodsLine = record g { methods = true; classes = with_methods g.classes; used = g.used + 6; part = parts.Classes }
 with_line g number (ClassLine name superclass) = record g {
   classes = with_class g.classes (new_class name (class_named g.classes (unwrap_or superclass (codes "java/lang/Object"))));
   used = g.used + 6;
-  part = 0;
+  part = parts.Classes;
 }
 with_line g number (FieldLine class name signature) = record g {
   classes = with_field g.classes
       (class_number g.classes class) (field_of g.classes name signature);
-  part = 0;
+  part = parts.Classes;
 }
 with_line g number (StaticLine class name signature) = record g {
   classes = with_static g.classes (class_number g.classes class) (field_of g.classes name signature);
   used = g.used + 1;
-  part = 0;
+  part = parts.Classes;
 }
 with_line g number (ObjectLine x class values) = with_object g x (class_number g.classes class) (map (value_at g.classes g.names) values)
 with_line g number (ObjectsLine x class values) = with_object g x (array_number g.classes class) (map (value_at g.classes g.names) values)

@@ -25,7 +25,7 @@ use class_rules::ClassId;
 use semantics::ObjectId;
 use std::alloc::{AllocError, Global};
 use world_lines::{FieldWords, Value};
-use world_values::{Call, Object, ObjectValue};
+use world_values::{Call, Object, ObjectValue, Part};
 
 /// The unit that a byte is.
 fn unit(byte: u8) -> ObjectValue
@@ -111,14 +111,14 @@ impl WorldBuilder {
         ensures { OnOk result (gathered_of self.new ≡ record (gathered_of self.old) {
           classes = with_class self.old.classes (new_class name.now (class_named self.old.classes superclass.now));
           used = self.old.used + 6;
-          part = 0;
+          part = Part.Classes;
         }) }
     {
         if self.classes.add_class(name, superclass).is_err() {
             return Err(AllocError);
         }
         self.used += 6;
-        self.part = 0;
+        self.part = Part::Classes;
         Ok(())
     }
 
@@ -126,7 +126,7 @@ impl WorldBuilder {
     pub fn allow_methods(&mut self) -> Result<(), AllocError>
         requires begun { self.old.classes ≡ built_ins }
         requires room { self.old.used + 6 ≤ self.old.cells }
-        requires first { self.old.part ≡ 0 }
+        requires first { self.old.part ≡ Part.Classes }
         ensures { OnOk result (gathered_of self.new ≡ record (gathered_of self.old) {
           methods = true;
           classes = with_methods built_ins;
@@ -149,7 +149,7 @@ impl WorldBuilder {
           classes = with_class self.old.classes (new_class name.now (class_named self.old.classes
               (unwrap_or (option_map (λ s. s.now) superclass.entry) (codes "java/lang/Object"))));
           used = self.old.used + 6;
-          part = 0;
+          part = Part.Classes;
         }) }
     {
         match superclass {
@@ -165,7 +165,7 @@ impl WorldBuilder {
           classes = with_declared self.old.classes (class_named self.old.classes field.entry.class.now)
               (declared_field self.old.classes field.entry.name.now field.entry.signature.now) is_static;
           used = self.old.used + (if is_static then 1 else 0);
-          part = 0;
+          part = Part.Classes;
         }) }
     {
         if self
@@ -176,7 +176,7 @@ impl WorldBuilder {
             return Err(AllocError);
         }
         self.used += usize::from(is_static);
-        self.part = 0;
+        self.part = Part::Classes;
         Ok(())
     }
 
@@ -198,7 +198,7 @@ impl WorldBuilder {
         self.names.push(alloc, name, class)?;
         self.objects.push(Object::new(class, values))?;
         self.used += added;
-        self.part = 1;
+        self.part = Part::Objects;
         Ok(())
     }
 
@@ -226,13 +226,13 @@ impl WorldBuilder {
     pub fn put_thread(&mut self, alloc: Global, call: Call) -> Result<(), AllocError>
         ensures { OnOk result (gathered_of self.new ≡ record (gathered_of self.old) {
           threads = (gathered_of self.old).threads ++ (call ∷ []) ∷ [];
-          part = 2;
+          part = Part.Threads;
         }) }
     {
         let mut calls = Vec::new(alloc);
         calls.push(call)?;
         self.threads.push(calls)?;
-        self.part = 2;
+        self.part = Part::Threads;
         Ok(())
     }
 
@@ -240,11 +240,11 @@ impl WorldBuilder {
     pub fn put_call(&mut self, call: Call) -> Result<(), AllocError>
         ensures { OnOk result (gathered_of self.new ≡ record (gathered_of self.old) {
           threads = with_last call (gathered_of self.old).threads;
-          part = 2;
+          part = Part.Threads;
         }) }
     {
         put_in_last(&mut self.threads, call)?;
-        self.part = 2;
+        self.part = Part::Threads;
         Ok(())
     }
 }

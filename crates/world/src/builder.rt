@@ -5,7 +5,7 @@ ghost use Rattle.base.specs.Limits.{most_cells, most_objects};
 
 use crate::names::ObjectNames;
 use classes::table::ClassTable;
-use world_values::{Call, Object};
+use world_values::{Call, Object, Part};
 
 /// What the lines so far say.
 #[derive(Drop)]
@@ -22,7 +22,7 @@ pub struct WorldBuilder {
     /// The cells that are used at load.
     pub used: usize,
     /// The part of the last line.
-    pub part: u8,
+    pub part: Part,
     ghost room: { used ≤ cells },
     ghost limit: { cells ≤ most_cells },
     ghost few: { length names ≤ most_objects },

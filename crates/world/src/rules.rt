@@ -32,6 +32,7 @@ use world_lines::{
     is_class_allowed, is_formed, is_number, name_given, part_of, values_of,
 };
 use world_schedules::Rule;
+use world_values::Part;
 
 fn is_name_taken(names: &ObjectNames, line: &Line) -> bool
     ensures { result ≡ some_passes (λ x. is_some (lookup x names.now)) (name_given (line_view line.now)) }
@@ -178,7 +179,8 @@ impl WorldBuilder {
     pub(crate) fn comes_in_order(&self, line: &Line) -> bool
         ensures { result ≡ comes_in_order (gathered_of self.now) (line_view line.now) }
     {
-        self.part <= part_of(line) && (!is_call(line) || self.part == 2)
+        self.part.is_no_later(part_of(line))
+            && (!is_call(line) || matches!(self.part, Part::Threads))
     }
 
     /// Whether the last thread may have one more call.

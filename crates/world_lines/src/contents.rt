@@ -8,15 +8,16 @@ ghost use Rattle.world_values.specs.WorldRules.{part_of, is_call_line};
 
 use crate::line::Line;
 use crate::value::Value;
+use world_values::Part;
 
-/// Class and field lines come first, then objects, then threads.
-pub fn part_of(line: &Line) -> u8
+/// The part that a line is of.
+pub fn part_of(line: &Line) -> Part
     ensures { result ≡ part_of (line_view line.now) }
 {
     match line {
-        Line::Class(..) | Line::Field(_) | Line::Static(_) => 0,
-        Line::Thread(_) | Line::Call(_) => 2,
-        _ => 1,
+        Line::Class(..) | Line::Field(_) | Line::Static(_) => Part::Classes,
+        Line::Thread(_) | Line::Call(_) => Part::Threads,
+        _ => Part::Objects,
     }
 }
 

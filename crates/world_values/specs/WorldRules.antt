@@ -12,20 +12,30 @@ use Rattle.class_rules.specs.Additions.{ClassRule, class_breaks, field_breaks, b
 use Rattle.world_schedules.specs.LineRules.{LineRule, OfClass, LineForm, WrongName, OutOfLimit, HeapFull, line_rules}
 use Rattle.class_rules.specs.Mangling.{is_simple_name, is_class_name}
 use Rattle.semantics.specs.World.{World}
+use Rattle.world_values.specs.declared.part.Part.{Part}
+use Rattle.world_values.specs.declared.part.Part.TheVariants as parts
 use Rattle.world_values.specs.WorldLines.{WorldValue, NumberValue, NullValue, NamedObject, NamedClass, WorldLine, MethodsLine, ClassLine, FieldLine, StaticLine, ObjectLine, ObjectsLine, ArrayLine, StringLine, ThreadLine, CallLine, Lines, spaced, IsLineText, text_lines}
 use Rattle.world_values.specs.WorldMeaning.{class_number, table_of, object_defined, objects_defined, class_of_object, values_of_line, threads_of, has_methods, world_of, cells_of}
 
 -- ---- the form and the order of lines
 
 -- class and field lines, then objects, then threads
-abbrev pub part_of : WorldLine → ℕ
-part_of MethodsLine = 0
-part_of (ClassLine name superclass) = 0
-part_of (FieldLine class name signature) = 0
-part_of (StaticLine class name signature) = 0
-part_of (ThreadLine function arguments) = 2
-part_of (CallLine function arguments) = 2
-part_of line = 1
+abbrev pub part_of : WorldLine → Part
+part_of MethodsLine = parts.Classes
+part_of (ClassLine name superclass) = parts.Classes
+part_of (FieldLine class name signature) = parts.Classes
+part_of (StaticLine class name signature) = parts.Classes
+part_of (ThreadLine function arguments) = parts.Threads
+part_of (CallLine function arguments) = parts.Threads
+part_of line = parts.Objects
+
+-- whether a part is the other or comes before it
+abbrev pub is_no_later : Part → Part → Bool
+is_no_later parts.Classes other = true
+is_no_later parts.Objects parts.Classes = false
+is_no_later parts.Objects other = true
+is_no_later parts.Threads parts.Threads = true
+is_no_later parts.Threads other = false
 
 -- whether a line begins a thread
 abbrev pub is_thread_line : WorldLine → Bool
@@ -40,7 +50,7 @@ is_call_line line = false
 -- no line of a later part comes before it, and a thread before a further call
 abbrev pub is_in_order : Lines → WorldLine → Bool
 is_in_order earlier line =
-    list_all (λ (l : ℕ × WorldLine). nat_le (part_of l.1) (part_of line)) earlier
+    list_all (λ (l : ℕ × WorldLine). is_no_later (part_of l.1) (part_of line)) earlier
     && (not (is_call_line line) || list_any (λ (l : ℕ × WorldLine). is_thread_line l.1) earlier)
 
 -- the name of an object is a simple name, also where it is used
@@ -166,7 +176,7 @@ line_breaks WrongName cells earlier (n, line) =
     || not (each_holds earlier (types_of_line (table_of earlier) line) (values_of_line line))
 line_breaks OutOfLimit cells earlier (n, line) =
     not (each_in_range (types_of_line (table_of earlier) line) (values_of_line line)) || not (is_within_limits (earlier ++ (n, line) ∷ []))
-line_breaks HeapFull cells earlier (n, line) = nat_lt (part_of line) 2 && nat_lt cells (cells_of (earlier ++ (n, line) ∷ []))
+line_breaks HeapFull cells earlier (n, line) = is_no_later (part_of line) parts.Objects && nat_lt cells (cells_of (earlier ++ (n, line) ∷ []))
 
 -- the rules that a line breaks; out of its order that is the only one
 abbrev pub broken_by_line : ℕ → Lines → ℕ × WorldLine → List LineRule

@@ -2,8 +2,10 @@
 #![tactic(auto)]
 
 mod object;
+mod part;
 mod world;
 
 pub use object::Object;
+pub use part::Part;
 pub use semantics::ObjectValue;
 pub use world::{Call, World};

@@ -1,6 +1,6 @@
 use Rattle.std.proofs.Common.{ap, ap₂, sym, Ok, ◌∙◌}
 use Rattle.regions.specs.declared.joins.Path.{Path as PathInMemory}
-use Rattle.region_rules.specs.RegionRules.{PathsDiffer}
+use Rattle.region_rules.specs.declared.rule.RegionRule.TheVariants.{PathsDiffer}
 use Rattle.region_rules.specs.RegionStates.{RegionState}
 use Rattle.region_rules.specs.Regions.{On}
 use Rattle.regions.specs.Walks.{path_value}

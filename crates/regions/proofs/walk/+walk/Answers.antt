@@ -3,6 +3,7 @@ use Rattle.std.specs.Prelude.{◌≡◌, IfOk}
 use Rattle.std.proofs.lemmas.List.{append_assoc, drop_all}
 use Rattle.std.proofs.lemmas.Result.{err_from_is_err_and}
 use Rattle.base.specs.Bytes.{Identifier}
+use Rattle.base.proofs.Lists.{item_here}
 use Rattle.syntax.specs.declared.stmt.Stmt.{Stmt as StmtInMemory}
 use Rattle.syntax.specs.declared.stmt.Block.{out-Block}
 use Rattle.syntax.specs.declared.stmt.Form.{Form as FormInMemory, the_lemmas}
@@ -12,7 +13,6 @@ use Rattle.syntax.proofs.Blocks.{block_is, statements_tree}
 use Rattle.regions.specs.declared.fault.CheckError.{CheckError}
 use Rattle.regions.specs.declared.joins.Branch.{Branch}
 use Rattle.regions.specs.declared.joins.Path.{Path as PathInMemory}
-use Rattle.regions.specs.Findings.{rule_of}
 use Rattle.region_states.specs.NewNames.{own_names, DeclaresNew, DeclareNew}
 use Rattle.region_rules.specs.RegionStates.{RegionState}
 use Rattle.region_rules.specs.Regions.{On, where_true, where_false}
@@ -20,7 +20,7 @@ use Rattle.region_states.specs.StatesInMemory.{names_of}
 use Rattle.regions.specs.Walks.{PathOrFault, path_value, Branches, Awaits, go_on, inner_path}
 use Rattle.regions.specs.Paths.{join_paths, path_of_block}
 use Rattle.region_states.proofs.NameLemmas.{where_true_names, where_false_names}
-use Rattle.regions.proofs.PathLemmas.{plain_is, plain_new, Goes-along, Stops-along, first_stops, stmt_goes, go_fault, if_ok_weaker, if_ok_always, branch_awaits, passed_names, stmt_fault, stmt_next, go_rest, go_step, after_line, turn_is_join}
+use Rattle.regions.proofs.PathLemmas.{plain_is, plain_new, Goes-along, Stops-along, first_stops, stmt_goes, go_fault, if_ok_weaker, if_ok_always, branch_awaits, passed_names, stmt_fault, go_rest, go_step, after_line, turn_is_join}
 use Rattle.regions.proofs.walk.+walk.Goals as goal
 
 -- ---- the loop over a block's statements
@@ -56,7 +56,7 @@ block_path-stmt_path-requires t c =
     let i = c.loop-stmt.stmt-index in
     let end_line = (out-Block c.args.block.now).end_line in (
       search (rules, the_lemmas),
-      (subst (λ (rest : List StmtInMemory). DeclareNew (names_of c.loop-stmt.state) (statements_tree rest end_line)) (stmt_next items i c.stmt-item.result c.loop-stmt-test.true c.stmt-item.is) c.loop-stmt.invariant.fresh).0,
+      (subst (λ (rest : List StmtInMemory). DeclareNew (names_of c.loop-stmt.state) (statements_tree rest end_line)) (item_here items i c.stmt-item.result c.stmt-item.result c.loop-stmt-test.true c.stmt-item.is refl) c.loop-stmt.invariant.fresh).0,
     )
 
 pub block_path-loop-stmt-preserved : goal.block_path-loop-stmt-preserved
@@ -70,7 +70,7 @@ block_path-loop-stmt-preserved t c =
     let rest = statements_tree (drop (i + 1) items) end_line in
     let own = own_names (stmt_tree s) in
     let grows = c.loop-stmt.invariant.grows in
-    let new = (subst (λ (more : List StmtInMemory). DeclareNew (names_of now) (statements_tree more end_line)) (stmt_next items i s c.loop-stmt-test.true c.stmt-item.is) c.loop-stmt.invariant.fresh).1 in
+    let new = (subst (λ (more : List StmtInMemory). DeclareNew (names_of now) (statements_tree more end_line)) (item_here items i s s c.loop-stmt-test.true c.stmt-item.is refl) c.loop-stmt.invariant.fresh).1 in
     record {
       count = c.loop-stmt.invariant.count;
       grows = (grows.0 ++ own, c.in_ok-path-in-On.ensures.names ∙ ap (λ (names : List Identifier). names ++ own) grows.1 ∙ append_assoc (names_of c.args.state.now) grows.0 own);
@@ -130,7 +130,7 @@ block_path-returns-clause-names t c = c.end.ensures.names c.args.state.now c.loo
 
 pub stmt_path-returns-in-Some-clause-goes : goal.stmt_path-returns-in-Some-clause-goes
 stmt_path-returns-in-Some-clause-goes t c =
-    stmt_fault c.refuse_statement.result c.args.state.now c.args.state.now c.args.stmt.now (rule_of c.in-Some.rule) (c.in-Some.ensures c.args.stmt.now.line) (c.refuse_statement.ensures.fault c.args.state.now)
+    stmt_fault c.refuse_statement.result c.args.state.now c.args.state.now c.args.stmt.now c.in-Some.rule (c.in-Some.ensures c.args.stmt.now.line) (c.refuse_statement.ensures.fault c.args.state.now)
 
 pub stmt_path-returns-in-Some-clause-names : goal.stmt_path-returns-in-Some-clause-names
 stmt_path-returns-in-Some-clause-names t c = if_ok_weaker c.refuse_statement.result (λ w h. absurd h) c.refuse_statement.ensures.never

@@ -2,7 +2,7 @@ use Rattle.std.proofs.Common.{ℕ, Result, Ok, Some, sym, ap, ◌∙◌}
 use Rattle.syntax.specs.Views.{block_tree, function_tree}
 use Rattle.regions.specs.declared.joins.Path.{Path as PathInMemory}
 use Rattle.regions.specs.Findings.{end_line_of, fault_at_end}
-use Rattle.region_rules.specs.RegionRules.{NoReturn}
+use Rattle.region_rules.specs.declared.rule.RegionRule.TheVariants.{NoReturn}
 use Rattle.region_rules.specs.RegionStates.{RegionState, state_at_entry}
 use Rattle.region_rules.specs.Regions.{Path}
 use Rattle.region_states.specs.StatesInMemory.{names_of}

@@ -1,6 +1,6 @@
 use Rattle.std.proofs.Common.{Some, sym, ◌∙◌}
 use Rattle.syntax.specs.Views.{result_tree}
-use Rattle.types.specs.declared.fault.TypeRule.TheVariants as rules
+use Rattle.type_rules.specs.declared.rule.TypeRule.TheVariants as rules
 use Rattle.types.proofs.JudgedLemmas.{Judges-first, Judges-later}
 use Rattle.types.proofs.statements.first_broken.Goals as goal
 

@@ -1,5 +1,5 @@
 use Rattle.std.proofs.Common.{Some, sym}
-use Rattle.types.specs.declared.fault.TypeRule.TheVariants as rules
+use Rattle.type_rules.specs.declared.rule.TypeRule.TheVariants as rules
 use Rattle.types.proofs.JudgedLemmas.{Judges-first, Judges-later}
 use Rattle.types.proofs.statements.miscalled.Goals as goal
 

@@ -3,6 +3,7 @@ use Rattle.class_rules.specs.Additions.{with_methods}
 use Rattle.class_rules.specs.BuiltIns.{built_ins}
 use Rattle.world.specs.Gathered.{Gathered, gather}
 use Rattle.world.specs.GatheredViews.{gathered_of}
+use Rattle.world_values.specs.declared.part.Part.TheVariants as parts
 use Rattle.world_values.specs.WorldRules.{first_lines}
 use Rattle.world.proofs.FirstLines.{first_methods}
 use Rattle.world.proofs.text.begun.Goals.{then-methods+in_ok-allow_methods, else-methods}
@@ -18,9 +19,9 @@ returns c =
           ∙ w.in_ok-allow_methods.ensures
           ∙ ap (λ (g : Gathered). record g { methods = true; classes = with_methods built_ins; used = g.used + 6 }) c.in_ok-builder.ensures
           ∙ first_methods line cells
-          ∙ ap (λ m. gather line cells 0 (first_lines line m)) (sym w.if-methods.true)
+          ∙ ap (λ m. gather line cells parts.Classes (first_lines line m)) (sym w.if-methods.true)
       | else-methods w ↦
           ap gathered_of w.builder-is
           ∙ c.in_ok-builder.ensures
-          ∙ ap (λ m. gather line cells 0 (first_lines line m)) (sym w.if-methods.false)
+          ∙ ap (λ m. gather line cells parts.Classes (first_lines line m)) (sym w.if-methods.false)
     ]

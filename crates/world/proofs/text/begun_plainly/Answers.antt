@@ -1,4 +1,5 @@
 use Rattle.std.proofs.Common.{false, map}
+use Rattle.world_values.specs.declared.part.Part.TheVariants as parts
 use Rattle.world.proofs.text.begun_plainly.Goals as goal
 
 pub returns : goal.returns
@@ -11,5 +12,5 @@ returns c = λ i. record {
   objects = c.new-2.ensures.items i;
   threads = map (λ t. t.items) (c.new-3.ensures.items i);
   used = c.least_used-used.ensures.used i;
-  part = 0;
+  part = parts.Classes;
 }

@@ -2,6 +2,7 @@ use Rattle.std.proofs.Common.{◌≡◌, ℕ, ◌+◌, List, [], ◌∷◌, ◌+
 use Rattle.std.proofs.Math.ListN.{length-map}
 use Rattle.base.specs.Bytes.{ByName}
 use Rattle.semantics.specs.Object.{Object}
+use Rattle.world_values.specs.declared.part.Part.TheVariants as parts
 use Rattle.world_values.specs.Views.{object_value_view}
 use Rattle.world.specs.Gathered.{Gathered}
 use Rattle.world.specs.GatheredViews.{gathered_of}
@@ -9,7 +10,7 @@ use Rattle.world.proofs.builder.WorldBuilder.put_object.Goals as goal
 
 -- the same with these names, objects and used cells, after a line of an object
 abbrev with_objects : Gathered → ByName ℕ → List Object → ℕ → Gathered
-with_objects g names objects used = record g { names = names; objects = objects; used = used; part = 1 }
+with_objects g names objects used = record g { names = names; objects = objects; used = used; part = parts.Objects }
 
 pub returns : goal.returns
 returns c =
