@@ -1,11 +1,11 @@
 -- What lowering knows of the statements of an accepted function.
-use Rattle.std.specs.Prelude.{◌≡◌, ◌≢◌, ℕ, ◌+◌, ◌^◌, ◌<◌, ◌≤◌, ◌⊎◌, max, true, false, length, Some, None, IsTrue}
+use Rattle.std.specs.Prelude.{◌≡◌, ◌≢◌, ℕ, ◌+◌, ◌^◌, ◌<◌, ◌≤◌, ◌⊎◌, max, Bool, true, false, length, Some, None, IsTrue}
 use Rattle.std.specs.List.{AllZip}
 use Rattle.base.specs.Limits.{most_elements}
 use Rattle.base.specs.Bytes.{Identifier, lookup}
 use Rattle.base.specs.Element.{ElementType, JChar}
 use Rattle.syntax.specs.Tree as tree
-use Rattle.syntax.specs.Tree.{LogicalNot, Complement, ToWord, ToInt, Expr, Argument, Call, RightSide, FromExpr, FromCall, Test, TestExpr, TestCall, Stmt, Block, End, Next, Function}
+use Rattle.syntax.specs.Tree.{LogicalNot, Complement, ToWord, ToInt, BinaryOp, Expr, Argument, Call, RightSide, FromExpr, FromCall, Test, TestExpr, TestCall, Stmt, Block, End, Next, Function}
 use Rattle.jni.specs.Access.{Access}
 use Rattle.jni.specs.JniFunction.{JniFunction, function_named, prototype, parameters_for, takes_count}
 use Rattle.jni.specs.Prototype.{ParameterKind, Nullable, NonNull, AnyReference, ClassObject, AnyArray, ObjectArray, StringObject, NumberArray, LocalVariable, StaticVariable, WeakVariable, FieldID, MethodID, Passed, IntNumber, TextBytes, ArrayVariable, BufferVariable, Mode, IsCopy, ResultKind, NewLocal, NewGlobal, NewWeak, GivesFlag, GivesInt, GivesField, GivesMethod, GivesBuffer, GivesNothing}
@@ -13,6 +13,7 @@ use Rattle.type_rules.specs.ExprTypes.{ExprType, Word, Jint, Flag, Truth, Ref, G
 use Rattle.type_rules.specs.TypeRules.{variable_type, is_droppable, is_mode}
 use Rattle.type_rules.specs.TypeGroups.{IsIndexType, IsNumberType, OperatorFits}
 use Rattle.code.specs.declared.slots.SlotCounts.{SlotCounts}
+use Rattle.semantics.specs.Value.{Value}
 use Rattle.semantics.specs.Term as term
 use Rattle.semantics.specs.Term.{Term, Done, Read, And, Or, IsNull, Prefix, Binary, term_of}
 use Rattle.code_meaning.specs.Layout.{Slot, Known, Layout, width, closed, layout_after, block_layout, entry_layout}
@@ -44,24 +45,27 @@ HasElements (Array t size) = Unit {0}
 HasElements s = ⊥
 
 -- a term whose parts have the types that their operators ask for
-abbrev pub TermHasType : Known → Term → ExprType → Type 0
-TermHasType known (Done v) s = ValueHasType v s
-TermHasType known (term.Number value true) s = (value < 2 ^ 32) × (s ≡ Word)
-TermHasType known (term.Number value false) s = (value < 2 ^ 31) × (s ≡ Jint)
-TermHasType known (term.Named tree.True) s = s ≡ Flag
-TermHasType known (term.Named tree.False) s = s ≡ Flag
-TermHasType known (term.Named c) s = ⊥
-TermHasType known (Read x) s = IsVariable known x s
-TermHasType known (term.Element x t) s = (r : ExprType) × IsIndexType r × TermHasType known t r
-    × ((n : Slot) × (lookup x known ≡ Some n) × HasElements n.ty) × (s ≡ Jint)
-TermHasType known (IsNull equal x) s = ((n : Slot) × (lookup x known ≡ Some n) × IsNullable n.ty) × (s ≡ Truth)
-TermHasType known (Prefix LogicalNot t) s = TermHasType known t Truth × (s ≡ Truth)
-TermHasType known (Prefix Complement t) s = TermHasType known t Word × (s ≡ Word)
-TermHasType known (Prefix ToWord t) s = (r : ExprType) × IsNumberType r × TermHasType known t r × (s ≡ Word)
-TermHasType known (Prefix ToInt t) s = (r : ExprType) × IsNumberType r × TermHasType known t r × (s ≡ Jint)
-TermHasType known (And a b) s = TermHasType known a Truth × TermHasType known b Truth × (s ≡ Truth)
-TermHasType known (Or a b) s = TermHasType known a Truth × TermHasType known b Truth × (s ≡ Truth)
-TermHasType known (Binary op a b) s = (r : ExprType) × OperatorFits (group op) r s × TermHasType known a r × TermHasType known b r
+pub data TermHasType (known : Known) : Term → ExprType → Type 0 where
+  done : {v : Value} {s : ExprType} → ValueHasType v s → TermHasType known (Done v) s
+  word : {n : ℕ} → n < 2 ^ 32 → TermHasType known (term.Number n true) Word
+  int : {n : ℕ} → n < 2 ^ 31 → TermHasType known (term.Number n false) Jint
+  true_flag : TermHasType known (term.Named tree.True) Flag
+  false_flag : TermHasType known (term.Named tree.False) Flag
+  read : {x : Identifier} {s : ExprType} → IsVariable known x s → TermHasType known (Read x) s
+  -- of an array or a buffer
+  element : {x : Identifier} {n : Slot} {t : Term} {r : ExprType} → lookup x known ≡ Some n → HasElements n.ty
+      → IsIndexType r → TermHasType known t r → TermHasType known (term.Element x t) Jint
+  -- a test whether a variable is NULL
+  null_test : {equal : Bool} {x : Identifier} {n : Slot} → lookup x known ≡ Some n → IsNullable n.ty → TermHasType known (IsNull equal x) Truth
+  logical_not : {t : Term} → TermHasType known t Truth → TermHasType known (Prefix LogicalNot t) Truth
+  complement : {t : Term} → TermHasType known t Word → TermHasType known (Prefix Complement t) Word
+  to_word : {t : Term} {r : ExprType} → IsNumberType r → TermHasType known t r → TermHasType known (Prefix ToWord t) Word
+  to_int : {t : Term} {r : ExprType} → IsNumberType r → TermHasType known t r → TermHasType known (Prefix ToInt t) Jint
+  both : {a b : Term} → TermHasType known a Truth → TermHasType known b Truth → TermHasType known (And a b) Truth
+  either : {a b : Term} → TermHasType known a Truth → TermHasType known b Truth → TermHasType known (Or a b) Truth
+  -- another operator with two operands, which have one type
+  operator : {op : BinaryOp} {a b : Term} {r s : ExprType} → OperatorFits (group op) r s → TermHasType known a r → TermHasType known b r
+      → TermHasType known (Binary op a b) s
 
 -- no part has its value yet
 abbrev pub IsUntouched : Term → Type 0

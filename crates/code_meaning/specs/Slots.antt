@@ -35,11 +35,11 @@ word_of (Flag b) = truth_word b
 word_of (Truth b) = truth_word b
 
 -- a value of this type, in its range
-abbrev pub ValueHasType : Value → ExprType → Type 0
-ValueHasType (Word n) s = (n < 2 ^ 32) × (s ≡ ty.Word)
-ValueHasType (Int z) s = FitsSigned w32 z × (s ≡ Jint)
-ValueHasType (Flag b) s = s ≡ ty.Flag
-ValueHasType (Truth b) s = s ≡ ty.Truth
+pub data ValueHasType : Value → ExprType → Type 0 where
+  word : {n : ℕ} → n < 2 ^ 32 → ValueHasType (Word n) ty.Word
+  int : {z : ℤ} → FitsSigned w32 z → ValueHasType (Int z) Jint
+  flag : {b : Bool} → ValueHasType (Flag b) ty.Flag
+  truth : {b : Bool} → ValueHasType (Truth b) ty.Truth
 
 -- ---- what can be seen
 

@@ -8,7 +8,6 @@ use Rattle.std.proofs.lemmas.Bool.{ltb-true, ltb-false, lt-ltb}
 use Rattle.std.proofs.lemmas.Option.{slice_get_within}
 use Rattle.base.specs.Bytes.{Identifier, lookup}
 use Rattle.base.specs.Element.{ElementType}
-use Rattle.syntax.specs.Tree as tree
 use Rattle.syntax.specs.Tree.{Expr, Block, BitOr}
 use Rattle.type_rules.specs.ExprTypes.{ExprType, Jint, Ref, Buffer, Array}
 use Rattle.type_rules.specs.ExprTypes as ty
@@ -25,18 +24,20 @@ use Rattle.semantics.specs.Effect.{Returns, with_value, return_effect, element_e
 use Rattle.semantics.specs.Sight.{in_range}
 use Rattle.semantics.specs.Task.{Task, SetScalar, SetElement, SetNull, MakeArray, Invoke, Print, Branch, EndIf, Loop, EndTurn, Return, ReturnValue, Impossible, tasks_of}
 use Rattle.semantics.specs.Term as term
-use Rattle.semantics.specs.Term.{Term, Done, Read, term_of}
-use Rattle.semantics.specs.Value.{Value, Word, Int, Flag, Truth, OutOfRange, Gives, Traps}
+use Rattle.semantics.specs.Term.{Term, Done, term_of}
+use Rattle.semantics.specs.Value.{Value, Word, Int, Truth, OutOfRange, Gives, Traps}
 use Rattle.semantics.specs.Variable as variable
 use Rattle.code_meaning.specs.Layout.{Slot, Known, Layout}
 use Rattle.code_meaning.specs.Coding.{element_of, write_code, term_code, paths_code, turn_code, block_code}
+use Rattle.code_meaning.specs.Slots as value
 use Rattle.code_meaning.specs.Slots.{word_of, ValueHasType, Visible, Slots, is_no_buffer, ShowsBuffer, Shows, elements_in, SeesBuffers, with_element}
+use Rattle.code_meaning.specs.Fits as rule
 use Rattle.code_meaning.specs.Fits.{HasElements, TermHasType}
 use Rattle.code_meaning.specs.Stands.{held, HasAt, AreAmong, IsSlotOf, NumberStands, BlockStands, LoopStands, TasksStand, StandsFor, ReferenceReturned, task_returns}
 use Rattle.code_meaning.specs.Does.{Works, WritesBuffer, Stops, DoesEffect}
 use Rattle.code_meaning.proofs.SlotLaws.{fewer_shown, shows_buffer_again, shows_element_set}
 use Rattle.lower.proofs.CodePlaces.{has_front, has_back}
-use Rattle.lower.proofs.TermSteps.{none_negative, seen_as, slot_has, shows_number, untouched_held, begun_left, left_first}
+use Rattle.lower.proofs.TermSteps.{int_in_range, none_negative, seen_as, slot_has, shows_number, untouched_held, begun_left, left_first, value_type}
 use Rattle.lower.proofs.Bodies.{number_begins, begins}
 use Rattle.code_meaning.proofs.ElementWords.{element_words, convert_fits}
 use Rattle.lower.proofs.PathsReturn.{then_returns, else_returns, any_after}
@@ -142,9 +143,7 @@ module _ (code : Listing) (known : Known) (place : ℕ) (stack : List ℕ) (slot
   branch_step : (line : ℕ) (t : Term) (then' else' : Block) (rest : List Task) → StandsFor code known place stack (Branch line t then' else' ∷ rest) → DoesEffect code known place stack slots visible rest (effect_of visible.sight (Branch line t then' else'))
   branch_step line (Done (Truth true)) then' else' rest h = branch_true line then' else' rest h
   branch_step line (Done (Truth false)) then' else' rest h = branch_false line then' else' rest h
-  branch_step line (Done (Word n)) then' else' rest h = absurd (let e : ty.Truth ≡ ty.Word = h.stand.test.ty.1 in cc)
-  branch_step line (Done (Int z)) then' else' rest h = absurd (let e : ty.Truth ≡ Jint = h.stand.test.ty.1 in cc)
-  branch_step line (Done (Flag b)) then' else' rest h = absurd (let e : ty.Truth ≡ ty.Flag = h.stand.test.ty in cc)
+  branch_step line (Done v) then' else' rest h = elim (value_type h.stand.test.ty) [ ]
   branch_step line t then' else' rest h =
       let d = h.stand in
       step_inside code known place stack slots visible shows sees line t ty.Truth [] (paths_code d.then_code (d.else_code ++ instr.Jump 0 ∷ [])) (λ u. Branch line u then' else') rest tt d.test.ty d.test.begun (d.test.operands ∙ sym (append-nil (held t))) d.at (λ u. h.returns)
@@ -244,9 +243,7 @@ module _ (code : Listing) (known : Known) (place : ℕ) (stack : List ℕ) (slot
   loop_step : (line : ℕ) (test : Expr) (t : Term) (body : Block) (rest : List Task) → StandsFor code known place stack (Loop line test t body ∷ rest) → DoesEffect code known place stack slots visible rest (effect_of visible.sight (Loop line test t body))
   loop_step line test (Done (Truth true)) body rest h = loop_true line test body rest h
   loop_step line test (Done (Truth false)) body rest h = loop_false line test body rest h
-  loop_step line test (Done (Word n)) body rest h = absurd (let e : ty.Truth ≡ ty.Word = h.stand.under_way.ty.1 in cc)
-  loop_step line test (Done (Int z)) body rest h = absurd (let e : ty.Truth ≡ Jint = h.stand.under_way.ty.1 in cc)
-  loop_step line test (Done (Flag b)) body rest h = absurd (let e : ty.Truth ≡ ty.Flag = h.stand.under_way.ty in cc)
+  loop_step line test (Done v) body rest h = elim (value_type h.stand.under_way.ty) [ ]
   loop_step line test t body rest h =
       let d = h.stand in
       step_inside code known place stack slots visible shows sees line t ty.Truth [] [] (λ u. Loop line test u body) rest tt d.under_way.ty d.under_way.begun (d.under_way.operands ∙ sym (append-nil (held t)))
@@ -276,14 +273,13 @@ module _ (code : Listing) (known : Known) (place : ℕ) (stack : List ℕ) (slot
       (λ p u well_typed begun at size. inl (record { ty = well_typed; begun = begun; operands = append-nil (held u) }, at))
 
   -- a `jint` is worked out before it is returned
-  returned_number : (line : ℕ) (t : Term) → TermHasType known t Jint → return_effect visible.sight line t ≡ with_value visible.sight line (λ v. Returns (ScalarResult v)) (ReturnValue line) t
-  returned_number line (term.Named tree.Null) h = absurd h
-  returned_number line (Read x) h = let shown = shows_number known line slots visible x (record { ty = Jint; index = h.0 }) Jint tt (shows.each x (record { ty = Jint; index = h.0 }) h.1) in rw shown.is refl
-  returned_number line t h = refl
+  returned_number : (line : ℕ) {t : Term} → TermHasType known t Jint → return_effect visible.sight line t ≡ with_value visible.sight line (λ v. Returns (ScalarResult v)) (ReturnValue line) t
+  returned_number line (rule.read {x = x} h) = let shown = shows_number known line slots visible x (record { ty = Jint; index = h.0 }) Jint tt (shows.each x (record { ty = Jint; index = h.0 }) h.1) in rw shown.is refl
+  returned_number line h = refl
 
   returned_step : (line : ℕ) (t : Term) (rest : List Task) → NumberStands code known place stack line Jint t (instr.ReturnJint ∷ []) ⊎ ReferenceReturned code known place t → IsTrue (list_any task_returns (ReturnValue line t ∷ rest))
       → DoesEffect code known place stack slots visible rest (return_effect visible.sight line t)
-  returned_step line t rest (inl h) returns = subst (DoesEffect code known place stack slots visible rest) (sym (returned_number line t h.0.ty)) (return_step line t rest h returns)
+  returned_step line t rest (inl h) returns = subst (DoesEffect code known place stack slots visible rest) (sym (returned_number line h.0.ty)) (return_step line t rest h returns)
   returned_step line t rest (inr (inl (is, at))) returns = subst (λ u. DoesEffect code known place stack slots visible rest (return_effect visible.sight line u)) (sym is) (record { here = instr.ReturnReference Null; at = at; returns = tt })
   returned_step line t rest (inr (inr (x, i, is, found, at))) returns =
       let shown = shows.each x (record { ty = Ref; index = i }) found in
@@ -295,7 +291,6 @@ module _ (code : Listing) (known : Known) (place : ℕ) (stack : List ℕ) (slot
   record IsReady (line : ℕ) (x : Identifier) (v : Value) (z : ℤ) (rest : List Task) (s : Slot) : Type 0 where
     there : lookup x known ≡ Some s
     own : IsSlotOf code known x s
-    index : (r : ExprType) × IsIndexType r × ValueHasType v r
     fits : FitsSigned w32 z
     operands : stack ≡ cast_unsigned w32 z ∷ word_of v ∷ []
     at : HasAt code.instrs place (write_code line s.ty s.index)
@@ -332,21 +327,20 @@ module _ (code : Listing) (known : Known) (place : ℕ) (stack : List ℕ) (slot
         works = rw (d.operands, word, below) refl;
       })
 
-  write_array : (line : ℕ) (x : Identifier) (v : Value) (z : ℤ) (rest : List Task) (t : ElementType) (size start : ℕ) → IsReady line x v z rest (record { ty = Array t size; index = start })
+  write_array : (line : ℕ) (x : Identifier) {v : Value} {r : ExprType} (z : ℤ) (rest : List Task) (t : ElementType) (size start : ℕ) → IsReady line x v z rest (record { ty = Array t size; index = start }) → IsIndexType r → ValueHasType v r
       → DoesEffect code known place stack slots visible rest (element_effect visible.sight line x v (Int z))
-  write_array line x (Word n) z rest t size start d = array_written line x (Word n) z rest t size start n d refl refl (nat_lt n size) refl
-  write_array line x (Int (pos n)) z rest t size start d = array_written line x (Int (pos n)) z rest t size start n d refl refl (nat_lt n size) refl
-  write_array line x (Int (negsuc n)) z rest t size start d =
+  write_array line x z rest t size start d index (value.word {n = n} h) = array_written line x (Word n) z rest t size start n d refl refl (nat_lt n size) refl
+  write_array line x z rest t size start d index (value.int {z = pos n} h) = array_written line x (Int (pos n)) z rest t size start n d refl refl (nat_lt n size) refl
+  write_array line x z rest t size start d index (value.int {z = negsuc n} h) =
       let shown = shows.each x (record { ty = Array t size; index = start }) d.there in
       record {
         here = instr.StoreElement (element_of t) (record { start = start; len = size }) line;
         trap = trap.OutOfRange;
         is = refl;
         at = d.at.0;
-        works = rw (d.operands, negative_index n size d.index.2.0 shown.few) refl;
+        works = rw (d.operands, negative_index n size h shown.few) refl;
       }
-  write_array line x (Flag b) z rest t size start d = absurd (subst IsIndexType d.index.2 d.index.1)
-  write_array line x (Truth b) z rest t size start d = absurd (subst IsIndexType d.index.2 d.index.1)
+  write_array line x z rest t size start d index h = absurd index
 
   -- of a buffer that has none there
   buffer_stops : (line : ℕ) (x : Identifier) (v : Value) (z : ℤ) (rest : List Task) (t : ElementType) (writable : Bool) (i : ℕ) → IsReady line x v z rest (record { ty = Buffer t writable; index = i }) → (h : ShowsBuffer visible x slots.buffers t i)
@@ -389,35 +383,32 @@ module _ (code : Listing) (known : Known) (place : ℕ) (stack : List ℕ) (slot
       let seen : visible.sight.element x k ≡ Traps OutOfRange = seen_as known line slots visible sees x t i k h false null ∙ ap in_range is in
       rw (index, seen) (buffer_stops line x v z rest t writable i d h (ap (slice_get (elements_in h.buffer visible.numbers)) word ∙ is))
 
-  write_buffer : (line : ℕ) (x : Identifier) (v : Value) (z : ℤ) (rest : List Task) (t : ElementType) (writable : Bool) (i : ℕ) → IsReady line x v z rest (record { ty = Buffer t writable; index = i }) → ShowsBuffer visible x slots.buffers t i
+  write_buffer : (line : ℕ) (x : Identifier) {v : Value} {r : ExprType} (z : ℤ) (rest : List Task) (t : ElementType) (writable : Bool) (i : ℕ) → IsReady line x v z rest (record { ty = Buffer t writable; index = i }) → ShowsBuffer visible x slots.buffers t i → IsIndexType r → ValueHasType v r
       → DoesEffect code known place stack slots visible rest (element_effect visible.sight line x v (Int z))
-  write_buffer line x (Word n) z rest t writable i d h = buffer_written line x (Word n) z rest t writable i n d h refl refl (is_no_buffer h.buffer) refl (slice_get (elements_in h.buffer visible.numbers) n) refl
-  write_buffer line x (Int (pos n)) z rest t writable i d h = buffer_written line x (Int (pos n)) z rest t writable i n d h refl refl (is_no_buffer h.buffer) refl (slice_get (elements_in h.buffer visible.numbers) n) refl
-  write_buffer line x (Int (negsuc n)) z rest t writable i d h = buffer_stops line x (Int (negsuc n)) z rest t writable i d h (none_negative known line slots visible sees i h.buffer n h.there d.index.2.0)
-  write_buffer line x (Flag b) z rest t writable i d h = absurd (subst IsIndexType d.index.2 d.index.1)
-  write_buffer line x (Truth b) z rest t writable i d h = absurd (subst IsIndexType d.index.2 d.index.1)
+  write_buffer line x z rest t writable i d h index (value.word {n = n} fits) = buffer_written line x (Word n) z rest t writable i n d h refl refl (is_no_buffer h.buffer) refl (slice_get (elements_in h.buffer visible.numbers) n) refl
+  write_buffer line x z rest t writable i d h index (value.int {z = pos n} fits) = buffer_written line x (Int (pos n)) z rest t writable i n d h refl refl (is_no_buffer h.buffer) refl (slice_get (elements_in h.buffer visible.numbers) n) refl
+  write_buffer line x z rest t writable i d h index (value.int {z = negsuc n} fits) = buffer_stops line x (Int (negsuc n)) z rest t writable i d h (none_negative known line slots visible sees i h.buffer n h.there fits)
+  write_buffer line x z rest t writable i d h index v = absurd index
 
-  write_step : (line : ℕ) (x : Identifier) (v : Value) (z : ℤ) (rest : List Task) (s : ExprType) (i : ℕ) → HasElements s → IsReady line x v z rest (record { ty = s; index = i }) → DoesEffect code known place stack slots visible rest (element_effect visible.sight line x v (Int z))
-  write_step line x v z rest (Array t size) i has d = write_array line x v z rest t size i d
-  write_step line x v z rest (Buffer t writable) i has d = write_buffer line x v z rest t writable i d (shows.each x (record { ty = Buffer t writable; index = i }) d.there)
-  write_step line x v z rest s i has d = absurd has
+  write_step : (line : ℕ) (x : Identifier) (v : Value) (z : ℤ) (rest : List Task) (s r : ExprType) (i : ℕ) → HasElements s → IsReady line x v z rest (record { ty = s; index = i }) → IsIndexType r → ValueHasType v r → DoesEffect code known place stack slots visible rest (element_effect visible.sight line x v (Int z))
+  write_step line x v z rest (Array t size) r i has d index h = write_array line x z rest t size i d index h
+  write_step line x v z rest (Buffer t writable) r i has d index h = write_buffer line x z rest t writable i d (shows.each x (record { ty = Buffer t writable; index = i }) d.there) index h
+  write_step line x v z rest s r i has d index h = absurd has
 
   element_step : (line : ℕ) (x : Identifier) (i e : Term) (rest : List Task) → StandsFor code known place stack (SetElement line x i e ∷ rest) → DoesEffect code known place stack slots visible rest (effect_of visible.sight (SetElement line x i e))
   element_step line x (Done v) (Done (Int z)) rest h =
       let d = h.stand in
       let none : place + (0 + 0) + 1 ≡ place + 1 = omega arith in
-      write_step line x v z rest d.slot.ty d.slot.index d.elements (record {
+      let ready : IsReady line x v z rest d.slot = record {
         there = d.there;
         own = d.own;
-        index = d.index;
-        fits = d.value.0;
+        fits = int_in_range (value_type d.value);
         operands = d.operands;
         at = d.at;
         stands = record { stand = subst (λ p. TasksStand code known p [] rest) none d.further; returns = h.returns };
-      })
-  element_step line x (Done v) (Done (Word n)) rest h = absurd (let c : Jint ≡ ty.Word = h.stand.value.1 in cc)
-  element_step line x (Done v) (Done (Flag b)) rest h = absurd (let c : Jint ≡ ty.Flag = h.stand.value in cc)
-  element_step line x (Done v) (Done (Truth b)) rest h = absurd (let c : Jint ≡ ty.Truth = h.stand.value in cc)
+      } in
+      write_step line x v z rest d.slot.ty d.index.0 d.slot.index d.elements ready d.index.1 (value_type d.index.2)
+  element_step line x (Done v) (Done w) rest h = elim (value_type h.stand.value) [ ]
   element_step line x (Done v) e rest h =
       let d = h.stand in
       step_inside code known place stack slots visible shows sees line e Jint (word_of v ∷ []) (write_code line d.slot.ty d.slot.index) (SetElement line x (Done v)) rest tt d.value d.begun d.operands d.at (λ u. h.returns)

@@ -29,15 +29,16 @@ use Rattle.semantics.specs.Sight.{Sight}
 use Rattle.semantics.specs.Variable.{Empty}
 use Rattle.semantics.specs.Task.{Task, Invoke, Target, Declared, Assigned, Dropped, VariableKind, ScalarKind, ReferenceKind, FieldKind, MethodKind, BufferKind, Operand, NumberOperand, PassedName, Given, Tested}
 use Rattle.semantics.specs.Term.{Term, Done, Read, reduce}
-use Rattle.semantics.specs.Value.{Value, Word, Int, Flag, Truth, Gives, Outcome, Traps, Stuck, outcome_map}
+use Rattle.semantics.specs.Value.{Value, Int, Gives, Outcome, Traps, Stuck, outcome_map}
 use Rattle.code_meaning.specs.Layout.{Slot, Known}
 use Rattle.code_meaning.specs.Coding.{names_number, term_code}
 use Rattle.code_meaning.specs.Slots.{word_of, Visible, Slots, Shows, SeesBuffers, ShowsStatic, ShowsSlot, OfField, OfMethod}
+use Rattle.code_meaning.specs.Fits as rule
 use Rattle.code_meaning.specs.Fits.{IsReferenceKind, TakesNull, TakesLocal, TakesGlobal, TakesInt, IsVariable, TermHasType, IsStaticIn, IsStaticType}
 use Rattle.code_meaning.specs.Stands.{held, HasAt, operand_text, operands_texts, ResultStands, ResultGoes, StaticStands, TestStands, number_type, named_operand, OperandStands, TargetStands, InvokeStands, TasksStand, task_returns, operands_rest, operand_held, operands_held}
 use Rattle.code_meaning.specs.Does.{IsOperand, TakesNumber, TakesReference, TakesField, TakesMethod, TakesStatic, TakesBuffer, TakesTest, GoesInto, TakesResult, DoesEffect, word_given, words_given, text_given, texts_given, OperandFits, IsVariableKind, ActualFits}
 use Rattle.code_meaning.proofs.SlotLaws.{fewer_shown, number_below, shows_set, shows_referred, shows_field_set, shows_method_set, shows_buffer_set, static_changes}
-use Rattle.lower.proofs.TermSteps.{shows_number}
+use Rattle.lower.proofs.TermSteps.{int_in_range, shows_number, value_type}
 use Rattle.lower.proofs.CallOperands.{step_of, are_done, by_step, first_term, open_term, with_open, rest_after, words_under, passed_open, passed_done, open_is_open, open_is_begun, count_same, rest_open, rest_with, texts_with, begun_with, held_with, held_open, ready_rest}
 
 -- ---- the source's step
@@ -187,7 +188,7 @@ module _ (known : Known) where
   name_there operand.Number p x t (inl h) e = absurd (let e = h.is in cc)
   name_there operand.Number p x t (inr h) e =
       let same : h.name ≡ x = let e : PassedName h.name ≡ PassedName x = sym h.is in cc in
-      (refl, inr h.kind, subst (λ (u : Term). TermHasType known u Jint) (passed_open (names_number known x) x t e).1 (subst (λ y. IsVariable known y Jint) same h.there))
+      (refl, inr h.kind, subst (λ (u : Term). TermHasType known u Jint) (passed_open (names_number known x) x t e).1 (rule.read (subst (λ y. IsVariable known y Jint) same h.there)))
 
   open_there : (w : Where) (p : ParameterKind) (o : Operand) (t : Term) → OperandStands known w (p, o) → step_of known o ≡ Some t → (w ≡ operand.Number) × TakesInt p × TermHasType known t Jint
   open_there w p (NumberOperand (Done v)) t h e = absurd (cc)
@@ -402,10 +403,8 @@ module _ (code : Listing) (known : Known) (place : ℕ) (stack : List ℕ) (slot
 
   -- a number that is worked out
   number_is : (p : ParameterKind) (t : Term) → step_of known (NumberOperand t) ≡ None → TermHasType known t Jint → (z : ℤ) × (look_up visible.sight (p, NumberOperand t) ≡ NumberActual z) × FitsSigned w32 z × (held t ≡ word_of (Int z) ∷ [])
-  number_is p (Done (Int z)) ready h = (z, refl, h.0, refl)
-  number_is p (Done (Word n)) ready h = absurd (let e : Jint ≡ ty.Word = h.1 in cc)
-  number_is p (Done (Flag b)) ready h = absurd (let e : Jint ≡ ty.Flag = h in cc)
-  number_is p (Done (Truth b)) ready h = absurd (let e : Jint ≡ ty.Truth = h in cc)
+  number_is p (Done (Int z)) ready h = (z, refl, int_in_range (value_type h), refl)
+  number_is p (Done v) ready h = elim (value_type h) [ ]
   number_is p t ready h = absurd (cc)
 
   -- an argument that is ready is found, with its word and its text, and is what its parameter asks for

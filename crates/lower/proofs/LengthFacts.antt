@@ -21,6 +21,7 @@ use Rattle.semantics.specs.Term as term
 use Rattle.semantics.specs.Term.{Term, Done, Read, IsNull, Prefix, And, Or, Binary, binary_term, term_of}
 use Rattle.code_meaning.specs.Layout.{Slot, Known, Layout, new_slot, closed, layout_after, block_layout}
 use Rattle.code_meaning.specs.Coding.{arguments_texts, result_target, nullable_of, test_of, store_of, null_code, element_code, write_code, of_slot, load_code, prefix_code, operator_code, is_signed, skip_code, term_code, expr_code, named_call_code, value_code, right_code, assign_code, returned_code, return_code, test_code, paths_code, if_code, turn_code, loop_code, stmt_code, block_code, argument_code, arguments_code, passed_rest, number_code, operand_code}
+use Rattle.code_meaning.specs.Fits as rule
 use Rattle.code_meaning.specs.Fits.{IsNullable, HasElements, TermHasType, NumberFits, PassedFits, ArgumentFits, CallFits, ValueFits, RightFits, TestFits, ReturnFits, StmtFits, BlockFits}
 use Rattle.code_meaning.specs.Length.{binary_steps, expr_steps, passed_steps, argument_steps, arguments_steps, call_steps, value_steps, right_steps, test_steps, return_steps, stmt_steps, block_steps}
 use Rattle.lower.proofs.Bodies.{one_write}
@@ -92,31 +93,27 @@ after_two a b last m n left right = omega (arith, length-append a (b ++ last ∷
 between : (a b : List Instr) (middle : Instr) (m n : ℕ) → length a ≡ m → length b ≡ n → length (a ++ middle ∷ b) ≡ m + n + 1
 between a b middle m n left right = omega (arith, length-append a (middle ∷ b))
 
-term_length : (known : Known) (line : ℕ) (t : Term) (s : ExprType) → TermHasType known t s → length (term_code known line t) ≡ term_steps t
-term_length known line (Done v) s h = refl
-term_length known line (term.Number n unsigned) s h = refl
-term_length known line (term.Named tree.True) s h = refl
-term_length known line (term.Named tree.False) s h = refl
-term_length known line (term.Named c) s h = absurd h
-term_length known line (Read x) s h = ap (λ o. length (of_slot load_code o)) h.1
-term_length known line (term.Element x t) s h =
-    let inside = term_length known line t h.0 h.2 in
-    let last : length (of_slot (element_code line) (lookup x known)) ≡ 1 = ap (λ o. length (of_slot (element_code line) o)) h.3.1 ∙ one_read line h.3.0.ty h.3.0.index h.3.2 in
+term_length : (known : Known) (line : ℕ) {t : Term} {s : ExprType} → TermHasType known t s → length (term_code known line t) ≡ term_steps t
+term_length known line (rule.read h) = ap (λ o. length (of_slot load_code o)) h.1
+term_length known line (rule.element {x = x} {n = n} {t = t} at has index h) =
+    let inside = term_length known line h in
+    let last : length (of_slot (element_code line) (lookup x known)) ≡ 1 = ap (λ o. length (of_slot (element_code line) o)) at ∙ one_read line n.ty n.index has in
     omega (arith, length-append (term_code known line t) (of_slot (element_code line) (lookup x known)))
-term_length known line (IsNull equal x) s h = ap (λ o. length (null_code equal o)) h.0.1 ∙ null_length equal h.0.0.ty h.0.0.index h.0.2
-term_length known line (Prefix LogicalNot t) s h = after_one (term_code known line t) (prefix_code LogicalNot) (term_steps t) (term_length known line t ty.Truth h.0)
-term_length known line (Prefix Complement t) s h = after_one (term_code known line t) (prefix_code Complement) (term_steps t) (term_length known line t ty.Word h.0)
-term_length known line (Prefix ToWord t) s h = after_one (term_code known line t) (prefix_code ToWord) (term_steps t) (term_length known line t h.0 h.2)
-term_length known line (Prefix ToInt t) s h = after_one (term_code known line t) (prefix_code ToInt) (term_steps t) (term_length known line t h.0 h.2)
-term_length known line (And a b) s h =
-    between (term_code known line a) (term_code known line b) (skip_code true (length (term_code known line b))) (term_steps a) (term_steps b) (term_length known line a ty.Truth h.0) (term_length known line b ty.Truth h.1)
-term_length known line (Or a b) s h =
-    between (term_code known line a) (term_code known line b) (skip_code false (length (term_code known line b))) (term_steps a) (term_steps b) (term_length known line a ty.Truth h.0) (term_length known line b ty.Truth h.1)
-term_length known line (Binary op a b) s h =
-    after_two (term_code known line a) (term_code known line b) (operator_code line (is_signed known a) op) (term_steps a) (term_steps b) (term_length known line a h.0 h.2) (term_length known line b h.0 h.3)
+term_length known line (rule.null_test {equal = equal} {n = n} at null) = ap (λ o. length (null_code equal o)) at ∙ null_length equal n.ty n.index null
+term_length known line (rule.logical_not {t = t} h) = after_one (term_code known line t) (prefix_code LogicalNot) (term_steps t) (term_length known line h)
+term_length known line (rule.complement {t = t} h) = after_one (term_code known line t) (prefix_code Complement) (term_steps t) (term_length known line h)
+term_length known line (rule.to_word {t = t} i h) = after_one (term_code known line t) (prefix_code ToWord) (term_steps t) (term_length known line h)
+term_length known line (rule.to_int {t = t} i h) = after_one (term_code known line t) (prefix_code ToInt) (term_steps t) (term_length known line h)
+term_length known line (rule.both {a = a} {b = b} h k) =
+    between (term_code known line a) (term_code known line b) (skip_code true (length (term_code known line b))) (term_steps a) (term_steps b) (term_length known line h) (term_length known line k)
+term_length known line (rule.either {a = a} {b = b} h k) =
+    between (term_code known line a) (term_code known line b) (skip_code false (length (term_code known line b))) (term_steps a) (term_steps b) (term_length known line h) (term_length known line k)
+term_length known line (rule.operator {op = op} {a = a} {b = b} fits h k) =
+    after_two (term_code known line a) (term_code known line b) (operator_code line (is_signed known a) op) (term_steps a) (term_steps b) (term_length known line h) (term_length known line k)
+term_length known line h = refl
 
 expr_length : (known : Known) (line : ℕ) (e : Expr) (s : ExprType) → NumberFits known (term_of e) s → length (expr_code known line e) ≡ expr_steps e
-expr_length known line e s h = term_length known line (term_of e) s h.ty ∙ sym (steps_of_term e)
+expr_length known line e s h = term_length known line h.ty ∙ sym (steps_of_term e)
 
 -- ---- right sides
 
@@ -160,7 +157,7 @@ module _ (ints : List Identifier) where
       ∙ sym (ap (λ o. arguments_steps ints o c.arguments + 1) h.named)
 
 number_set : (known : Known) (line : ℕ) (slot : Slot) (e : Expr) (s : ExprType) → NumberFits known (term_of e) s → length (value_code known line slot e) ≡ value_steps e
-number_set known line slot (tree.Named tree.Null) s h = absurd h.ty
+number_set known line slot (tree.Named tree.Null) s h = elim h.ty [ ]
 number_set known line slot e s h = after_one (expr_code known line e) (instr.Store slot.index) (expr_steps e) (expr_length known line e s h)
 
 null_set : (known : Known) (line : ℕ) (slot : Slot) (e : Expr) → length (store_of (nullable_of slot.ty slot.index)) ≡ 1 → e ≡ tree.Named tree.Null → length (value_code known line slot e) ≡ value_steps e

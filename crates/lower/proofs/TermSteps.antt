@@ -1,5 +1,5 @@
 -- The first instruction of a term's code replaces the leftmost part that can be reduced, or traps where it does.
-use Rattle.std.proofs.Common.{◌≡◌, ℕ, zero, suc, ℤ, pos, negsuc, ◌+◌, ◌-◌, ◌<◌, ◌≤◌, ◌^◌, ◌%◌, ◌*◌, ◌/◌, ◌⊎◌, inl, inr, lit<, Bool, true, false, not, List, [], ◌∷◌, ◌++◌, length, Option, Some, None, if◌then◌else◌, refl, sym, ap, ◌∙◌, subst, arith, append_assoc, mod-eq_of_lt}
+use Rattle.std.proofs.Common.{◌≡◌, ℕ, ℤ, pos, negsuc, ◌+◌, ◌-◌, ◌<◌, ◌^◌, ◌%◌, ◌*◌, ◌/◌, ◌⊎◌, inl, inr, lit<, Bool, true, false, not, List, [], ◌∷◌, ◌++◌, length, Option, Some, None, if◌then◌else◌, refl, sym, ap, ◌∙◌, subst, arith, append_assoc, mod-eq_of_lt}
 use Rattle.std.specs.Prelude.{FitsSigned, nat_lt, nat_le, int_lt, int_le, is_none, slice_get, ◌==◌}
 use Rattle.std.specs.Bool.{beq}
 use Rattle.std.specs.Ordering.{int_eq}
@@ -10,7 +10,6 @@ use Rattle.std.proofs.Math.Facts.{Fits-and, Fits-or, Fits-xor, Fits-of_lt, Fits-
 use Rattle.std.proofs.lemmas.List.{append-nil}
 use Rattle.std.proofs.lemmas.Bool.{ltb-true, ltb-false}
 use Rattle.std.proofs.lemmas.Bool.Decides.{Decides-eqb, Decides-int_eq, same_from_decides}
-use Rattle.syntax.specs.Tree as tree
 use Rattle.syntax.specs.Tree.{PrefixOp, LogicalNot, Complement, ToWord, ToInt, BinaryOp, LogicalOr, LogicalAnd, BitOr, BitXor, BitAnd, Equal, NotEqual, Less, LessEqual, Greater, GreaterEqual, ShiftLeft, ShiftRight, Add, Subtract, Multiply, Divide, Remainder}
 use Rattle.base.specs.Bytes.{Identifier, lookup}
 use Rattle.semantics.specs.Sight.{in_range}
@@ -18,6 +17,7 @@ use Rattle.semantics.specs.Variable as variable
 use Rattle.semantics.specs.Variable.{StaticReference}
 use Rattle.code_meaning.proofs.StaticPlaces.{there_at}
 use Rattle.base.specs.Element.{ElementType, JInt}
+use Rattle.base.proofs.Numbers.{positive}
 use Rattle.type_rules.specs.ExprTypes.{ExprType, Jint, Ref, Global, FieldId, MethodId, Buffer, Array, OperatorGroup, Logic, Equality, Order, OnWords, group, is_jint}
 use Rattle.type_rules.specs.ExprTypes as ty
 use Rattle.type_rules.specs.TypeGroups.{IsIndexType, IsNumberType, OperatorFits}
@@ -38,8 +38,10 @@ use Rattle.semantics.specs.Term as term
 use Rattle.semantics.specs.Term.{Term, Done, Read, IsNull, Prefix, And, Or, Binary, Reduction, done, with_part, reduce}
 use Rattle.code_meaning.specs.Layout.{Slot, Known}
 use Rattle.code_meaning.specs.Coding.{nullable_of, test_of, null_code, element_code, of_slot, load_code, prefix_code, operator_code, is_signed, skip_code, term_code}
+use Rattle.code_meaning.specs.Slots as value
 use Rattle.code_meaning.specs.Slots.{word_of, ValueHasType, Visible, Slots, OfField, OfMethod, is_empty, is_no_buffer, ShowsNumber, ShowsArray, ShowsBuffer, ShowsSlot, elements_in, seen_element, SeesBuffers, slot_elements, holds_null}
-use Rattle.code_meaning.specs.Fits.{IsNullable, HasElements, TermHasType, IsUntouched}
+use Rattle.code_meaning.specs.Fits as rule
+use Rattle.code_meaning.specs.Fits.{IsVariable, IsNullable, HasElements, TermHasType, IsUntouched}
 use Rattle.code_meaning.specs.Stands.{held, IsBegun}
 use Rattle.code_meaning.specs.Does.{trap_of, Loads, Works}
 
@@ -98,26 +100,22 @@ result_unsigned Order r s h = ap (λ (q : ExprType). is_jint (Some q)) h.1
 result_unsigned OnWords r s h = ap (λ (q : ExprType). is_jint (Some q)) h.1
 
 -- whether a term is a `jint` is known from its type
-pub signed_is : (known : Known) (t : Term) (s : ExprType) → TermHasType known t s → is_signed known t ≡ is_jint (Some s)
-signed_is known (Done (Word n)) s h = ap (λ (q : ExprType). is_jint (Some q)) (sym h.1)
-signed_is known (Done (Int z)) s h = ap (λ (q : ExprType). is_jint (Some q)) (sym h.1)
-signed_is known (Done (Flag b)) s h = ap (λ (q : ExprType). is_jint (Some q)) (sym h)
-signed_is known (Done (Truth b)) s h = ap (λ (q : ExprType). is_jint (Some q)) (sym h)
-signed_is known (term.Number n true) s h = ap (λ (q : ExprType). is_jint (Some q)) (sym h.1)
-signed_is known (term.Number n false) s h = ap (λ (q : ExprType). is_jint (Some q)) (sym h.1)
-signed_is known (term.Named tree.True) s h = ap (λ (q : ExprType). is_jint (Some q)) (sym h)
-signed_is known (term.Named tree.False) s h = ap (λ (q : ExprType). is_jint (Some q)) (sym h)
-signed_is known (term.Named c) s h = absurd h
-signed_is known (Read x) s h = ap (λ (o : Option Slot). is_jint (option_map (λ (q : Slot). q.ty) o)) h.1
-signed_is known (term.Element x t) s h = ap (λ (q : ExprType). is_jint (Some q)) (sym h.4)
-signed_is known (IsNull equal x) s h = ap (λ (q : ExprType). is_jint (Some q)) (sym h.1)
-signed_is known (Prefix LogicalNot t) s h = ap (λ (q : ExprType). is_jint (Some q)) (sym h.1)
-signed_is known (Prefix Complement t) s h = ap (λ (q : ExprType). is_jint (Some q)) (sym h.1)
-signed_is known (Prefix ToWord t) s h = ap (λ (q : ExprType). is_jint (Some q)) (sym h.3)
-signed_is known (Prefix ToInt t) s h = ap (λ (q : ExprType). is_jint (Some q)) (sym h.3)
-signed_is known (And a b) s h = ap (λ (q : ExprType). is_jint (Some q)) (sym h.2)
-signed_is known (Or a b) s h = ap (λ (q : ExprType). is_jint (Some q)) (sym h.2)
-signed_is known (Binary op a b) s h = sym (result_unsigned (group op) h.0 s h.1)
+pub signed_is : {known : Known} {t : Term} {s : ExprType} → TermHasType known t s → is_signed known t ≡ is_jint (Some s)
+signed_is (rule.done (value.word h)) = refl
+signed_is (rule.read h) = ap (λ (o : Option Slot). is_jint (option_map (λ (q : Slot). q.ty) o)) h.1
+signed_is (rule.operator {op = op} {r = r} {s = s} fits h k) = sym (result_unsigned (group op) r s fits)
+signed_is h = refl
+
+-- ---- what the type of a term tells
+
+pub value_type : {known : Known} {v : Value} {s : ExprType} → TermHasType known (Done v) s → ValueHasType v s
+value_type (rule.done h) = h
+
+pub read_variable : {known : Known} {x : Identifier} {s : ExprType} → TermHasType known (Read x) s → IsVariable known x s
+read_variable (rule.read h) = h
+
+pub int_in_range : {z : ℤ} {s : ExprType} → ValueHasType (Int z) s → FitsSigned w32 z
+int_in_range (value.int h) = h
 
 -- ---- numbers
 
@@ -139,14 +137,6 @@ equal_words a b h k =
       (λ e. let same : cast_unsigned w32 a ≡ cast_unsigned w32 b = (Decides-eqb (cast_unsigned w32 a) (cast_unsigned w32 b)).0 e in sym (to_z-of_z h) ∙ ap (cast_signed w32) same ∙ to_z-of_z k),
       λ e. (Decides-eqb (cast_unsigned w32 a) (cast_unsigned w32 b)).1 (ap (cast_unsigned w32) e),
     )
-
-not_below : (a b : ℕ) → b ≤ a → (q : Bool) → nat_lt a b ≡ q → q ≡ false
-not_below a b h true e = absurd (let below = ltb-true a b e in omega (arith, h, below))
-not_below a b h false e = refl
-
-positive : (n : ℕ) → (n == 0) ≡ false → 0 < n
-positive zero h = absurd (cc)
-positive (suc n) h = omega arith
 
 -- ---- a step
 
@@ -182,20 +172,20 @@ module _ (known : Known) (line : ℕ) (slots : Slots) (visible : Visible) where
     pub outcome : TermGoes t s here more ⊎ TermTraps t here ⊎ IsStuck t
 
   -- a part becomes a value by one instruction
-  gives_value : (t : Term) (v : Value) (s : ExprType) (here : Instr) → term_code known line t ≡ here ∷ [] → reduce visible.sight t ≡ Gives (Done v) → ((stack : List ℕ) → Works visible slots here (held t ++ stack) plain.Next (word_of v ∷ stack)) → ValueHasType v s → StepsTerm t s
-  gives_value t v s here code is works fits = record {
+  gives_value : {t : Term} {s : ExprType} (v : Value) (here : Instr) → term_code known line t ≡ here ∷ [] → reduce visible.sight t ≡ Gives (Done v) → ((stack : List ℕ) → Works visible slots here (held t ++ stack) plain.Next (word_of v ∷ stack)) → ValueHasType v s → StepsTerm t s
+  gives_value v here code is works fits = record {
     here = here;
     more = [];
     code = code;
-    outcome = inl (record { next = Done v; is = is; skipped = []; code = refl; path = plain.Next; leads = refl; works = works; ty = fits; begun = tt });
+    outcome = inl (record { next = Done v; is = is; skipped = []; code = refl; path = plain.Next; leads = refl; works = works; ty = rule.done fits; begun = tt });
   }
 
-  gives_trap : (t : Term) (s : ExprType) (here : Instr) (reason : PlainTrap) → term_code known line t ≡ here ∷ [] → reduce visible.sight t ≡ Traps (trap_of reason)
+  gives_trap : {t : Term} {s : ExprType} (here : Instr) (reason : PlainTrap) → term_code known line t ≡ here ∷ [] → reduce visible.sight t ≡ Traps (trap_of reason)
       → ((stack : List ℕ) → Works visible slots here (held t ++ stack) (plain.Trap reason line) (held t ++ stack)) → StepsTerm t s
-  gives_trap t s here reason code is works = record { here = here; more = []; code = code; outcome = inr (inl (record { trap = reason; is = is; works = works })) }
+  gives_trap here reason code is works = record { here = here; more = []; code = code; outcome = inr (inl (record { trap = reason; is = is; works = works })) }
 
-  gives_nothing : (t : Term) (s : ExprType) (here : Instr) → term_code known line t ≡ here ∷ [] → IsStuck t → StepsTerm t s
-  gives_nothing t s here code is = record { here = here; more = []; code = code; outcome = inr (inr is) }
+  gives_nothing : {t : Term} {s : ExprType} (here : Instr) → term_code known line t ≡ here ∷ [] → IsStuck t → StepsTerm t s
+  gives_nothing here code is = record { here = here; more = []; code = code; outcome = inr (inr is) }
 
   -- ---- a part inside a term
 
@@ -263,25 +253,25 @@ module _ (known : Known) (line : ℕ) (slots : Slots) (visible : Visible) where
     begins = λ u h. h;
   }
 
-  in_and : (a b : Term) (s : ExprType) → IsOpen a → IsUntouched b → TermHasType known b ty.Truth → s ≡ ty.Truth → Inside (λ u. And u b) a ty.Truth s
-  in_and a b s o u h k = record {
+  in_and : (a b : Term) → IsOpen a → IsUntouched b → TermHasType known b ty.Truth → Inside (λ u. And u b) a ty.Truth ty.Truth
+  in_and a b o u h = record {
     tail = skip_code true (length (term_code known line b)) ∷ term_code known line b;
     base = [];
     reduces = into_part _ (λ t. And t b) a _ o;
     codes = λ w g. refl;
     holds = λ w. sym (append-nil (held w));
-    types = λ w g. (g, h, k);
+    types = λ w g. rule.both g h;
     begins = λ w g. (g, u);
   }
 
-  in_or : (a b : Term) (s : ExprType) → IsOpen a → IsUntouched b → TermHasType known b ty.Truth → s ≡ ty.Truth → Inside (λ u. Or u b) a ty.Truth s
-  in_or a b s o u h k = record {
+  in_or : (a b : Term) → IsOpen a → IsUntouched b → TermHasType known b ty.Truth → Inside (λ u. Or u b) a ty.Truth ty.Truth
+  in_or a b o u h = record {
     tail = skip_code false (length (term_code known line b)) ∷ term_code known line b;
     base = [];
     reduces = into_part _ (λ t. Or t b) a _ o;
     codes = λ w g. refl;
     holds = λ w. sym (append-nil (held w));
-    types = λ w g. (g, h, k);
+    types = λ w g. rule.either g h;
     begins = λ w g. (g, u);
   }
 
@@ -290,9 +280,9 @@ module _ (known : Known) (line : ℕ) (slots : Slots) (visible : Visible) where
     tail = term_code known line b ++ operator_code line (is_jint (Some r)) op ∷ [];
     base = [];
     reduces = into_part _ (λ t. Binary op t b) a _ o;
-    codes = λ w g. ap (λ q. term_code known line w ++ (term_code known line b ++ operator_code line q op ∷ [])) (signed_is known w r g);
+    codes = λ w g. ap (λ q. term_code known line w ++ (term_code known line b ++ operator_code line q op ∷ [])) (signed_is g);
     holds = λ w. ap (λ q. q ++ held w) (untouched_held b u) ∙ sym (append-nil (held w));
-    types = λ w g. (r, f, g, h);
+    types = λ w g. rule.operator f g h;
     begins = λ w g. begun_left op w b g u;
   }
 
@@ -303,7 +293,7 @@ module _ (known : Known) (line : ℕ) (slots : Slots) (visible : Visible) where
     reduces = into_part _ (Binary op (Done v)) b _ o;
     codes = λ w g. refl;
     holds = λ w. refl;
-    types = λ w g. (r, f, h, g);
+    types = λ w g. rule.operator f (rule.done h) g;
     begins = λ w g. g;
   }
 
@@ -342,151 +332,132 @@ module _ (known : Known) (line : ℕ) (slots : Slots) (visible : Visible) where
       path = plain.Skip (length (term_code known line b));
       leads = refl;
       works = works;
-      ty = h;
+      ty = rule.done h;
       begun = tt;
     });
   }
 
-  and_step : (b : Term) (s : ExprType) (v : Value) → ValueHasType v ty.Truth → TermHasType known b ty.Truth → s ≡ ty.Truth → IsUntouched b → StepsTerm (And (Done v) b) s
-  and_step b s (Word n) h k e u = absurd (let c : ty.Truth ≡ ty.Word = h.1 in cc)
-  and_step b s (Int z) h k e u = absurd (let c : ty.Truth ≡ Jint = h.1 in cc)
-  and_step b s (Flag q) h k e u = absurd (let c : ty.Truth ≡ ty.Flag = h in cc)
-  and_step b s (Truth true) h k e u = goes_right (And (Done (Truth true)) b) b s (instr.JumpIfFalseOrPop (length (term_code known line b))) refl refl (λ stack. refl) u (subst (TermHasType known b) (sym e) k)
-  and_step b s (Truth false) h k e u = skips_right (And (Done (Truth false)) b) b (Truth false) s (instr.JumpIfFalseOrPop (length (term_code known line b))) refl refl (λ stack. refl) e
+  and_step : (b : Term) {v : Value} → ValueHasType v ty.Truth → TermHasType known b ty.Truth → IsUntouched b → StepsTerm (And (Done v) b) ty.Truth
+  and_step b (value.truth {b = true}) k u = goes_right (And (Done (Truth true)) b) b ty.Truth (instr.JumpIfFalseOrPop (length (term_code known line b))) refl refl (λ stack. refl) u k
+  and_step b (value.truth {b = false}) k u = skips_right (And (Done (Truth false)) b) b (Truth false) ty.Truth (instr.JumpIfFalseOrPop (length (term_code known line b))) refl refl (λ stack. refl) value.truth
 
-  or_step : (b : Term) (s : ExprType) (v : Value) → ValueHasType v ty.Truth → TermHasType known b ty.Truth → s ≡ ty.Truth → IsUntouched b → StepsTerm (Or (Done v) b) s
-  or_step b s (Word n) h k e u = absurd (let c : ty.Truth ≡ ty.Word = h.1 in cc)
-  or_step b s (Int z) h k e u = absurd (let c : ty.Truth ≡ Jint = h.1 in cc)
-  or_step b s (Flag q) h k e u = absurd (let c : ty.Truth ≡ ty.Flag = h in cc)
-  or_step b s (Truth true) h k e u = skips_right (Or (Done (Truth true)) b) b (Truth true) s (instr.JumpIfTrueOrPop (length (term_code known line b))) refl refl (λ stack. refl) e
-  or_step b s (Truth false) h k e u = goes_right (Or (Done (Truth false)) b) b s (instr.JumpIfTrueOrPop (length (term_code known line b))) refl refl (λ stack. refl) u (subst (TermHasType known b) (sym e) k)
+  or_step : (b : Term) {v : Value} → ValueHasType v ty.Truth → TermHasType known b ty.Truth → IsUntouched b → StepsTerm (Or (Done v) b) ty.Truth
+  or_step b (value.truth {b = true}) k u = skips_right (Or (Done (Truth true)) b) b (Truth true) ty.Truth (instr.JumpIfTrueOrPop (length (term_code known line b))) refl refl (λ stack. refl) value.truth
+  or_step b (value.truth {b = false}) k u = goes_right (Or (Done (Truth false)) b) b ty.Truth (instr.JumpIfTrueOrPop (length (term_code known line b))) refl refl (λ stack. refl) u k
 
   -- ---- operators on values
 
-  prefix_step : (op : PrefixOp) (v : Value) (s : ExprType) → TermHasType known (Prefix op (Done v)) s → StepsTerm (Prefix op (Done v)) s
-  prefix_step LogicalNot (Truth true) s h = gives_value (Prefix LogicalNot (Done (Truth true))) (Truth false) s instr.Not refl refl (λ stack. refl) h.1
-  prefix_step LogicalNot (Truth false) s h = gives_value (Prefix LogicalNot (Done (Truth false))) (Truth true) s instr.Not refl refl (λ stack. refl) h.1
-  prefix_step LogicalNot (Word n) s h = absurd (let c : ty.Truth ≡ ty.Word = h.0.1 in cc)
-  prefix_step LogicalNot (Int z) s h = absurd (let c : ty.Truth ≡ Jint = h.0.1 in cc)
-  prefix_step LogicalNot (Flag b) s h = absurd (let c : ty.Truth ≡ ty.Flag = h.0 in cc)
-  prefix_step Complement (Word n) s h = gives_value (Prefix Complement (Done (Word n))) (Word (4294967295 - n)) s instr.Complement refl refl (λ stack. refl) (omega arith, h.1)
-  prefix_step Complement (Int z) s h = absurd (let c : ty.Word ≡ Jint = h.0.1 in cc)
-  prefix_step Complement (Flag b) s h = absurd (let c : ty.Word ≡ ty.Flag = h.0 in cc)
-  prefix_step Complement (Truth b) s h = absurd (let c : ty.Word ≡ ty.Truth = h.0 in cc)
-  prefix_step ToWord (Word n) s h = gives_value (Prefix ToWord (Done (Word n))) (Word n) s instr.Convert refl refl (λ stack. refl) (h.2.0, h.3)
-  prefix_step ToWord (Int z) s h = gives_value (Prefix ToWord (Done (Int z))) (Word (cast_unsigned w32 z)) s instr.Convert refl refl (λ stack. refl) (Fits-lt-pow (Fits-of_z h.2.0), h.3)
-  prefix_step ToWord (Flag true) s h = gives_value (Prefix ToWord (Done (Flag true))) (Word 1) s instr.Convert refl refl (λ stack. refl) (lit< tt, h.3)
-  prefix_step ToWord (Flag false) s h = gives_value (Prefix ToWord (Done (Flag false))) (Word 0) s instr.Convert refl refl (λ stack. refl) (lit< tt, h.3)
-  prefix_step ToWord (Truth b) s h = absurd (subst IsNumberType h.2 h.1)
-  prefix_step ToInt (Word n) s h = gives_value (Prefix ToInt (Done (Word n))) (Int (convert_int n)) s instr.Convert refl refl (λ stack. ap (λ (w : ℕ). Some (plain.Next, w ∷ stack, slots.numbers)) (sym (same_word n h.2.0))) (int_fits n h.2.0, h.3)
-  prefix_step ToInt (Int z) s h = gives_value (Prefix ToInt (Done (Int z))) (Int z) s instr.Convert refl refl (λ stack. refl) (h.2.0, h.3)
-  prefix_step ToInt (Flag true) s h = gives_value (Prefix ToInt (Done (Flag true))) (Int (pos 1)) s instr.Convert refl refl (λ stack. refl) (record { sfits = lit< tt }, h.3)
-  prefix_step ToInt (Flag false) s h = gives_value (Prefix ToInt (Done (Flag false))) (Int (pos 0)) s instr.Convert refl refl (λ stack. refl) (record { sfits = lit< tt }, h.3)
-  prefix_step ToInt (Truth b) s h = absurd (subst IsNumberType h.2 h.1)
+  prefix_step : {op : PrefixOp} {v : Value} {s : ExprType} → TermHasType known (Prefix op (Done v)) s → StepsTerm (Prefix op (Done v)) s
+  prefix_step (rule.logical_not (rule.done (value.truth {b = true}))) = gives_value (Truth false) instr.Not refl refl (λ stack. refl) value.truth
+  prefix_step (rule.logical_not (rule.done (value.truth {b = false}))) = gives_value (Truth true) instr.Not refl refl (λ stack. refl) value.truth
+  prefix_step (rule.complement (rule.done (value.word {n = n} h))) = gives_value (Word (4294967295 - n)) instr.Complement refl refl (λ stack. refl) (value.word (omega arith))
+  prefix_step (rule.to_word i (rule.done (value.word {n = n} h))) = gives_value (Word n) instr.Convert refl refl (λ stack. refl) (value.word h)
+  prefix_step (rule.to_word i (rule.done (value.int {z = z} h))) = gives_value (Word (cast_unsigned w32 z)) instr.Convert refl refl (λ stack. refl) (value.word (Fits-lt-pow (Fits-of_z h)))
+  prefix_step (rule.to_word i (rule.done (value.flag {b = true}))) = gives_value (Word 1) instr.Convert refl refl (λ stack. refl) (value.word (lit< tt))
+  prefix_step (rule.to_word i (rule.done (value.flag {b = false}))) = gives_value (Word 0) instr.Convert refl refl (λ stack. refl) (value.word (lit< tt))
+  prefix_step (rule.to_word i (rule.done value.truth)) = absurd i
+  prefix_step (rule.to_int i (rule.done (value.word {n = n} h))) = gives_value (Int (convert_int n)) instr.Convert refl refl (λ stack. ap (λ (w : ℕ). Some (plain.Next, w ∷ stack, slots.numbers)) (sym (same_word n h))) (value.int (int_fits n h))
+  prefix_step (rule.to_int i (rule.done (value.int {z = z} h))) = gives_value (Int z) instr.Convert refl refl (λ stack. refl) (value.int h)
+  prefix_step (rule.to_int i (rule.done (value.flag {b = true}))) = gives_value (Int (pos 1)) instr.Convert refl refl (λ stack. refl) (value.int (record { sfits = lit< tt }))
+  prefix_step (rule.to_int i (rule.done (value.flag {b = false}))) = gives_value (Int (pos 0)) instr.Convert refl refl (λ stack. refl) (value.int (record { sfits = lit< tt }))
+  prefix_step (rule.to_int i (rule.done value.truth)) = absurd i
 
   -- ---- operators on two values
 
-  divide : (a b : ℕ) (s : ExprType) → a < 2 ^ 32 → s ≡ ty.Word → (z : Bool) → (b == 0) ≡ z → StepsTerm (Binary Divide (Done (Word a)) (Done (Word b))) s
-  divide a b s h e true k = gives_trap (Binary Divide (Done (Word a)) (Done (Word b))) s (instr.OperateOrTrap trapping.Divide line) trap.DivisionByZero refl (rw k refl) (λ stack. rw k refl)
-  divide a b s h e false k =
+  divide : (a b : ℕ) → a < 2 ^ 32 → (z : Bool) → (b == 0) ≡ z → StepsTerm (Binary Divide (Done (Word a)) (Done (Word b))) ty.Word
+  divide a b h true k = gives_trap (instr.OperateOrTrap trapping.Divide line) trap.DivisionByZero refl (rw k refl) (λ stack. rw k refl)
+  divide a b h false k =
       let small = div-le_self a b in
-      gives_value (Binary Divide (Done (Word a)) (Done (Word b))) (Word (a / b)) s (instr.OperateOrTrap trapping.Divide line) refl (rw k refl) (λ stack. rw k refl) (omega arith, e)
+      gives_value (Word (a / b)) (instr.OperateOrTrap trapping.Divide line) refl (rw k refl) (λ stack. rw k refl) (value.word (omega arith))
 
-  remainder : (a b : ℕ) (s : ExprType) → b < 2 ^ 32 → s ≡ ty.Word → (z : Bool) → (b == 0) ≡ z → StepsTerm (Binary Remainder (Done (Word a)) (Done (Word b))) s
-  remainder a b s h e true k = gives_trap (Binary Remainder (Done (Word a)) (Done (Word b))) s (instr.OperateOrTrap trapping.Remainder line) trap.DivisionByZero refl (rw k refl) (λ stack. rw k refl)
-  remainder a b s h e false k =
+  remainder : (a b : ℕ) → b < 2 ^ 32 → (z : Bool) → (b == 0) ≡ z → StepsTerm (Binary Remainder (Done (Word a)) (Done (Word b))) ty.Word
+  remainder a b h true k = gives_trap (instr.OperateOrTrap trapping.Remainder line) trap.DivisionByZero refl (rw k refl) (λ stack. rw k refl)
+  remainder a b h false k =
       let some : 0 < b = positive b k in
       let small = mod-lt a some in
-      gives_value (Binary Remainder (Done (Word a)) (Done (Word b))) (Word (a % b)) s (instr.OperateOrTrap trapping.Remainder line) refl (rw k refl) (λ stack. rw k refl) (omega arith, e)
+      gives_value (Word (a % b)) (instr.OperateOrTrap trapping.Remainder line) refl (rw k refl) (λ stack. rw k refl) (value.word (omega arith))
 
-  shift_left : (a b : ℕ) (s : ExprType) → s ≡ ty.Word → (z : Bool) → nat_lt b 32 ≡ z → StepsTerm (Binary ShiftLeft (Done (Word a)) (Done (Word b))) s
-  shift_left a b s e true k = gives_value (Binary ShiftLeft (Done (Word a)) (Done (Word b))) (Word (a * 2 ^ b % 2 ^ 32)) s (instr.OperateOrTrap trapping.ShiftLeft line) refl (rw k refl) (λ stack. rw k refl) (mod-lt (a * 2 ^ b) (lit< tt), e)
-  shift_left a b s e false k = gives_trap (Binary ShiftLeft (Done (Word a)) (Done (Word b))) s (instr.OperateOrTrap trapping.ShiftLeft line) trap.ShiftTooFar refl (rw k refl) (λ stack. rw k refl)
+  shift_left : (a b : ℕ) (z : Bool) → nat_lt b 32 ≡ z → StepsTerm (Binary ShiftLeft (Done (Word a)) (Done (Word b))) ty.Word
+  shift_left a b true k = gives_value (Word (a * 2 ^ b % 2 ^ 32)) (instr.OperateOrTrap trapping.ShiftLeft line) refl (rw k refl) (λ stack. rw k refl) (value.word (mod-lt (a * 2 ^ b) (lit< tt)))
+  shift_left a b false k = gives_trap (instr.OperateOrTrap trapping.ShiftLeft line) trap.ShiftTooFar refl (rw k refl) (λ stack. rw k refl)
 
-  shift_right : (a b : ℕ) (s : ExprType) → a < 2 ^ 32 → s ≡ ty.Word → (z : Bool) → nat_lt b 32 ≡ z → StepsTerm (Binary ShiftRight (Done (Word a)) (Done (Word b))) s
-  shift_right a b s h e true k =
+  shift_right : (a b : ℕ) → a < 2 ^ 32 → (z : Bool) → nat_lt b 32 ≡ z → StepsTerm (Binary ShiftRight (Done (Word a)) (Done (Word b))) ty.Word
+  shift_right a b h true k =
       let small = div-le_self a (2 ^ b) in
-      gives_value (Binary ShiftRight (Done (Word a)) (Done (Word b))) (Word (a / 2 ^ b)) s (instr.OperateOrTrap trapping.ShiftRight line) refl (rw k refl) (λ stack. rw k refl) (omega arith, e)
-  shift_right a b s h e false k = gives_trap (Binary ShiftRight (Done (Word a)) (Done (Word b))) s (instr.OperateOrTrap trapping.ShiftRight line) trap.ShiftTooFar refl (rw k refl) (λ stack. rw k refl)
+      gives_value (Word (a / 2 ^ b)) (instr.OperateOrTrap trapping.ShiftRight line) refl (rw k refl) (λ stack. rw k refl) (value.word (omega arith))
+  shift_right a b h false k = gives_trap (instr.OperateOrTrap trapping.ShiftRight line) trap.ShiftTooFar refl (rw k refl) (λ stack. rw k refl)
 
-  words_step : (op : BinaryOp) (a b : ℕ) (r s : ExprType) → a < 2 ^ 32 → b < 2 ^ 32 → OperatorFits (group op) r s → StepsTerm (Binary op (Done (Word a)) (Done (Word b))) s
-  words_step LogicalOr a b r s h k f = absurd f
-  words_step LogicalAnd a b r s h k f = absurd f
-  words_step BitOr a b r s h k f = gives_value _ (Word (operate operator.Or a b)) s (instr.Operate operator.Or) refl refl (λ stack. refl) (Fits-lt-pow (Fits-or {w = w32} (Fits-of_lt h) (Fits-of_lt k)), f.1)
-  words_step BitXor a b r s h k f = gives_value _ (Word (operate operator.Xor a b)) s (instr.Operate operator.Xor) refl refl (λ stack. refl) (Fits-lt-pow (Fits-xor {w = w32} (Fits-of_lt h) (Fits-of_lt k)), f.1)
-  words_step BitAnd a b r s h k f = gives_value _ (Word (operate operator.And a b)) s (instr.Operate operator.And) refl refl (λ stack. refl) (Fits-lt-pow (Fits-and {w = w32} b (Fits-of_lt h)), f.1)
-  words_step Equal a b r s h k f = gives_value _ (Truth (a == b)) s (instr.Operate operator.Equal) refl refl (λ stack. refl) f.1
-  words_step NotEqual a b r s h k f = gives_value _ (Truth (not (a == b))) s (instr.Operate operator.NotEqual) refl refl (λ stack. refl) f.1
-  words_step Less a b r s h k f = gives_value _ (Truth (nat_lt a b)) s (instr.Operate operator.Less) refl refl (λ stack. refl) f.1
-  words_step LessEqual a b r s h k f = gives_value _ (Truth (nat_le a b)) s (instr.Operate operator.LessEqual) refl refl (λ stack. refl) f.1
-  words_step Greater a b r s h k f = gives_value _ (Truth (nat_lt b a)) s (instr.Operate operator.Greater) refl refl (λ stack. refl) f.1
-  words_step GreaterEqual a b r s h k f = gives_value _ (Truth (nat_le b a)) s (instr.Operate operator.GreaterEqual) refl refl (λ stack. refl) f.1
-  words_step ShiftLeft a b r s h k f = shift_left a b s f.1 (nat_lt b 32) refl
-  words_step ShiftRight a b r s h k f = shift_right a b s h f.1 (nat_lt b 32) refl
-  words_step Add a b r s h k f = gives_value _ (Word (operate operator.Add a b)) s (instr.Operate operator.Add) refl refl (λ stack. refl) (mod-lt (a + b) (lit< tt), f.1)
-  words_step Subtract a b r s h k f = gives_value _ (Word (operate operator.Subtract a b)) s (instr.Operate operator.Subtract) refl refl (λ stack. refl) (mod-lt (a + (2 ^ 32 - b)) (lit< tt), f.1)
-  words_step Multiply a b r s h k f = gives_value _ (Word (operate operator.Multiply a b)) s (instr.Operate operator.Multiply) refl refl (λ stack. refl) (mod-lt (a * b) (lit< tt), f.1)
-  words_step Divide a b r s h k f = divide a b s h f.1 (b == 0) refl
-  words_step Remainder a b r s h k f = remainder a b s k f.1 (b == 0) refl
+  -- the type of what an operator on values gives
+  abbrev result_of : OperatorGroup → ExprType
+  result_of OnWords = ty.Word
+  result_of g = ty.Truth
+
+  result_is : (g : OperatorGroup) (r s : ExprType) → OperatorFits g r s → s ≡ result_of g
+  result_is Logic r s f = absurd f
+  result_is Equality r s f = f.1
+  result_is Order r s f = f.1
+  result_is OnWords r s f = f.1
+
+  words_step : (op : BinaryOp) (a b : ℕ) (s : ExprType) → a < 2 ^ 32 → b < 2 ^ 32 → OperatorFits (group op) ty.Word s → StepsTerm (Binary op (Done (Word a)) (Done (Word b))) (result_of (group op))
+  words_step LogicalOr a b s h k f = absurd f
+  words_step LogicalAnd a b s h k f = absurd f
+  words_step BitOr a b s h k f = gives_value (Word (operate operator.Or a b)) (instr.Operate operator.Or) refl refl (λ stack. refl) (value.word (Fits-lt-pow (Fits-or {w = w32} (Fits-of_lt h) (Fits-of_lt k))))
+  words_step BitXor a b s h k f = gives_value (Word (operate operator.Xor a b)) (instr.Operate operator.Xor) refl refl (λ stack. refl) (value.word (Fits-lt-pow (Fits-xor {w = w32} (Fits-of_lt h) (Fits-of_lt k))))
+  words_step BitAnd a b s h k f = gives_value (Word (operate operator.And a b)) (instr.Operate operator.And) refl refl (λ stack. refl) (value.word (Fits-lt-pow (Fits-and {w = w32} b (Fits-of_lt h))))
+  words_step Equal a b s h k f = gives_value (Truth (a == b)) (instr.Operate operator.Equal) refl refl (λ stack. refl) value.truth
+  words_step NotEqual a b s h k f = gives_value (Truth (not (a == b))) (instr.Operate operator.NotEqual) refl refl (λ stack. refl) value.truth
+  words_step Less a b s h k f = gives_value (Truth (nat_lt a b)) (instr.Operate operator.Less) refl refl (λ stack. refl) value.truth
+  words_step LessEqual a b s h k f = gives_value (Truth (nat_le a b)) (instr.Operate operator.LessEqual) refl refl (λ stack. refl) value.truth
+  words_step Greater a b s h k f = gives_value (Truth (nat_lt b a)) (instr.Operate operator.Greater) refl refl (λ stack. refl) value.truth
+  words_step GreaterEqual a b s h k f = gives_value (Truth (nat_le b a)) (instr.Operate operator.GreaterEqual) refl refl (λ stack. refl) value.truth
+  words_step ShiftLeft a b s h k f = shift_left a b (nat_lt b 32) refl
+  words_step ShiftRight a b s h k f = shift_right a b h (nat_lt b 32) refl
+  words_step Add a b s h k f = gives_value (Word (operate operator.Add a b)) (instr.Operate operator.Add) refl refl (λ stack. refl) (value.word (mod-lt (a + b) (lit< tt)))
+  words_step Subtract a b s h k f = gives_value (Word (operate operator.Subtract a b)) (instr.Operate operator.Subtract) refl refl (λ stack. refl) (value.word (mod-lt (a + (2 ^ 32 - b)) (lit< tt)))
+  words_step Multiply a b s h k f = gives_value (Word (operate operator.Multiply a b)) (instr.Operate operator.Multiply) refl refl (λ stack. refl) (value.word (mod-lt (a * b) (lit< tt)))
+  words_step Divide a b s h k f = divide a b h (b == 0) refl
+  words_step Remainder a b s h k f = remainder a b k (b == 0) refl
 
   -- the word of a comparison of `jint`s is that of the truth
   compared : (here : Instr) (a b : ℤ) (q p : Bool) (stack : List ℕ) → q ≡ p → plain_of here (cast_unsigned w32 b ∷ cast_unsigned w32 a ∷ stack) slots.numbers ≡ Some (plain.Next, truth_word q ∷ stack, slots.numbers)
       → plain_of here (cast_unsigned w32 b ∷ cast_unsigned w32 a ∷ stack) slots.numbers ≡ Some (plain.Next, truth_word p ∷ stack, slots.numbers)
   compared here a b q p stack same h = h ∙ ap (λ (t : Bool). Some (plain.Next, truth_word t ∷ stack, slots.numbers)) same
 
-  ints_step : (op : BinaryOp) (a b : ℤ) (r s : ExprType) → FitsSigned w32 a → FitsSigned w32 b → r ≡ Jint → OperatorFits (group op) r s → StepsTerm (Binary op (Done (Int a)) (Done (Int b))) s
-  ints_step LogicalOr a b r s h k e f = absurd f
-  ints_step LogicalAnd a b r s h k e f = absurd f
-  ints_step Equal a b r s h k e f = gives_value _ (Truth (int_eq a b)) s (instr.Operate operator.Equal) refl refl (λ stack. compared (instr.Operate operator.Equal) a b (cast_unsigned w32 a == cast_unsigned w32 b) (int_eq a b) stack (sym (equal_words a b h k)) refl) f.1
-  ints_step NotEqual a b r s h k e f =
-      gives_value _ (Truth (not (int_eq a b))) s (instr.Operate operator.NotEqual) refl refl (λ stack. compared (instr.Operate operator.NotEqual) a b (not (cast_unsigned w32 a == cast_unsigned w32 b)) (not (int_eq a b)) stack (ap not (sym (equal_words a b h k))) refl) f.1
-  ints_step Less a b r s h k e f = gives_value _ (Truth (int_lt a b)) s (instr.Operate operator.SignedLess) refl refl (λ stack. compared (instr.Operate operator.SignedLess) a b _ (int_lt a b) stack (rw (to_z-of_z h, to_z-of_z k) refl) refl) f.1
-  ints_step LessEqual a b r s h k e f = gives_value _ (Truth (int_le a b)) s (instr.Operate operator.SignedLessEqual) refl refl (λ stack. compared (instr.Operate operator.SignedLessEqual) a b _ (int_le a b) stack (rw (to_z-of_z h, to_z-of_z k) refl) refl) f.1
-  ints_step Greater a b r s h k e f = gives_value _ (Truth (int_lt b a)) s (instr.Operate operator.SignedGreater) refl refl (λ stack. compared (instr.Operate operator.SignedGreater) a b _ (int_lt b a) stack (rw (to_z-of_z h, to_z-of_z k) refl) refl) f.1
-  ints_step GreaterEqual a b r s h k e f = gives_value _ (Truth (int_le b a)) s (instr.Operate operator.SignedGreaterEqual) refl refl (λ stack. compared (instr.Operate operator.SignedGreaterEqual) a b _ (int_le b a) stack (rw (to_z-of_z h, to_z-of_z k) refl) refl) f.1
-  ints_step BitOr a b r s h k e f = absurd (let c : Jint ≡ ty.Word = sym e ∙ f.0 in cc)
-  ints_step BitXor a b r s h k e f = absurd (let c : Jint ≡ ty.Word = sym e ∙ f.0 in cc)
-  ints_step BitAnd a b r s h k e f = absurd (let c : Jint ≡ ty.Word = sym e ∙ f.0 in cc)
-  ints_step ShiftLeft a b r s h k e f = absurd (let c : Jint ≡ ty.Word = sym e ∙ f.0 in cc)
-  ints_step ShiftRight a b r s h k e f = absurd (let c : Jint ≡ ty.Word = sym e ∙ f.0 in cc)
-  ints_step Add a b r s h k e f = absurd (let c : Jint ≡ ty.Word = sym e ∙ f.0 in cc)
-  ints_step Subtract a b r s h k e f = absurd (let c : Jint ≡ ty.Word = sym e ∙ f.0 in cc)
-  ints_step Multiply a b r s h k e f = absurd (let c : Jint ≡ ty.Word = sym e ∙ f.0 in cc)
-  ints_step Divide a b r s h k e f = absurd (let c : Jint ≡ ty.Word = sym e ∙ f.0 in cc)
-  ints_step Remainder a b r s h k e f = absurd (let c : Jint ≡ ty.Word = sym e ∙ f.0 in cc)
+  ints_step : (op : BinaryOp) (a b : ℤ) (s : ExprType) → FitsSigned w32 a → FitsSigned w32 b → OperatorFits (group op) Jint s → StepsTerm (Binary op (Done (Int a)) (Done (Int b))) (result_of (group op))
+  ints_step LogicalOr a b s h k f = absurd f
+  ints_step LogicalAnd a b s h k f = absurd f
+  ints_step Equal a b s h k f = gives_value (Truth (int_eq a b)) (instr.Operate operator.Equal) refl refl (λ stack. compared (instr.Operate operator.Equal) a b (cast_unsigned w32 a == cast_unsigned w32 b) (int_eq a b) stack (sym (equal_words a b h k)) refl) value.truth
+  ints_step NotEqual a b s h k f =
+      gives_value (Truth (not (int_eq a b))) (instr.Operate operator.NotEqual) refl refl (λ stack. compared (instr.Operate operator.NotEqual) a b (not (cast_unsigned w32 a == cast_unsigned w32 b)) (not (int_eq a b)) stack (ap not (sym (equal_words a b h k))) refl) value.truth
+  ints_step Less a b s h k f = gives_value (Truth (int_lt a b)) (instr.Operate operator.SignedLess) refl refl (λ stack. compared (instr.Operate operator.SignedLess) a b _ (int_lt a b) stack (rw (to_z-of_z h, to_z-of_z k) refl) refl) value.truth
+  ints_step LessEqual a b s h k f = gives_value (Truth (int_le a b)) (instr.Operate operator.SignedLessEqual) refl refl (λ stack. compared (instr.Operate operator.SignedLessEqual) a b _ (int_le a b) stack (rw (to_z-of_z h, to_z-of_z k) refl) refl) value.truth
+  ints_step Greater a b s h k f = gives_value (Truth (int_lt b a)) (instr.Operate operator.SignedGreater) refl refl (λ stack. compared (instr.Operate operator.SignedGreater) a b _ (int_lt b a) stack (rw (to_z-of_z h, to_z-of_z k) refl) refl) value.truth
+  ints_step GreaterEqual a b s h k f = gives_value (Truth (int_le b a)) (instr.Operate operator.SignedGreaterEqual) refl refl (λ stack. compared (instr.Operate operator.SignedGreaterEqual) a b _ (int_le b a) stack (rw (to_z-of_z h, to_z-of_z k) refl) refl) value.truth
+  ints_step op a b s h k f = absurd (let c : Jint ≡ ty.Word = f.0 in cc)
 
-  equal_flags : (a b : Bool) (s : ExprType) → s ≡ ty.Truth → StepsTerm (Binary Equal (Done (Flag a)) (Done (Flag b))) s
-  equal_flags true true s e = gives_value _ (Truth true) s (instr.Operate operator.Equal) refl refl (λ stack. refl) e
-  equal_flags true false s e = gives_value _ (Truth false) s (instr.Operate operator.Equal) refl refl (λ stack. refl) e
-  equal_flags false true s e = gives_value _ (Truth false) s (instr.Operate operator.Equal) refl refl (λ stack. refl) e
-  equal_flags false false s e = gives_value _ (Truth true) s (instr.Operate operator.Equal) refl refl (λ stack. refl) e
+  equal_flags : (a b : Bool) → StepsTerm (Binary Equal (Done (Flag a)) (Done (Flag b))) ty.Truth
+  equal_flags true true = gives_value (Truth true) (instr.Operate operator.Equal) refl refl (λ stack. refl) value.truth
+  equal_flags true false = gives_value (Truth false) (instr.Operate operator.Equal) refl refl (λ stack. refl) value.truth
+  equal_flags false true = gives_value (Truth false) (instr.Operate operator.Equal) refl refl (λ stack. refl) value.truth
+  equal_flags false false = gives_value (Truth true) (instr.Operate operator.Equal) refl refl (λ stack. refl) value.truth
 
-  unequal_flags : (a b : Bool) (s : ExprType) → s ≡ ty.Truth → StepsTerm (Binary NotEqual (Done (Flag a)) (Done (Flag b))) s
-  unequal_flags true true s e = gives_value _ (Truth false) s (instr.Operate operator.NotEqual) refl refl (λ stack. refl) e
-  unequal_flags true false s e = gives_value _ (Truth true) s (instr.Operate operator.NotEqual) refl refl (λ stack. refl) e
-  unequal_flags false true s e = gives_value _ (Truth true) s (instr.Operate operator.NotEqual) refl refl (λ stack. refl) e
-  unequal_flags false false s e = gives_value _ (Truth false) s (instr.Operate operator.NotEqual) refl refl (λ stack. refl) e
+  unequal_flags : (a b : Bool) → StepsTerm (Binary NotEqual (Done (Flag a)) (Done (Flag b))) ty.Truth
+  unequal_flags true true = gives_value (Truth false) (instr.Operate operator.NotEqual) refl refl (λ stack. refl) value.truth
+  unequal_flags true false = gives_value (Truth true) (instr.Operate operator.NotEqual) refl refl (λ stack. refl) value.truth
+  unequal_flags false true = gives_value (Truth true) (instr.Operate operator.NotEqual) refl refl (λ stack. refl) value.truth
+  unequal_flags false false = gives_value (Truth false) (instr.Operate operator.NotEqual) refl refl (λ stack. refl) value.truth
 
   -- flags are compared for equality alone
-  flags_fit : (op : BinaryOp) (a b : Bool) (s : ExprType) → OperatorFits (group op) ty.Flag s → StepsTerm (Binary op (Done (Flag a)) (Done (Flag b))) s
-  flags_fit LogicalOr a b s f = absurd f
-  flags_fit LogicalAnd a b s f = absurd f
-  flags_fit Equal a b s f = equal_flags a b s f.1
-  flags_fit NotEqual a b s f = unequal_flags a b s f.1
-  flags_fit Less a b s f = absurd f.0
-  flags_fit LessEqual a b s f = absurd f.0
-  flags_fit Greater a b s f = absurd f.0
-  flags_fit GreaterEqual a b s f = absurd f.0
-  flags_fit BitOr a b s f = absurd (let c : ty.Flag ≡ ty.Word = f.0 in cc)
-  flags_fit BitXor a b s f = absurd (let c : ty.Flag ≡ ty.Word = f.0 in cc)
-  flags_fit BitAnd a b s f = absurd (let c : ty.Flag ≡ ty.Word = f.0 in cc)
-  flags_fit ShiftLeft a b s f = absurd (let c : ty.Flag ≡ ty.Word = f.0 in cc)
-  flags_fit ShiftRight a b s f = absurd (let c : ty.Flag ≡ ty.Word = f.0 in cc)
-  flags_fit Add a b s f = absurd (let c : ty.Flag ≡ ty.Word = f.0 in cc)
-  flags_fit Subtract a b s f = absurd (let c : ty.Flag ≡ ty.Word = f.0 in cc)
-  flags_fit Multiply a b s f = absurd (let c : ty.Flag ≡ ty.Word = f.0 in cc)
-  flags_fit Divide a b s f = absurd (let c : ty.Flag ≡ ty.Word = f.0 in cc)
-  flags_fit Remainder a b s f = absurd (let c : ty.Flag ≡ ty.Word = f.0 in cc)
+  flags_step : (op : BinaryOp) (a b : Bool) (s : ExprType) → OperatorFits (group op) ty.Flag s → StepsTerm (Binary op (Done (Flag a)) (Done (Flag b))) (result_of (group op))
+  flags_step LogicalOr a b s f = absurd f
+  flags_step LogicalAnd a b s f = absurd f
+  flags_step Equal a b s f = equal_flags a b
+  flags_step NotEqual a b s f = unequal_flags a b
+  flags_step Less a b s f = absurd f.0
+  flags_step LessEqual a b s f = absurd f.0
+  flags_step Greater a b s f = absurd f.0
+  flags_step GreaterEqual a b s f = absurd f.0
+  flags_step op a b s f = absurd (let c : ty.Flag ≡ ty.Word = f.0 in cc)
 
   no_truths : (g : OperatorGroup) (s : ExprType) → OperatorFits g ty.Truth s → ⊥
   no_truths Logic s f = f
@@ -494,18 +465,14 @@ module _ (known : Known) (line : ℕ) (slots : Slots) (visible : Visible) where
   no_truths Order s f = f.0
   no_truths OnWords s f = let c : ty.Truth ≡ ty.Word = f.0 in absurd (cc)
 
+  operator_step : (op : BinaryOp) {v w : Value} {r : ExprType} (s : ExprType) → OperatorFits (group op) r s → ValueHasType v r → ValueHasType w r → StepsTerm (Binary op (Done v) (Done w)) (result_of (group op))
+  operator_step op s f (value.word {n = a} h) (value.word {n = b} k) = words_step op a b s h k f
+  operator_step op s f (value.int {z = a} h) (value.int {z = b} k) = ints_step op a b s h k f
+  operator_step op s f (value.flag {b = a}) (value.flag {b = b}) = flags_step op a b s f
+  operator_step op s f value.truth w = absurd (no_truths (group op) s f)
+
   values_step : (op : BinaryOp) (v w : Value) (r s : ExprType) → OperatorFits (group op) r s → ValueHasType v r → ValueHasType w r → StepsTerm (Binary op (Done v) (Done w)) s
-  values_step op (Word a) (Word b) r s f h k = words_step op a b r s h.0 k.0 f
-  values_step op (Int a) (Int b) r s f h k = ints_step op a b r s h.0 k.0 h.1 f
-  values_step op (Flag a) (Flag b) r s f h k = flags_fit op a b s (subst (λ (q : ExprType). OperatorFits (group op) q s) h f)
-  values_step op (Truth a) w r s f h k = absurd (no_truths (group op) s (subst (λ (q : ExprType). OperatorFits (group op) q s) h f))
-  values_step op v (Truth b) r s f h k = absurd (no_truths (group op) s (subst (λ (q : ExprType). OperatorFits (group op) q s) k f))
-  values_step op (Word a) (Int b) r s f h k = absurd (let c : ty.Word ≡ Jint = sym h.1 ∙ k.1 in cc)
-  values_step op (Word a) (Flag b) r s f h k = absurd (let c : ty.Word ≡ ty.Flag = sym h.1 ∙ k in cc)
-  values_step op (Int a) (Word b) r s f h k = absurd (let c : Jint ≡ ty.Word = sym h.1 ∙ k.1 in cc)
-  values_step op (Int a) (Flag b) r s f h k = absurd (let c : Jint ≡ ty.Flag = sym h.1 ∙ k in cc)
-  values_step op (Flag a) (Word b) r s f h k = absurd (let c : ty.Flag ≡ ty.Word = sym h ∙ k.1 in cc)
-  values_step op (Flag a) (Int b) r s f h k = absurd (let c : ty.Flag ≡ Jint = sym h ∙ k.1 in cc)
+  values_step op v w r s f h k = subst (StepsTerm (Binary op (Done v) (Done w))) (sym (result_is (group op) r s f)) (operator_step op s f h k)
 
   -- ---- names
 
@@ -544,37 +511,36 @@ module _ (known : Known) (line : ℕ) (slots : Slots) (visible : Visible) where
   other_truth true = refl
   other_truth false = refl
 
-  null_step : (equal : Bool) (x : Identifier) (slot : Slot) (s : ExprType) → lookup x known ≡ Some slot → ShowsNull x slot.ty slot.index → s ≡ ty.Truth → StepsTerm (IsNull equal x) s
-  null_step true x slot s at n e =
-      gives_value (IsNull true x) (Truth n.null) s (instr.TestNull n.variable true) (ap (null_code true) at ∙ ap (test_of true) n.same) (ap (λ o. done (outcome_map Truth o)) n.is)
-      (λ stack. (n.null, n.holds, refl, ap (λ (w : ℕ). w ∷ stack) (same_truth n.null))) e
-  null_step false x slot s at n e =
-      gives_value (IsNull false x) (Truth (not n.null)) s (instr.TestNull n.variable false) (ap (null_code false) at ∙ ap (test_of false) n.same) (ap (λ o. done (outcome_map (λ b. Truth (not b)) o)) n.is)
-      (λ stack. (n.null, n.holds, refl, ap (λ (w : ℕ). w ∷ stack) (other_truth n.null))) e
+  null_step : (equal : Bool) (x : Identifier) (slot : Slot) → lookup x known ≡ Some slot → ShowsNull x slot.ty slot.index → StepsTerm (IsNull equal x) ty.Truth
+  null_step true x slot at n =
+      gives_value (Truth n.null) (instr.TestNull n.variable true) (ap (null_code true) at ∙ ap (test_of true) n.same) (ap (λ o. done (outcome_map Truth o)) n.is)
+      (λ stack. (n.null, n.holds, refl, ap (λ (w : ℕ). w ∷ stack) (same_truth n.null))) value.truth
+  null_step false x slot at n =
+      gives_value (Truth (not n.null)) (instr.TestNull n.variable false) (ap (null_code false) at ∙ ap (test_of false) n.same) (ap (λ o. done (outcome_map (λ b. Truth (not b)) o)) n.is)
+      (λ stack. (n.null, n.holds, refl, ap (λ (w : ℕ). w ∷ stack) (other_truth n.null))) value.truth
 
   read_step : (x : Identifier) (s : Slot) → lookup x known ≡ Some s → ShowsNumber visible x slots.numbers s → StepsTerm (Read x) s.ty
   read_step x s at h =
-      gives_value (Read x) h.value s.ty (instr.Load s.index) (ap (of_slot load_code) at) (ap done h.is) (λ stack. ap (option_map (λ (n : ℕ). (plain.Next, n ∷ stack, slots.numbers))) h.word) h.ty
+      gives_value h.value (instr.Load s.index) (ap (of_slot load_code) at) (ap done h.is) (λ stack. ap (option_map (λ (n : ℕ). (plain.Next, n ∷ stack, slots.numbers))) h.word) h.ty
 
   -- ---- elements
 
   -- an array and an index that isn't negative
-  element_step : (x : Identifier) (v : Value) (s : ExprType) (t : ElementType) (size start k : ℕ) → lookup x known ≡ Some (record { ty = Array t size; index = start }) → ShowsArray visible x slots.numbers t size start
-      → word_of v ≡ k → term.index_of v ≡ Gives k → s ≡ Jint → (b : Bool) → nat_lt k size ≡ b → StepsTerm (term.Element x (Done v)) s
-  element_step x v s t size start k at shown word index e true below =
+  element_step : (x : Identifier) (v : Value) (t : ElementType) (size start k : ℕ) → lookup x known ≡ Some (record { ty = Array t size; index = start }) → ShowsArray visible x slots.numbers t size start
+      → word_of v ≡ k → term.index_of v ≡ Gives k → (b : Bool) → nat_lt k size ≡ b → StepsTerm (term.Element x (Done v)) Jint
+  element_step x v t size start k at shown word index true below =
       let element = shown.elements k (ltb-true k size below) in
-      gives_value (term.Element x (Done v)) (Int element.number) s (instr.LoadElement (record { start = start; len = size }) line) (ap (of_slot (element_code line)) at) (rw (index, element.is) refl) (λ stack. rw (word, below, element.word) refl) (element.fits, e)
-  element_step x v s t size start k at shown word index e false below =
-      gives_trap (term.Element x (Done v)) s (instr.LoadElement (record { start = start; len = size }) line) trap.OutOfRange (ap (of_slot (element_code line)) at) (rw (index, shown.past k (ltb-false k size below)) refl) (λ stack. rw (word, below) refl)
+      gives_value (Int element.number) (instr.LoadElement (record { start = start; len = size }) line) (ap (of_slot (element_code line)) at) (rw (index, element.is) refl) (λ stack. rw (word, below, element.word) refl) (value.int element.fits)
+  element_step x v t size start k at shown word index false below =
+      gives_trap (instr.LoadElement (record { start = start; len = size }) line) trap.OutOfRange (ap (of_slot (element_code line)) at) (rw (index, shown.past k (ltb-false k size below)) refl) (λ stack. rw (word, below) refl)
 
-  index_step : (x : Identifier) (v : Value) (r s : ExprType) (t : ElementType) (size start : ℕ) → lookup x known ≡ Some (record { ty = Array t size; index = start }) → ShowsArray visible x slots.numbers t size start
-      → IsIndexType r → ValueHasType v r → s ≡ Jint → StepsTerm (term.Element x (Done v)) s
-  index_step x (Word n) r s t size start at shown i h e = element_step x (Word n) s t size start n at shown refl refl e (nat_lt n size) refl
-  index_step x (Int (pos n)) r s t size start at shown i h e = element_step x (Int (pos n)) s t size start n at shown refl refl e (nat_lt n size) refl
-  index_step x (Int (negsuc n)) r s t size start at shown i h e =
-      gives_trap (term.Element x (Done (Int (negsuc n)))) s (instr.LoadElement (record { start = start; len = size }) line) trap.OutOfRange (ap (of_slot (element_code line)) at) refl (λ stack. rw (negative_index n size h.0 shown.few) refl)
-  index_step x (Flag b) r s t size start at shown i h e = absurd (subst IsIndexType h i)
-  index_step x (Truth b) r s t size start at shown i h e = absurd (subst IsIndexType h i)
+  index_step : (x : Identifier) {v : Value} {r : ExprType} (t : ElementType) (size start : ℕ) → lookup x known ≡ Some (record { ty = Array t size; index = start }) → ShowsArray visible x slots.numbers t size start
+      → IsIndexType r → ValueHasType v r → StepsTerm (term.Element x (Done v)) Jint
+  index_step x t size start at shown i (value.word {n = n} h) = element_step x (Word n) t size start n at shown refl refl (nat_lt n size) refl
+  index_step x t size start at shown i (value.int {z = pos n} h) = element_step x (Int (pos n)) t size start n at shown refl refl (nat_lt n size) refl
+  index_step x t size start at shown i (value.int {z = negsuc n} h) =
+      gives_trap (instr.LoadElement (record { start = start; len = size }) line) trap.OutOfRange (ap (of_slot (element_code line)) at) refl (λ stack. rw (negative_index n size h shown.few) refl)
+  index_step x t size start at shown i h = absurd i
 
   -- a buffer, of which the elements are seen
   module _ (sees : SeesBuffers visible slots.buffers) where
@@ -602,36 +568,34 @@ module _ (known : Known) (line : ℕ) (slots : Slots) (visible : Visible) where
         (elements_in h.buffer visible.numbers, slot_has x t i h, subst (λ (o : Option ℤ). Loads line word stack o path after) (sym (ap (slice_get (elements_in h.buffer visible.numbers)) same ∙ is)) loads)
 
     -- an index that isn't negative
-    buffer_element : (x : Identifier) (v : Value) (s : ExprType) (t : ElementType) (writable : Bool) (i k : ℕ) → lookup x known ≡ Some (record { ty = Buffer t writable; index = i }) → (h : ShowsBuffer visible x slots.buffers t i)
-        → word_of v ≡ k → term.index_of v ≡ Gives k → s ≡ Jint → (null : Bool) → is_no_buffer h.buffer ≡ null → (found : Option ℤ) → slice_get (elements_in h.buffer visible.numbers) k ≡ found → StepsTerm (term.Element x (Done v)) s
-    buffer_element x v s t writable i k at h word index e true null found is =
-        gives_nothing (term.Element x (Done v)) s (instr.LoadBuffer i line) (ap (of_slot (element_code line)) at) (rw (index, seen_as x t i k h true null) refl)
-    buffer_element x v s t writable i k at h word index e false null (Some z) is =
+    buffer_element : (x : Identifier) (v : Value) (t : ElementType) (writable : Bool) (i k : ℕ) → lookup x known ≡ Some (record { ty = Buffer t writable; index = i }) → (h : ShowsBuffer visible x slots.buffers t i)
+        → word_of v ≡ k → term.index_of v ≡ Gives k → (null : Bool) → is_no_buffer h.buffer ≡ null → (found : Option ℤ) → slice_get (elements_in h.buffer visible.numbers) k ≡ found → StepsTerm (term.Element x (Done v)) Jint
+    buffer_element x v t writable i k at h word index true null found is = gives_nothing (instr.LoadBuffer i line) (ap (of_slot (element_code line)) at) (rw (index, seen_as x t i k h true null) refl)
+    buffer_element x v t writable i k at h word index false null (Some z) is =
         let seen : visible.sight.element x k ≡ Gives z = seen_as x t i k h false null ∙ ap in_range is in
-        gives_value (term.Element x (Done v)) (Int z) s (instr.LoadBuffer i line) (ap (of_slot (element_code line)) at) (rw (index, seen) refl)
-        (λ stack. loaded x t i k (word_of v) stack h (Some z) plain.Next (cast_unsigned w32 z ∷ stack) word is (refl, refl)) ((sees.fit i k h.buffer z h.there is).1, e)
-    buffer_element x v s t writable i k at h word index e false null None is =
+        gives_value (Int z) (instr.LoadBuffer i line) (ap (of_slot (element_code line)) at) (rw (index, seen) refl)
+        (λ stack. loaded x t i k (word_of v) stack h (Some z) plain.Next (cast_unsigned w32 z ∷ stack) word is (refl, refl)) (value.int (sees.fit i k h.buffer z h.there is).1)
+    buffer_element x v t writable i k at h word index false null None is =
         let seen : visible.sight.element x k ≡ Traps OutOfRange = seen_as x t i k h false null ∙ ap in_range is in
-        gives_trap (term.Element x (Done v)) s (instr.LoadBuffer i line) trap.OutOfRange (ap (of_slot (element_code line)) at) (rw (index, seen) refl)
+        gives_trap (instr.LoadBuffer i line) trap.OutOfRange (ap (of_slot (element_code line)) at) (rw (index, seen) refl)
         (λ stack. loaded x t i k (word_of v) stack h None (plain.Trap trap.OutOfRange line) (word_of v ∷ stack) word is (refl, refl))
 
-    buffer_index : (x : Identifier) (v : Value) (r s : ExprType) (t : ElementType) (writable : Bool) (i : ℕ) → lookup x known ≡ Some (record { ty = Buffer t writable; index = i }) → ShowsBuffer visible x slots.buffers t i → IsIndexType r → ValueHasType v r → s ≡ Jint
-        → StepsTerm (term.Element x (Done v)) s
-    buffer_index x (Word n) r s t writable i at h index fits e = buffer_element x (Word n) s t writable i n at h refl refl e (is_no_buffer h.buffer) refl (slice_get (elements_in h.buffer visible.numbers) n) refl
-    buffer_index x (Int (pos n)) r s t writable i at h index fits e = buffer_element x (Int (pos n)) s t writable i n at h refl refl e (is_no_buffer h.buffer) refl (slice_get (elements_in h.buffer visible.numbers) n) refl
-    buffer_index x (Int (negsuc n)) r s t writable i at h index fits e =
+    buffer_index : (x : Identifier) {v : Value} {r : ExprType} (t : ElementType) (writable : Bool) (i : ℕ) → lookup x known ≡ Some (record { ty = Buffer t writable; index = i }) → ShowsBuffer visible x slots.buffers t i → IsIndexType r → ValueHasType v r
+        → StepsTerm (term.Element x (Done v)) Jint
+    buffer_index x t writable i at h index (value.word {n = n} fits) = buffer_element x (Word n) t writable i n at h refl refl (is_no_buffer h.buffer) refl (slice_get (elements_in h.buffer visible.numbers) n) refl
+    buffer_index x t writable i at h index (value.int {z = pos n} fits) = buffer_element x (Int (pos n)) t writable i n at h refl refl (is_no_buffer h.buffer) refl (slice_get (elements_in h.buffer visible.numbers) n) refl
+    buffer_index x t writable i at h index (value.int {z = negsuc n} fits) =
         let word = cast_unsigned w32 (negsuc n) in
-        gives_trap (term.Element x (Done (Int (negsuc n)))) s (instr.LoadBuffer i line) trap.OutOfRange (ap (of_slot (element_code line)) at) refl
-        (λ stack. loaded x t i word word stack h None (plain.Trap trap.OutOfRange line) (word ∷ stack) refl (none_negative i h.buffer n h.there fits.0) (refl, refl))
-    buffer_index x (Flag b) r s t writable i at h index fits e = absurd (subst IsIndexType fits index)
-    buffer_index x (Truth b) r s t writable i at h index fits e = absurd (subst IsIndexType fits index)
+        gives_trap (instr.LoadBuffer i line) trap.OutOfRange (ap (of_slot (element_code line)) at) refl
+        (λ stack. loaded x t i word word stack h None (plain.Trap trap.OutOfRange line) (word ∷ stack) refl (none_negative i h.buffer n h.there fits) (refl, refl))
+    buffer_index x t writable i at h index v = absurd index
 
     -- a name that has elements
-    named_element : (x : Identifier) (v : Value) (r s kind : ExprType) (i : ℕ) → HasElements kind → lookup x known ≡ Some (record { ty = kind; index = i }) → ShowsSlot visible x slots (record { ty = kind; index = i }) kind → IsIndexType r → ValueHasType v r → s ≡ Jint
-        → StepsTerm (term.Element x (Done v)) s
-    named_element x v r s (Array t size) i has at shown index fits e = index_step x v r s t size i at shown index fits e
-    named_element x v r s (Buffer t writable) i has at shown index fits e = buffer_index x v r s t writable i at shown index fits e
-    named_element x v r s kind i has at shown index fits e = absurd has
+    named_element : (x : Identifier) (v : Value) (r kind : ExprType) (i : ℕ) → HasElements kind → lookup x known ≡ Some (record { ty = kind; index = i }) → ShowsSlot visible x slots (record { ty = kind; index = i }) kind → IsIndexType r → ValueHasType v r
+        → StepsTerm (term.Element x (Done v)) Jint
+    named_element x v r (Array t size) i has at shown index fits = index_step x t size i at shown index fits
+    named_element x v r (Buffer t writable) i has at shown index fits = buffer_index x t writable i at shown index fits
+    named_element x v r kind i has at shown index fits = absurd has
 
   -- ---- all terms
 
@@ -646,28 +610,30 @@ module _ (known : Known) (line : ℕ) (slots : Slots) (visible : Visible) where
   shows_number x s ty.Flag kind h = h
   shows_number x s other kind h = absurd kind
 
-  pub steps_term : AllShown → SeesBuffers visible slots.buffers → (t : Term) (s : ExprType) → IsOpen t → TermHasType known t s → IsBegun t → StepsTerm t s
-  steps_term shown sees (Done v) s o h b = absurd o
-  steps_term shown sees (term.Number n true) s o h b = gives_value (term.Number n true) (Word n) s (instr.Push n) refl refl (λ stack. refl) h
-  steps_term shown sees (term.Number n false) s o h b = gives_value (term.Number n false) (Int (pos n)) s (instr.Push n) refl refl (λ stack. refl) (record { sfits = h.0 }, h.1)
-  steps_term shown sees (term.Named tree.True) s o h b = gives_value (term.Named tree.True) (Flag true) s (instr.Push 1) refl refl (λ stack. refl) h
-  steps_term shown sees (term.Named tree.False) s o h b = gives_value (term.Named tree.False) (Flag false) s (instr.Push 0) refl refl (λ stack. refl) h
-  steps_term shown sees (term.Named c) s o h b = absurd h
-  steps_term shown sees (Read x) s o h b =
+  pub steps_term : AllShown → SeesBuffers visible slots.buffers → {t : Term} {s : ExprType} → IsOpen t → TermHasType known t s → IsBegun t → StepsTerm t s
+  steps_term shown sees o (rule.done h) b = absurd o
+  steps_term shown sees o (rule.word {n = n} h) b = gives_value (Word n) (instr.Push n) refl refl (λ stack. refl) (value.word h)
+  steps_term shown sees o (rule.int {n = n} h) b = gives_value (Int (pos n)) (instr.Push n) refl refl (λ stack. refl) (value.int (record { sfits = h }))
+  steps_term shown sees o rule.true_flag b = gives_value (Flag true) (instr.Push 1) refl refl (λ stack. refl) value.flag
+  steps_term shown sees o rule.false_flag b = gives_value (Flag false) (instr.Push 0) refl refl (λ stack. refl) value.flag
+  steps_term shown sees o (rule.read {x = x} {s = s} h) b =
       let slot : Slot = record { ty = s; index = h.0 } in
       read_step x slot h.1 (shows_number x slot s h.2 (shown x slot h.1))
-  steps_term shown sees (term.Element x (Done v)) s o h b = named_element sees x v h.0 s h.3.0.ty h.3.0.index h.3.2 h.3.1 (shown x h.3.0 h.3.1) h.1 h.2 h.4
-  steps_term shown sees (term.Element x t) s o h b = inside (term.Element x) t h.0 s (in_element x t h.0 s tt (λ u k. (h.0, h.1, k, h.3, h.4))) h.2 (steps_term shown sees t h.0 tt h.2 b)
-  steps_term shown sees (IsNull equal x) s o h b = null_step equal x h.0.0 s h.0.1 (shows_null x h.0.0 h.0.0.ty h.0.2 (shown x h.0.0 h.0.1)) h.1
-  steps_term shown sees (Prefix op (Done v)) s o h b = prefix_step op v s h
-  steps_term shown sees (Prefix LogicalNot t) s o h b = inside (Prefix LogicalNot) t ty.Truth s (in_prefix LogicalNot t ty.Truth s tt (λ u k. (k, h.1))) h.0 (steps_term shown sees t ty.Truth tt h.0 b)
-  steps_term shown sees (Prefix Complement t) s o h b = inside (Prefix Complement) t ty.Word s (in_prefix Complement t ty.Word s tt (λ u k. (k, h.1))) h.0 (steps_term shown sees t ty.Word tt h.0 b)
-  steps_term shown sees (Prefix ToWord t) s o h b = inside (Prefix ToWord) t h.0 s (in_prefix ToWord t h.0 s tt (λ u k. (h.0, h.1, k, h.3))) h.2 (steps_term shown sees t h.0 tt h.2 b)
-  steps_term shown sees (Prefix ToInt t) s o h b = inside (Prefix ToInt) t h.0 s (in_prefix ToInt t h.0 s tt (λ u k. (h.0, h.1, k, h.3))) h.2 (steps_term shown sees t h.0 tt h.2 b)
-  steps_term shown sees (And (Done v) c) s o h b = and_step c s v h.0 h.1 h.2 b.1
-  steps_term shown sees (And a c) s o h b = inside (λ u. And u c) a ty.Truth s (in_and a c s tt b.1 h.1 h.2) h.0 (steps_term shown sees a ty.Truth tt h.0 b.0)
-  steps_term shown sees (Or (Done v) c) s o h b = or_step c s v h.0 h.1 h.2 b.1
-  steps_term shown sees (Or a c) s o h b = inside (λ u. Or u c) a ty.Truth s (in_or a c s tt b.1 h.1 h.2) h.0 (steps_term shown sees a ty.Truth tt h.0 b.0)
-  steps_term shown sees (Binary op (Done v) (Done w)) s o h b = values_step op v w h.0 s h.1 h.2 h.3
-  steps_term shown sees (Binary op (Done v) c) s o h b = inside (Binary op (Done v)) c h.0 s (in_right op v c h.0 s tt h.1 h.2) h.3 (steps_term shown sees c h.0 tt h.3 b)
-  steps_term shown sees (Binary op a c) s o h b = inside (λ u. Binary op u c) a h.0 s (in_left op a c h.0 s tt b.1 h.1 h.3) h.2 (steps_term shown sees a h.0 tt h.2 b.0)
+  steps_term shown sees o (rule.element {x = x} {n = n} {r = r} at has index (rule.done {v = v} h)) b = named_element sees x v r n.ty n.index has at (shown x n at) index h
+  steps_term shown sees o (rule.element {x = x} {t = t} {r = r} at has index h) b = inside (term.Element x) t r Jint (in_element x t r Jint tt (λ u k. rule.element at has index k)) h (steps_term shown sees tt h b)
+  steps_term shown sees o (rule.null_test {equal = equal} {x = x} {n = n} at null) b = null_step equal x n at (shows_null x n n.ty null (shown x n at))
+  steps_term shown sees o (rule.logical_not (rule.done h)) b = prefix_step (rule.logical_not (rule.done h))
+  steps_term shown sees o (rule.logical_not {t = t} h) b = inside (Prefix LogicalNot) t ty.Truth ty.Truth (in_prefix LogicalNot t ty.Truth ty.Truth tt (λ u k. rule.logical_not k)) h (steps_term shown sees tt h b)
+  steps_term shown sees o (rule.complement (rule.done h)) b = prefix_step (rule.complement (rule.done h))
+  steps_term shown sees o (rule.complement {t = t} h) b = inside (Prefix Complement) t ty.Word ty.Word (in_prefix Complement t ty.Word ty.Word tt (λ u k. rule.complement k)) h (steps_term shown sees tt h b)
+  steps_term shown sees o (rule.to_word i (rule.done h)) b = prefix_step (rule.to_word i (rule.done h))
+  steps_term shown sees o (rule.to_word {t = t} {r = r} i h) b = inside (Prefix ToWord) t r ty.Word (in_prefix ToWord t r ty.Word tt (λ u k. rule.to_word i k)) h (steps_term shown sees tt h b)
+  steps_term shown sees o (rule.to_int i (rule.done h)) b = prefix_step (rule.to_int i (rule.done h))
+  steps_term shown sees o (rule.to_int {t = t} {r = r} i h) b = inside (Prefix ToInt) t r Jint (in_prefix ToInt t r Jint tt (λ u k. rule.to_int i k)) h (steps_term shown sees tt h b)
+  steps_term shown sees o (rule.both {b = c} (rule.done h) k) b = and_step c h k b.1
+  steps_term shown sees o (rule.both {a = a} {b = c} h k) b = inside (λ u. And u c) a ty.Truth ty.Truth (in_and a c tt b.1 k) h (steps_term shown sees tt h b.0)
+  steps_term shown sees o (rule.either {b = c} (rule.done h) k) b = or_step c h k b.1
+  steps_term shown sees o (rule.either {a = a} {b = c} h k) b = inside (λ u. Or u c) a ty.Truth ty.Truth (in_or a c tt b.1 k) h (steps_term shown sees tt h b.0)
+  steps_term shown sees o (rule.operator {op = op} {r = r} {s = s} f (rule.done {v = v} h) (rule.done {v = w} k)) b = values_step op v w r s f h k
+  steps_term shown sees o (rule.operator {op = op} {b = c} {r = r} {s = s} f (rule.done {v = v} h) k) b = inside (Binary op (Done v)) c r s (in_right op v c r s tt f h) k (steps_term shown sees tt k b)
+  steps_term shown sees o (rule.operator {op = op} {a = a} {b = c} {r = r} {s = s} f h k) b = inside (λ u. Binary op u c) a r s (in_left op a c r s tt b.1 f k) h (steps_term shown sees tt h b.0)

@@ -13,6 +13,7 @@ use Rattle.type_rules.proofs.TypeCases.{IsValueType, given, castable, indexed, o
 use Rattle.semantics.specs.Term as term
 use Rattle.semantics.specs.Term.{Term, binary_term, term_of}
 use Rattle.code_meaning.specs.Layout.{Slot, Known}
+use Rattle.code_meaning.specs.Fits as rule
 use Rattle.code_meaning.specs.Fits.{IsVariable, IsNullable, HasElements, TermHasType, IsUntouched, term_height, NumberFits}
 
 -- the types of the known names
@@ -55,43 +56,46 @@ elements o h = absurd (cc)
 abbrev HasTypes : Known → Term → Option ExprType → Type 0
 HasTypes known t o = (r : ExprType) → o ≡ Some r → IsValueType r → TermHasType known t r
 
+of_type : {known : Known} {t : Term} {r s : ExprType} → TermHasType known t r → s ≡ r → TermHasType known t s
+of_type {known = known} {t = t} h e = subst (TermHasType known t) (sym e) h
+
 number_typed : (known : Known) (n : ℕ) (u : Bool) (s : ExprType) → Some (if u then Word else Jint) ≡ Some s → nat_lt n (number_limit u) ≡ true → TermHasType known (term.Number n u) s
-number_typed known n true s h range = (ltb-true n (2 ^ 32) range, cc)
-number_typed known n false s h range = (ltb-true n (2 ^ 31) range, cc)
+number_typed known n true s h range = of_type (rule.word (ltb-true n (2 ^ 32) range)) cc
+number_typed known n false s h range = of_type (rule.int (ltb-true n (2 ^ 31) range)) cc
 
 constant_typed : (known : Known) (c : Constant) (s : ExprType) → constant_type c ≡ Some s → TermHasType known (term.Named c) s
-constant_typed known True s h = cc
-constant_typed known False s h = cc
+constant_typed known True s h = of_type rule.true_flag cc
+constant_typed known False s h = of_type rule.false_flag cc
 constant_typed known c s h = absurd (cc)
 
-null_typed : (known : Known) (x : Identifier) (s : ExprType) (g : OperatorGroup) → option_or (if is_nullable (type_in (scope_of known) x) then Some Truth else None) (binary_type g (type_in (scope_of known) x) None) ≡ Some s
-    → ((n : Slot) × (lookup x known ≡ Some n) × IsNullable n.ty) × (s ≡ Truth)
-null_typed known x s g h =
+null_typed : (known : Known) (x : Identifier) (s : ExprType) (g : OperatorGroup) (equal : Bool) → option_or (if is_nullable (type_in (scope_of known) x) then Some Truth else None) (binary_type g (type_in (scope_of known) x) None) ≡ Some s
+    → TermHasType known (term.IsNull equal x) s
+null_typed known x s g equal h =
     let o : Option ExprType = type_in (scope_of known) x in
     let test : Option ExprType = if is_nullable o then Some Truth else None in
     let e : (if is_nullable o then Some Truth else None) ≡ Some s = sym (or_none test) ∙ ap (option_or test) (sym (none_right g o)) ∙ h in
     let passed = given (is_nullable o) Truth s e in
     let r = nullable o passed.0 in
     let at = slot_of_name x known r.0 r.1 in
-    ((record { ty = r.0; index = at.0 }, at.1, r.2), passed.1)
+    of_type (rule.null_test at.1 r.2) passed.1
 
 null_test_typed : (known : Known) (x : Identifier) (op : BinaryOp) (s : ExprType) → (op ≡ Equal) ⊎ (op ≡ NotEqual) → type_of (scope_of known) (Binary op (Variable x) (Named Null)) ≡ Some s → TermHasType known (term_of (Binary op (Variable x) (Named Null))) s
 null_test_typed known x op s (inl e) =
-    subst (λ (o : BinaryOp). type_of (scope_of known) (Binary o (Variable x) (Named Null)) ≡ Some s → TermHasType known (term_of (Binary o (Variable x) (Named Null))) s) (sym e) (null_typed known x s Equality)
+    subst (λ (o : BinaryOp). type_of (scope_of known) (Binary o (Variable x) (Named Null)) ≡ Some s → TermHasType known (term_of (Binary o (Variable x) (Named Null))) s) (sym e) (null_typed known x s Equality true)
 null_test_typed known x op s (inr e) =
-    subst (λ (o : BinaryOp). type_of (scope_of known) (Binary o (Variable x) (Named Null)) ≡ Some s → TermHasType known (term_of (Binary o (Variable x) (Named Null))) s) (sym e) (null_typed known x s Equality)
+    subst (λ (o : BinaryOp). type_of (scope_of known) (Binary o (Variable x) (Named Null)) ≡ Some s → TermHasType known (term_of (Binary o (Variable x) (Named Null))) s) (sym e) (null_typed known x s Equality false)
 
 prefix_typed : (known : Known) (op : PrefixOp) (o : Option ExprType) (s : ExprType) (t : Term) → prefix_type op o ≡ Some s → HasTypes known t o → TermHasType known (term.Prefix op t) s
-prefix_typed known LogicalNot (Some Truth) s t h types = (types Truth refl tt, cc)
-prefix_typed known Complement (Some Word) s t h types = (types Word refl tt, cc)
+prefix_typed known LogicalNot (Some Truth) s t h types = of_type (rule.logical_not (types Truth refl tt)) cc
+prefix_typed known Complement (Some Word) s t h types = of_type (rule.complement (types Word refl tt)) cc
 prefix_typed known ToWord o s t h types =
     let passed = given (is_castable o) Word s h in
     let r = castable o passed.0 in
-    (r.0, r.2, types r.0 r.1 (number_is_value r.0 r.2), passed.1)
+    of_type (rule.to_word r.2 (types r.0 r.1 (number_is_value r.0 r.2))) passed.1
 prefix_typed known ToInt o s t h types =
     let passed = given (is_castable o) Jint s h in
     let r = castable o passed.0 in
-    (r.0, r.2, types r.0 r.1 (number_is_value r.0 r.2), passed.1)
+    of_type (rule.to_int r.2 (types r.0 r.1 (number_is_value r.0 r.2))) passed.1
 prefix_typed known op o s t h types = absurd (cc)
 
 element_typed : (known : Known) (x : Identifier) (o : Option ExprType) (s : ExprType) (t : Term) → (if has_elements (type_in (scope_of known) x) && is_index o then Some Jint else None) ≡ Some s → HasTypes known t o → TermHasType known (term.Element x t) s
@@ -101,15 +105,15 @@ element_typed known x o s t h types =
     let r = indexed o both.1 in
     let e = elements (type_in (scope_of known) x) both.0 in
     let at = slot_of_name x known e.0 e.1 in
-    (r.0, r.2, types r.0 r.1 (index_is_value r.0 r.2), (record { ty = e.0; index = at.0 }, at.1, e.2), passed.1)
+    of_type (rule.element at.1 e.2 r.2 (types r.0 r.1 (index_is_value r.0 r.2))) passed.1
 
 operator_typed : (known : Known) (op : BinaryOp) (r s : ExprType) (a b : Term) → TermHasType known a r → TermHasType known b r → ((group op ≡ Logic) × (r ≡ Truth) × (s ≡ Truth) ⊎ OperatorFits (group op) r s) → TermHasType known (binary_term op None a b) s
-operator_typed known LogicalOr r s a b h k (inl l) = (subst (TermHasType known a) l.1 h, subst (TermHasType known b) l.1 k, l.2)
+operator_typed known LogicalOr r s a b h k (inl l) = of_type (rule.either (subst (TermHasType known a) l.1 h) (subst (TermHasType known b) l.1 k)) l.2
 operator_typed known LogicalOr r s a b h k (inr fits) = absurd fits
-operator_typed known LogicalAnd r s a b h k (inl l) = (subst (TermHasType known a) l.1 h, subst (TermHasType known b) l.1 k, l.2)
+operator_typed known LogicalAnd r s a b h k (inl l) = of_type (rule.both (subst (TermHasType known a) l.1 h) (subst (TermHasType known b) l.1 k)) l.2
 operator_typed known LogicalAnd r s a b h k (inr fits) = absurd fits
 operator_typed known op r s a b h k (inl l) = absurd (let e = l.0 in cc)
-operator_typed known op r s a b h k (inr fits) = (r, fits, h, k)
+operator_typed known op r s a b h k (inr fits) = rule.operator fits h k
 
 binary_typed : (known : Known) (op : BinaryOp) (o o' : Option ExprType) (s : ExprType) (a b : Term) → binary_type (group op) o o' ≡ Some s → HasTypes known a o → HasTypes known b o' → TermHasType known (binary_term op None a b) s
 binary_typed known op o o' s a b h types types' =
@@ -139,7 +143,7 @@ variable_well_typed known x s no_truth h v = absurd v
 term_type : (e : Expr) (known : Known) (s : ExprType) → HasNoTruth known → numbers_in_range e ≡ true → type_of (scope_of known) e ≡ Some s → IsValueType s → TermHasType known (term_of e) s
 term_type (Number n u) known s no_truth range h v = number_typed known n u s h range
 term_type (Named c) known s no_truth range h v = constant_typed known c s h
-term_type (Variable x) known s no_truth range h v = variable_well_typed known x s no_truth h v
+term_type (Variable x) known s no_truth range h v = rule.read (variable_well_typed known x s no_truth h v)
 term_type (Element x i) known s no_truth range h v = element_typed known x (type_of (scope_of known) i) s (term_of i) h (λ r e w. term_type i known r no_truth range e w)
 term_type (Prefix op a) known s no_truth range h v = prefix_typed known op (type_of (scope_of known) a) s (term_of a) h (λ r e w. term_type a known r no_truth range e w)
 term_type (Binary op a b) known s no_truth range h v =

@@ -21,9 +21,10 @@ use Rattle.code.specs.declared.instr.Instr.TheVariants as instr
 use Rattle.code.specs.Depth.{depth_after, words_taken, with_result}
 use Rattle.code.proofs.Pieces.{IsPiece, piece_none, piece_append, piece_one, piece_and, piece_or, piece_if, piece_end, piece_loop}
 use Rattle.semantics.specs.Term as term
-use Rattle.semantics.specs.Term.{Term, Done, Read, IsNull, Prefix, And, Or, Binary, term_of}
+use Rattle.semantics.specs.Term.{Term, Read, term_of}
 use Rattle.code_meaning.specs.Layout.{Slot, Known, Layout, new_slot, closed, layout_after, block_layout}
 use Rattle.code_meaning.specs.Coding.{nullable_of, test_of, null_code, element_of, element_code, write_code, of_slot, load_code, prefix_code, operator_code, is_signed, skip_code, term_code, expr_code, named_call_code, value_code, right_code, assign_code, returned_code, return_code, test_code, paths_code, if_code, stmt_code, block_code, argument_code, arguments_code, operand_code, operand_of, passed_variable, passed_code, passed_rest, number_code, address_operand, variable_operand, arguments_texts, result_target}
+use Rattle.code_meaning.specs.Fits as rule
 use Rattle.code_meaning.specs.Fits.{IsNullable, HasElements, TermHasType, IsUntouched, term_height, NumberFits, ValueFits, RightFits, TestFits, ReturnFits, StmtFits, BlockFits, CallFits, PassedFits, ArgumentFits}
 use Rattle.lower.proofs.Bodies.{value_is}
 use Rattle.lower.proofs.CallCounts.{few_arguments}
@@ -89,38 +90,34 @@ operator_piece line signed Remainder d = piece_one (operator_code line signed Re
 
 -- ---- expressions
 
-pub term_piece : (known : Known) (line : ℕ) (t : Term) (s : ExprType) (d : ℕ) → TermHasType known t s → IsUntouched t → d + term_height t < 64 → IsPiece (term_code known line t) d (suc d)
-term_piece known line (Done v) s d well_typed u h = absurd u
-term_piece known line (term.Number n signed) s d well_typed u h = push_piece n d (omega arith)
-term_piece known line (term.Named tree.True) s d well_typed u h = push_piece 1 d (omega arith)
-term_piece known line (term.Named tree.False) s d well_typed u h = push_piece 0 d (omega arith)
-term_piece known line (term.Named c) s d well_typed u h = absurd well_typed
-term_piece known line (Read x) s d well_typed u h = subst (λ c. IsPiece c d (suc d)) (sym (ap (of_slot load_code) well_typed.1)) (load_piece well_typed.0 d (omega arith))
-term_piece known line (term.Element x t) s d well_typed u h =
-    piece_append (term_code known line t) (of_slot (element_code line) (lookup x known)) d (suc d) (suc d) (term_piece known line t well_typed.0 d well_typed.2 u (omega arith))
-    (subst (λ c. IsPiece c (suc d) (suc d)) (sym (ap (of_slot (element_code line)) well_typed.3.1)) (element_piece line well_typed.3.0.ty well_typed.3.0.index d well_typed.3.2))
-term_piece known line (IsNull equal x) s d well_typed u h =
-    let slot = well_typed.0.0 in
-    subst (λ c. IsPiece c d (suc d)) (sym (ap (null_code equal) well_typed.0.1)) (null_piece equal slot.ty slot.index d well_typed.0.2 (omega arith))
-term_piece known line (Prefix LogicalNot t) s d well_typed u h = piece_append (term_code known line t) (prefix_code LogicalNot ∷ []) d (suc d) (suc d) (term_piece known line t ty.Truth d well_typed.0 u (omega arith)) (prefix_piece LogicalNot d)
-term_piece known line (Prefix Complement t) s d well_typed u h = piece_append (term_code known line t) (prefix_code Complement ∷ []) d (suc d) (suc d) (term_piece known line t ty.Word d well_typed.0 u (omega arith)) (prefix_piece Complement d)
-term_piece known line (Prefix ToWord t) s d well_typed u h = piece_append (term_code known line t) (prefix_code ToWord ∷ []) d (suc d) (suc d) (term_piece known line t well_typed.0 d well_typed.2 u (omega arith)) (prefix_piece ToWord d)
-term_piece known line (Prefix ToInt t) s d well_typed u h = piece_append (term_code known line t) (prefix_code ToInt ∷ []) d (suc d) (suc d) (term_piece known line t well_typed.0 d well_typed.2 u (omega arith)) (prefix_piece ToInt d)
-term_piece known line (And a b) s d well_typed u h =
-    let right = term_piece known line b ty.Truth d well_typed.1 u.1 (omega arith) in
-    piece_append (term_code known line a) (skip_code true (length (term_code known line b)) ∷ term_code known line b) d (suc d) (suc d) (term_piece known line a ty.Truth d well_typed.0 u.0 (omega arith)) (piece_and (term_code known line b) d right)
-term_piece known line (Or a b) s d well_typed u h =
-    let right = term_piece known line b ty.Truth d well_typed.1 u.1 (omega arith) in
-    piece_append (term_code known line a) (skip_code false (length (term_code known line b)) ∷ term_code known line b) d (suc d) (suc d) (term_piece known line a ty.Truth d well_typed.0 u.0 (omega arith)) (piece_or (term_code known line b) d right)
-term_piece known line (Binary op a b) s d well_typed u h =
+pub term_piece : (known : Known) (line : ℕ) {t : Term} {s : ExprType} (d : ℕ) → TermHasType known t s → IsUntouched t → d + term_height t < 64 → IsPiece (term_code known line t) d (suc d)
+term_piece known line d (rule.done well_typed) u h = absurd u
+term_piece known line d (rule.word {n = n} fits) u h = push_piece n d (omega arith)
+term_piece known line d (rule.int {n = n} fits) u h = push_piece n d (omega arith)
+term_piece known line d rule.true_flag u h = push_piece 1 d (omega arith)
+term_piece known line d rule.false_flag u h = push_piece 0 d (omega arith)
+term_piece known line d (rule.read there) u h = subst (λ c. IsPiece c d (suc d)) (sym (ap (of_slot load_code) there.1)) (load_piece there.0 d (omega arith))
+term_piece known line d (rule.element {x = x} {n = n} {t = t} there has index well_typed) u h =
+    piece_append (term_code known line t) (of_slot (element_code line) (lookup x known)) d (suc d) (suc d) (term_piece known line d well_typed u (omega arith))
+    (subst (λ c. IsPiece c (suc d) (suc d)) (sym (ap (of_slot (element_code line)) there)) (element_piece line n.ty n.index d has))
+term_piece known line d (rule.null_test {equal = equal} {n = n} there null) u h =
+    subst (λ c. IsPiece c d (suc d)) (sym (ap (null_code equal) there)) (null_piece equal n.ty n.index d null (omega arith))
+term_piece known line d (rule.logical_not {t = t} well_typed) u h = piece_append (term_code known line t) (prefix_code LogicalNot ∷ []) d (suc d) (suc d) (term_piece known line d well_typed u (omega arith)) (prefix_piece LogicalNot d)
+term_piece known line d (rule.complement {t = t} well_typed) u h = piece_append (term_code known line t) (prefix_code Complement ∷ []) d (suc d) (suc d) (term_piece known line d well_typed u (omega arith)) (prefix_piece Complement d)
+term_piece known line d (rule.to_word {t = t} i well_typed) u h = piece_append (term_code known line t) (prefix_code ToWord ∷ []) d (suc d) (suc d) (term_piece known line d well_typed u (omega arith)) (prefix_piece ToWord d)
+term_piece known line d (rule.to_int {t = t} i well_typed) u h = piece_append (term_code known line t) (prefix_code ToInt ∷ []) d (suc d) (suc d) (term_piece known line d well_typed u (omega arith)) (prefix_piece ToInt d)
+term_piece known line d (rule.both {a = a} {b = b} left right) u h =
+    piece_append (term_code known line a) (skip_code true (length (term_code known line b)) ∷ term_code known line b) d (suc d) (suc d) (term_piece known line d left u.0 (omega arith)) (piece_and (term_code known line b) d (term_piece known line d right u.1 (omega arith)))
+term_piece known line d (rule.either {a = a} {b = b} left right) u h =
+    piece_append (term_code known line a) (skip_code false (length (term_code known line b)) ∷ term_code known line b) d (suc d) (suc d) (term_piece known line d left u.0 (omega arith)) (piece_or (term_code known line b) d (term_piece known line d right u.1 (omega arith)))
+term_piece known line d (rule.operator {op = op} {a = a} {b = b} fits left right) u h =
     let last = operator_code line (is_signed known a) op ∷ [] in
-    let right = term_piece known line b well_typed.0 (suc d) well_typed.3 u.1 (omega arith) in
-    piece_append (term_code known line a) (term_code known line b ++ last) d (suc d) (suc d) (term_piece known line a well_typed.0 d well_typed.2 u.0 (omega arith))
-    (piece_append (term_code known line b) last (suc d) (suc (suc d)) (suc d) right (operator_piece line (is_signed known a) op d))
+    piece_append (term_code known line a) (term_code known line b ++ last) d (suc d) (suc d) (term_piece known line d left u.0 (omega arith))
+    (piece_append (term_code known line b) last (suc d) (suc (suc d)) (suc d) (term_piece known line (suc d) right u.1 (omega arith)) (operator_piece line (is_signed known a) op d))
 
 -- an expression with this number of words in front of it
 number_piece : (known : Known) (line : ℕ) (t : Term) (s : ExprType) (d : ℕ) → NumberFits known t s → d ≤ 31 → IsPiece (term_code known line t) d (suc d)
-number_piece known line t s d h few = let low = h.low in term_piece known line t s d h.ty h.untouched (omega arith)
+number_piece known line t s d h few = let low = h.low in term_piece known line d h.ty h.untouched (omega arith)
 
 -- an expression and the instruction that takes its value
 taken_piece : (known : Known) (line : ℕ) (t : Term) (s : ExprType) (last : Instr) → NumberFits known t s → IsPiece (last ∷ []) 1 0 → IsPiece (term_code known line t ++ last ∷ []) 0 0

@@ -23,9 +23,10 @@ use Rattle.code.specs.declared.instr.Instr.TheVariants as instr
 use Rattle.code.specs.declared.slots.SlotCounts.{SlotCounts}
 use Rattle.code.specs.Depth.{operand_within, within_slots, target_within}
 use Rattle.semantics.specs.Term as term
-use Rattle.semantics.specs.Term.{Term, Done, Read, IsNull, Prefix, And, Or, Binary, term_of}
+use Rattle.semantics.specs.Term.{Term, Read, term_of}
 use Rattle.code_meaning.specs.Layout.{Slot, Known, Layout, next_index, slots_after, new_slot, closed, layout_after, block_layout}
 use Rattle.code_meaning.specs.Coding.{nullable_of, test_of, null_code, element_code, write_code, of_slot, load_code, prefix_code, operator_code, is_signed, skip_code, term_code, expr_code, variable_operand, operand_of, passed_variable, passed_code, passed_rest, number_code, address_operand, arguments_texts, result_target, operand_code, named_call_code, value_code, right_code, assign_code, returned_code, return_code, test_code, paths_code, turn_code, if_code, stmt_code, block_code, argument_code, arguments_code}
+use Rattle.code_meaning.specs.Fits as rule
 use Rattle.code_meaning.specs.Fits.{IsNullable, HasElements, TermHasType, NumberFits, IndexWithin, IsLaidOut, HasRoomFor, ArgumentFits, ValueFits, RightFits, TestFits, ReturnFits, StmtFits, BlockFits, CallFits, IsReferenceKind, NameFits, ReferenceFits, FieldFits, MethodFits, PassedFits, ArrayFits, BufferFits, ResultFits, AnyReferenceFits}
 use Rattle.lower.proofs.Bodies.{value_is, buffer_type}
 use Rattle.lower.proofs.Layouts.{SizeFits, index_more, room_before, room_at_least, declared_slot, laid_after, laid_more, variable_size, block_grows, stmt_grows}
@@ -104,31 +105,27 @@ module _ (slots : SlotCounts) where
   operator_within line signed Divide = refl
   operator_within line signed Remainder = refl
 
-  term_within : (known : Known) (line : ℕ) (t : Term) (s : ExprType) → AllThere known → TermHasType known t s → AllWithin (term_code known line t)
-  term_within known line (Done v) s all h = refl
-  term_within known line (term.Number n signed) s all h = refl
-  term_within known line (term.Named tree.True) s all h = refl
-  term_within known line (term.Named tree.False) s all h = refl
-  term_within known line (term.Named c) s all h = absurd h
-  term_within known line (Read x) s all h = subst AllWithin (sym (ap (of_slot load_code) h.1)) (load_within h.0 (number_there s h.0 h.2 (all x (record { ty = s; index = h.0 }) h.1)))
-  term_within known line (term.Element x t) s all h =
-      both_within (term_code known line t) (of_slot (element_code line) (lookup x known)) (term_within known line t h.0 all h.2)
-      (subst AllWithin (sym (ap (of_slot (element_code line)) h.3.1)) (element_within line h.3.0.ty h.3.0.index h.3.2 (all x h.3.0 h.3.1)))
-  term_within known line (IsNull equal x) s all h = subst AllWithin (sym (ap (null_code equal) h.0.1)) (null_within equal h.0.0.ty h.0.0.index h.0.2 (all x h.0.0 h.0.1))
-  term_within known line (Prefix LogicalNot t) s all h = both_within (term_code known line t) (prefix_code LogicalNot ∷ []) (term_within known line t ty.Truth all h.0) refl
-  term_within known line (Prefix Complement t) s all h = both_within (term_code known line t) (prefix_code Complement ∷ []) (term_within known line t ty.Word all h.0) refl
-  term_within known line (Prefix ToWord t) s all h = both_within (term_code known line t) (prefix_code ToWord ∷ []) (term_within known line t h.0 all h.2) refl
-  term_within known line (Prefix ToInt t) s all h = both_within (term_code known line t) (prefix_code ToInt ∷ []) (term_within known line t h.0 all h.2) refl
-  term_within known line (And a b) s all h =
-      both_within (term_code known line a) (skip_code true (length (term_code known line b)) ∷ term_code known line b) (term_within known line a ty.Truth all h.0) (cons_within (skip_code true (length (term_code known line b))) (term_code known line b) refl (term_within known line b ty.Truth all h.1))
-  term_within known line (Or a b) s all h =
-      both_within (term_code known line a) (skip_code false (length (term_code known line b)) ∷ term_code known line b) (term_within known line a ty.Truth all h.0) (cons_within (skip_code false (length (term_code known line b))) (term_code known line b) refl (term_within known line b ty.Truth all h.1))
-  term_within known line (Binary op a b) s all h =
-      both_within (term_code known line a) (term_code known line b ++ operator_code line (is_signed known a) op ∷ []) (term_within known line a h.0 all h.2)
-      (both_within (term_code known line b) (operator_code line (is_signed known a) op ∷ []) (term_within known line b h.0 all h.3) (operator_within line (is_signed known a) op))
+  term_within : (known : Known) (line : ℕ) {t : Term} {s : ExprType} → AllThere known → TermHasType known t s → AllWithin (term_code known line t)
+  term_within known line all (rule.read {x = x} {s = s} h) = subst AllWithin (sym (ap (of_slot load_code) h.1)) (load_within h.0 (number_there s h.0 h.2 (all x (record { ty = s; index = h.0 }) h.1)))
+  term_within known line all (rule.element {x = x} {n = n} {t = t} at has index h) =
+      both_within (term_code known line t) (of_slot (element_code line) (lookup x known)) (term_within known line all h)
+      (subst AllWithin (sym (ap (of_slot (element_code line)) at)) (element_within line n.ty n.index has (all x n at)))
+  term_within known line all (rule.null_test {equal = equal} {x = x} {n = n} at null) = subst AllWithin (sym (ap (null_code equal) at)) (null_within equal n.ty n.index null (all x n at))
+  term_within known line all (rule.logical_not {t = t} h) = both_within (term_code known line t) (prefix_code LogicalNot ∷ []) (term_within known line all h) refl
+  term_within known line all (rule.complement {t = t} h) = both_within (term_code known line t) (prefix_code Complement ∷ []) (term_within known line all h) refl
+  term_within known line all (rule.to_word {t = t} i h) = both_within (term_code known line t) (prefix_code ToWord ∷ []) (term_within known line all h) refl
+  term_within known line all (rule.to_int {t = t} i h) = both_within (term_code known line t) (prefix_code ToInt ∷ []) (term_within known line all h) refl
+  term_within known line all (rule.both {a = a} {b = b} h k) =
+      both_within (term_code known line a) (skip_code true (length (term_code known line b)) ∷ term_code known line b) (term_within known line all h) (cons_within (skip_code true (length (term_code known line b))) (term_code known line b) refl (term_within known line all k))
+  term_within known line all (rule.either {a = a} {b = b} h k) =
+      both_within (term_code known line a) (skip_code false (length (term_code known line b)) ∷ term_code known line b) (term_within known line all h) (cons_within (skip_code false (length (term_code known line b))) (term_code known line b) refl (term_within known line all k))
+  term_within known line all (rule.operator {op = op} {a = a} {b = b} fits h k) =
+      both_within (term_code known line a) (term_code known line b ++ operator_code line (is_signed known a) op ∷ []) (term_within known line all h)
+      (both_within (term_code known line b) (operator_code line (is_signed known a) op ∷ []) (term_within known line all k) (operator_within line (is_signed known a) op))
+  term_within known line all h = refl
 
   taken_within : (known : Known) (line : ℕ) (t : Term) (s : ExprType) (last : Instr) → AllThere known → NumberFits known t s → within_slots slots last ≡ true → AllWithin (term_code known line t ++ last ∷ [])
-  taken_within known line t s last all h k = both_within (term_code known line t) (last ∷ []) (term_within known line t s all h.ty) (rw k refl)
+  taken_within known line t s last all h k = both_within (term_code known line t) (last ∷ []) (term_within known line all h.ty) (rw k refl)
 
   -- ---- statements
 
@@ -230,10 +227,10 @@ module _ (slots : SlotCounts) where
   passed_code_within : (known : Known) (line : ℕ) (e : Expr) → AllThere known → PassedFits known e → AllWithin (passed_rest known line e)
   passed_code_within known line (tree.Named tree.Null) all h = refl
   passed_code_within known line (tree.Variable x) all h = subst AllWithin (sym (ap (of_slot number_code) h.1)) (number_within h.0.ty h.0.index h.2 (all x h.0 h.1))
-  passed_code_within known line e all h = term_within known line (term_of e) Jint all h.ty
+  passed_code_within known line e all h = term_within known line all h.ty
 
   argument_within : (known : Known) (line : ℕ) (p : ParameterKind) (a : Argument) → AllThere known → ArgumentFits known p a → AllWithin (argument_code known line (p, a))
-  argument_within known line IntNumber (tree.Value e) all h = term_within known line (term_of e) Jint all h.ty
+  argument_within known line IntNumber (tree.Value e) all h = term_within known line all h.ty
   argument_within known line IntNumber a all h = absurd h
   argument_within known line Passed (tree.Value e) all h = passed_code_within known line e all h
   argument_within known line Passed a all h = absurd h
@@ -300,7 +297,7 @@ module _ (slots : SlotCounts) where
   return_within known line t all fits = taken_within known line t Jint instr.ReturnJint all fits refl
 
   test_within : (known : Known) (line : ℕ) (test : Test) → AllThere known → TestFits known test → AllWithin (test_code known line test)
-  test_within known line (TestExpr e) all fits = term_within known line (term_of e) ty.Truth all fits.ty
+  test_within known line (TestExpr e) all fits = term_within known line all fits.ty
   test_within known line (TestCall c) all fits = call_within known line destination.Test c refl all fits.fits
 
   if_within : (known : Known) (line : ℕ) (test : Test) (then' else' : List Instr) → AllThere known → TestFits known test → AllWithin then' → AllWithin else' → AllWithin (if_code known line test then' else')
@@ -312,8 +309,8 @@ module _ (slots : SlotCounts) where
 
   write_within : (l : Layout) (line : ℕ) (x : Identifier) (i e : Expr) → AllThere l.known → StmtFits l (tree.AssignElement line x i e) → AllWithin (stmt_code l (tree.AssignElement line x i e))
   write_within l line x i e all fits =
-      both_within (expr_code l.known line i) (expr_code l.known line e ++ of_slot (write_code line) (lookup x l.known)) (term_within l.known line (term_of i) fits.1.0 all fits.1.2.ty)
-      (both_within (expr_code l.known line e) (of_slot (write_code line) (lookup x l.known)) (term_within l.known line (term_of e) Jint all fits.2.ty)
+      both_within (expr_code l.known line i) (expr_code l.known line e ++ of_slot (write_code line) (lookup x l.known)) (term_within l.known line all fits.1.2.ty)
+      (both_within (expr_code l.known line e) (of_slot (write_code line) (lookup x l.known)) (term_within l.known line all fits.2.ty)
       (subst AllWithin (sym (ap (of_slot (write_code line)) fits.0.1)) (written_within line fits.0.0.ty fits.0.0.index fits.0.2 (all x fits.0.0 fits.0.1))))
 
   -- the new slot of a declaration is there
@@ -345,7 +342,7 @@ module _ (slots : SlotCounts) where
         let T = expr_code l.known line test in
         let B = block_code l body in
         let back = instr.JumpBack (length T + 1 + length B) in
-        both_within T (turn_code T B) (term_within l.known line (term_of test) ty.Truth all fits.0.ty)
+        both_within T (turn_code T B) (term_within l.known line all fits.0.ty)
         (cons_within (instr.JumpIfFalse (length B + 1)) (B ++ back ∷ []) refl (both_within B (back ∷ []) (block_within body l fits.1 laid room) refl))
     stmt_within (tree.Return line) l fits laid room all = refl
     stmt_within (tree.ReturnValue line e) l fits laid room all = return_within l.known line (term_of e) all fits

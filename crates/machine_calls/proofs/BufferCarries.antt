@@ -1,10 +1,10 @@
 -- What is carried out of buffers is what the source's call leaves.
-use Rattle.std.proofs.Common.{◌≡◌, ◌≢◌, ℕ, ℤ, ◌+◌, ◌-◌, ◌<◌, ◌≤◌, Bool, true, false, List, [], ◌++◌, length, map, Option, Some, None, refl, sym, ap, ◌∙◌, subst, arith}
+use Rattle.std.proofs.Common.{◌≡◌, ◌≢◌, ℕ, ℤ, ◌+◌, ◌-◌, ◌<◌, Bool, true, false, List, [], ◌++◌, length, map, Option, Some, None, refl, sym, ap, ◌∙◌, subst, arith}
 use Rattle.std.specs.Prelude.{nat_lt, nat_le, if◌then◌else◌, FitsSigned}
 use Rattle.std.specs.Int.{w32, cast_signed, cast_unsigned}
 use Rattle.std.specs.List.{AllByRecursion}
 use Rattle.std.specs.Option.{option_map_or}
-use Rattle.std.proofs.lemmas.Bool.{le-leb, leb-true, lt-ltb, ltb-true}
+use Rattle.std.proofs.lemmas.Bool.{le-leb, le-ltb, lt-leb, lt-ltb}
 use Rattle.std.proofs.lemmas.List.{append-nil, length-map}
 use Rattle.std.proofs.lemmas.Option.{slice_get_within}
 use Rattle.base.specs.Bytes.{Identifier, lookup}
@@ -46,6 +46,7 @@ use Rattle.code_meaning.specs.Stands.{IsBufferResult}
 use Rattle.machine_answers.specs.Answers.{Brought, IsAnswer, IsCopyAcquired, IsReleased, effect_told}
 use Rattle.machine_answers.specs.Answers as row
 use Rattle.machine_answers.specs.BufferChanges.{CanCopyBack, CanGiveUp, GivesUp, MakesCopy, MakesView, MayGiveUp, copied_back, space_back, written_back}
+use Rattle.machine_scenes.specs.Buffers as in_slot
 use Rattle.machine_scenes.specs.Buffers.{Acquired, BufferAgrees, IsCopyOf, SameAcquired, acquired_by, acquired_of, beside, copies_back, gives_up, in_use_of, nothing_acquired}
 use Rattle.machine_calls.specs.CarriedOut.{CarriesOut, CopiesStay, IsPossible, ResultAgrees, acquired_with}
 use Rattle.machine_answers.specs.Copies.{overlaid, words_at}
@@ -63,21 +64,6 @@ use Rattle.machine_scenes.proofs.Loaded.{agree_length}
 use Rattle.machine_answers.proofs.Overlays.{length_overlaid, overlaid_whole}
 use Rattle.machine_scenes.proofs.Taken.{counted_view, left_copy, left_view, taken_copy, taken_view}
 use Rattle.machine_answers.proofs.Writes.{values_agree, values_keep}
-
--- a test that doesn't hold
-not_within : (n m : ℕ) → m < n → nat_le n m ≡ false
-not_within n m over = by_test (nat_le n m) refl
-  where
-    by_test : (t : Bool) → nat_le n m ≡ t → t ≡ false
-    by_test true e = absurd (omega (arith, over, leb-true n m e))
-    by_test false e = refl
-
-not_below : (n m : ℕ) → m ≤ n → nat_lt n m ≡ false
-not_below n m over = by_test (nat_lt n m) refl
-  where
-    by_test : (t : Bool) → nat_lt n m ≡ t → t ≡ false
-    by_test true e = absurd (omega (arith, over, ltb-true n m e))
-    by_test false e = refl
 
 module _ (p : Lowered) (w : World) (store : Store) (pending : Option ℕ) (locals : LocalTable) (others : Acquired) (owner : ℕ) (shared : Shared) (s : Thread) (h : IsPossible p w store pending locals others shared s) (brought : Brought) where
   -- what the buffers of all threads take
@@ -128,7 +114,7 @@ module _ (p : Lowered) (w : World) (store : Store) (pending : Option ℕ) (local
 
     copied : (b : Buffer) (elements : List (Option OwnedNumbers)) → MakesCopy owner numbers store.elements b elements → Carries (answer.AcquiresCopy a) kind (copy_effect brought.in_use shared s it.name numbers) (record store { elements = elements }) (given.Buffer b)
     copied held.Null elements (over, same) =
-        subst (λ (e : CallEffect). Carries (answer.AcquiresCopy a) kind e (record store { elements = elements }) (given.Buffer held.Null)) (sym (copy_is false (not_within (lengths store.elements + length numbers) 65536 over)))
+        subst (λ (e : CallEffect). Carries (answer.AcquiresCopy a) kind e (record store { elements = elements }) (given.Buffer held.Null)) (sym (copy_is false (lt-leb (lengths store.elements + length numbers) 65536 over)))
         (subst (λ (l : List (Option OwnedNumbers)). Carries (answer.AcquiresCopy a) kind (gives_copy false) (record store { elements = l }) (given.Buffer held.Null)) (sym same)
         (effected (answer.AcquiresCopy a) kind store (given.Buffer held.Null) shared s (BufferResult NoBuffer) refl refl refl (keeps_same store.heap shared)
         (agrees_same p w store shared all h.store_agrees (beside others (beside (acquired_by s) nothing_acquired)) (beside_nothing others (acquired_by s))) (buffer, tt)))
@@ -160,7 +146,7 @@ module _ (p : Lowered) (w : World) (store : Store) (pending : Option ℕ) (local
     viewed : (b : Buffer) (space : Space) (views : ℕ) → MakesView a store.heap store.views b space views → Carries (answer.AcquiresView a) kind (view_effect brought.in_use shared s n) (record store { heap = space; views = views }) (given.Buffer b)
     viewed held.Null space views (over, same, as_many) =
         let same_store : record store { heap = space; views = views } ≡ store = λ i. record store { heap = same i; views = as_many i } in
-        subst (λ (e : CallEffect). Carries (answer.AcquiresView a) kind e (record store { heap = space; views = views }) (given.Buffer held.Null)) (sym (view_is false (not_below store.views 64 over)))
+        subst (λ (e : CallEffect). Carries (answer.AcquiresView a) kind e (record store { heap = space; views = views }) (given.Buffer held.Null)) (sym (view_is false (le-ltb store.views 64 over)))
         (subst (λ (x : Store). Carries (answer.AcquiresView a) kind (gives_view false) x (given.Buffer held.Null)) (sym same_store)
         (effected (answer.AcquiresView a) kind store (given.Buffer held.Null) shared s (BufferResult NoBuffer) refl refl refl (keeps_same store.heap shared)
         (agrees_same p w store shared all h.store_agrees (beside others (beside (acquired_by s) nothing_acquired)) (beside_nothing others (acquired_by s))) (buffer, tt)))
@@ -229,43 +215,33 @@ module _ (p : Lowered) (w : World) (store : Store) (pending : Option ℕ) (local
       pub elements : copied_elements (Some (Elements type c)) ≡ zs
       pub can : CanCopyBack store.elements r.object y store.heap
 
-    back_of : (y : Buffer) (c : variable.Buffer) → BufferAgrees store.heap store.elements owner y c → IsCopyOf shared.heap n c → Back y c
-    back_of held.Null NoBuffer agree is = absurd is
-    back_of held.Null (Copy m zs) agree is = absurd agree
-    back_of held.Null (View m) agree is = absurd agree
-    back_of (held.Copy key) NoBuffer agree is = absurd agree
-    back_of (held.Copy key) (View m) agree is = absurd agree
-    back_of (held.View y) NoBuffer agree is = absurd agree
-    back_of (held.View y) (Copy m zs) agree is = absurd agree
-    back_of (held.View y) (View m) agree is = absurd is
-    back_of (held.Copy key) (Copy m zs) agree is = record {
+    back_of : {y : Buffer} {c : variable.Buffer} → BufferAgrees store.heap store.elements owner y c → IsCopyOf shared.heap n c → Back y c
+    back_of in_slot.null is = absurd is
+    back_of (in_slot.view named) is = absurd is
+    back_of (in_slot.copy {zs = zs} found) is = record {
       zs = zs;
       fit = is.0;
       many = is.1;
-      space = ap (λ (o : Option OwnedNumbers). written_back store.heap r.object (option_map_or (λ (c : OwnedNumbers). c.numbers) o [])) agree;
+      space = ap (λ (o : Option OwnedNumbers). written_back store.heap r.object (option_map_or (λ (c : OwnedNumbers). c.numbers) o [])) found;
       elements = refl;
-      can = (owned owner zs, agree, omega (arith, is.1, as_long));
+      can = (owned owner zs, found, omega (arith, is.1, as_long));
     }
 
     back : copies_back r.mode ≡ true → Back r.held b
-    back e = back_of r.held b agrees (it.copy e)
+    back e = back_of agrees (it.copy e)
 
     pub can_copy_back : copies_back r.mode ≡ true → CanCopyBack store.elements r.object r.held store.heap
     can_copy_back e = (back e).can
 
     pub can_give_up : CanGiveUp r.held store.heap store.elements store.views
-    can_give_up = by_buffer r.held b agrees at
+    can_give_up = by_buffer agrees at
       where
-        by_buffer : (y : Buffer) (c : variable.Buffer) → BufferAgrees store.heap store.elements owner y c → lookup x s.variables ≡ Some (Elements type c) → CanGiveUp y store.heap store.elements store.views
-        by_buffer held.Null c agree there = tt
-        by_buffer (held.Copy key) NoBuffer agree there = absurd agree
-        by_buffer (held.Copy key) (Copy m zs) agree there = (owned owner zs, agree)
-        by_buffer (held.Copy key) (View m) agree there = absurd agree
-        by_buffer (held.View y) NoBuffer agree there = absurd agree
-        by_buffer (held.View y) (Copy m zs) agree there = absurd agree
-        by_buffer (held.View y) (View m) agree there =
-            let within = name_within store.heap shared.heap y m h.store_agrees.heap agree in
-            counted_view store.heap store.elements store.views (length shared.heap) y m next all (beside_freed others s x type (View m) there) h.store_agrees.heap.unique agree within.1 h.store_agrees.buffers
+        by_buffer : {y : Buffer} {c : variable.Buffer} → BufferAgrees store.heap store.elements owner y c → lookup x s.variables ≡ Some (Elements type c) → CanGiveUp y store.heap store.elements store.views
+        by_buffer in_slot.null there = tt
+        by_buffer (in_slot.copy {zs = zs} found) there = (owned owner zs, found)
+        by_buffer (in_slot.view {a = y} {n = m} named) there =
+            let within = name_within store.heap shared.heap y m h.store_agrees.heap named in
+            counted_view store.heap store.elements store.views (length shared.heap) y m next all (beside_freed others s x type (View m) there) h.store_agrees.heap.unique named within.1 h.store_agrees.buffers
 
     pub slot_there : r.slot < length brought.buffers.slots
     slot_there = slice_get_within brought.buffers.slots r.slot it.holds.held it.holds.there
@@ -321,14 +297,8 @@ module _ (p : Lowered) (w : World) (store : Store) (pending : Option ℕ) (local
         pub layout : layout_of space ≡ layout_of store_back.heap
         pub marking : space.marking ≡ store_back.heap.marking
 
-      given_up : (y : Buffer) (c : variable.Buffer) → BufferAgrees store.heap store.elements owner y c → lookup x s.variables ≡ Some (Elements type c) → GivesUp y store_back.heap store.elements store.views space elements views → LeavesStore
-      given_up held.Null (Copy m zs) agree there gives = absurd agree
-      given_up held.Null (View m) agree there gives = absurd agree
-      given_up (held.Copy key) NoBuffer agree there gives = absurd agree
-      given_up (held.Copy key) (View m) agree there gives = absurd agree
-      given_up (held.View y) NoBuffer agree there gives = absurd agree
-      given_up (held.View y) (Copy m zs) agree there gives = absurd agree
-      given_up held.Null NoBuffer agree there (heap, lists', as_many) =
+      given_up : {y : Buffer} {c : variable.Buffer} → BufferAgrees store.heap store.elements owner y c → lookup x s.variables ≡ Some (Elements type c) → GivesUp y store_back.heap store.elements store.views space elements views → LeavesStore
+      given_up in_slot.null there (heap, lists', as_many) =
           let same : record store { heap = space; elements = elements; views = views } ≡ store_back = λ i. record store { heap = heap i; elements = lists' i; views = as_many i } in
           record {
             stands = subst (λ (z : Store). StoreAgrees p w z shared' next) (sym same) (agrees_same p w store_back shared' all before next (lost (beside_freed others s x type NoBuffer there)));
@@ -339,20 +309,20 @@ module _ (p : Lowered) (w : World) (store : Store) (pending : Option ℕ) (local
         where
           lost : IsMoreBy NoBuffer next all → SameAcquired all next
           lost by = record { copied = omega (arith, by.copied); many = omega (arith, by.many); viewed = λ m. omega (arith, by.viewed m) }
-      given_up (held.Copy key) (Copy m zs) agree there (heap, lists', as_many, fewer) =
+      given_up (in_slot.copy {n = m} {zs = zs} found) there (heap, lists', as_many, fewer) =
           let same : record store { heap = space; elements = elements; views = views } ≡ record store_back { elements = elements } = λ i. record store { heap = heap i; elements = elements; views = as_many i } in
           record {
             stands = subst (λ (z : Store). StoreAgrees p w z shared' next) (sym same)
                 (agrees_copies p w store_back shared' all before next elements
-                (left_copy store_back.heap elements store.elements store.views (length shared'.heap) owner m zs next all (beside_freed others s x type (Copy m zs) there) (fewer (owned owner zs) agree) before.buffers));
+                (left_copy store_back.heap elements store.elements store.views (length shared'.heap) owner m zs next all (beside_freed others s x type (Copy m zs) there) (fewer (owned owner zs) found) before.buffers));
             names = λ z i e. ap (λ (t : Space). name_at t z) heap ∙ e;
             layout = ap layout_of heap;
             marking = ap (λ (t : Space). t.marking) heap;
           }
-      given_up (held.View y) (View m) agree there (heap, lists', as_many) =
+      given_up (in_slot.view {a = y} {n = m} named) there (heap, lists', as_many) =
           let count = pins_at store_back.heap y - 1 in
           let same : record store { heap = space; elements = elements; views = views } ≡ record store_back { heap = with_pins store_back.heap y count; views = store.views - 1 } = λ i. record store { heap = heap i; elements = lists' i; views = as_many i } in
-          let named_there = kept y m agree in
+          let named_there = kept y m named in
           let within = name_within store_back.heap shared'.heap y m before.heap named_there in
           record {
             stands = subst (λ (z : Store). StoreAgrees p w z shared' next) (sym same)
@@ -376,7 +346,7 @@ module _ (p : Lowered) (w : World) (store : Store) (pending : Option ℕ) (local
       freed_as : (t : Bool) → copies_back r.mode ≡ t → (shared_back t).statics ≡ shared.statics → GivesUp r.held store_back.heap store.elements store.views space elements views → Carries (answer.Releases r) GivesNothing (Leaves [] (shared_back t) (with_freed s x) NoResult) after given.Nothing
       freed_as t e statics gives =
           let first = backed t e in
-          let second = given_up (shared_back t) first.stands first.keeps.names space elements views r.held b agrees at gives in
+          let second = given_up (shared_back t) first.stands first.keeps.names space elements views agrees at gives in
           effected (answer.Releases r) GivesNothing after given.Nothing (shared_back t) (with_freed s x) NoResult refl refl statics
           (record {
             names = λ y m at'. second.names y m (first.keeps.names y m at');

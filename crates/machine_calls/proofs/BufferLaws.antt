@@ -8,7 +8,7 @@ use Rattle.jni.specs.Prototype.{ResultKind}
 use Rattle.semantics.specs.Answer.{Answer as SourceAnswer}
 use Rattle.semantics.specs.Thread.{Shared, Thread}
 use Rattle.semantics.specs.Variable as source
-use Rattle.semantics.specs.Variable.{NoBuffer, Copy, View}
+use Rattle.semantics.specs.Variable.{NoBuffer}
 use Rattle.tables.specs.Elements.{OwnedNumbers, owned}
 use Rattle.tables.specs.Keys.{value_at}
 use Rattle.tables.specs.Locals.{LocalTable}
@@ -20,6 +20,7 @@ use Rattle.machine_scenes.specs.declared.buffer.Buffer.TheVariants as held
 use Rattle.machine_scenes.specs.declared.buffer.Release.{Release}
 use Rattle.machine_answers.specs.Answers.{Brought, IsAnswer}
 use Rattle.machine_answers.specs.Answers as row
+use Rattle.machine_scenes.specs.Buffers as in_slot
 use Rattle.machine_scenes.specs.Buffers.{BufferAgrees, BuffersAgree, KeepsCopies, gives_up}
 use Rattle.machine_calls.specs.CarriedOut.{CopiesStay, IsNewCopy, buffers_after}
 use Rattle.machine_scenes.proofs.KeyLaws.{set_cases}
@@ -27,30 +28,20 @@ use Rattle.machine_scenes.proofs.KeyLaws.{set_cases}
 -- ---- one slot after another
 
 -- a key in a slot has a list
-copy_there : (space : Space) (copies : List (Option OwnedNumbers)) (k : ℕ) (b : Buffer) (c : source.Buffer) (key : ℕ) → b ≡ held.Copy key → BufferAgrees space copies k b c → (l : OwnedNumbers) × (value_at copies key ≡ Some l) × (l.owner ≡ k)
-copy_there space copies k held.Null c key is h = absurd (cc)
-copy_there space copies k (held.View a) c key is h = absurd (cc)
-copy_there space copies k (held.Copy old) NoBuffer key is h = absurd h
-copy_there space copies k (held.Copy old) (View n) key is h = absurd h
-copy_there space copies k (held.Copy old) (Copy n zs) key is h = let same : old ≡ key = cc in (owned k zs, ap (value_at copies) (sym same) ∙ h, refl)
+copy_there : {space : Space} {copies : List (Option OwnedNumbers)} {k key : ℕ} {c : source.Buffer} → BufferAgrees space copies k (held.Copy key) c → (l : OwnedNumbers) × (value_at copies key ≡ Some l) × (l.owner ≡ k)
+copy_there {k = k} (in_slot.copy {zs = zs} found) = (owned k zs, found, refl)
 
 pub own_copy : (space : Space) (copies : List (Option OwnedNumbers)) (k : ℕ) (slots : List Buffer) (buffers : List source.Buffer) (i key : ℕ) → AllZip (BufferAgrees space copies k) slots buffers → slice_get slots i ≡ Some (held.Copy key) → (l : OwnedNumbers) × (value_at copies key ≡ Some l) × (l.owner ≡ k)
 own_copy space copies k [] buffers i key h at = absurd (cc)
 own_copy space copies k (b ∷ slots) [] i key h at = absurd h
-own_copy space copies k (b ∷ slots) (c ∷ buffers) zero key h at = copy_there space copies k b c key (let same : b ≡ held.Copy key = cc in same) h.0
+own_copy space copies k (b ∷ slots) (c ∷ buffers) zero key h at = let same : b ≡ held.Copy key = cc in copy_there (subst (λ (y : Buffer). BufferAgrees space copies k y c) same h.0)
 own_copy space copies k (b ∷ slots) (c ∷ buffers) (suc i) key h at = own_copy space copies k slots buffers i key h.1 at
 
 module _ (space after : Space) (copies left : List (Option OwnedNumbers)) (k : ℕ) (names : (a n : ℕ) → name_at space a ≡ Some n → name_at after a ≡ Some n) where
-  pub buffer_stays : (b : Buffer) (c : source.Buffer) → ((key : ℕ) (l : OwnedNumbers) → b ≡ held.Copy key → value_at copies key ≡ Some l → value_at left key ≡ Some l) → BufferAgrees space copies k b c → BufferAgrees after left k b c
-  buffer_stays held.Null NoBuffer kept h = h
-  buffer_stays held.Null (Copy n zs) kept h = h
-  buffer_stays held.Null (View n) kept h = h
-  buffer_stays (held.Copy key) NoBuffer kept h = h
-  buffer_stays (held.Copy key) (Copy n zs) kept h = kept key (owned k zs) refl h
-  buffer_stays (held.Copy key) (View n) kept h = h
-  buffer_stays (held.View a) NoBuffer kept h = h
-  buffer_stays (held.View a) (Copy n zs) kept h = h
-  buffer_stays (held.View a) (View n) kept h = names a n h
+  pub buffer_stays : {b : Buffer} {c : source.Buffer} → ((key : ℕ) (l : OwnedNumbers) → b ≡ held.Copy key → value_at copies key ≡ Some l → value_at left key ≡ Some l) → BufferAgrees space copies k b c → BufferAgrees after left k b c
+  buffer_stays kept in_slot.null = in_slot.null
+  buffer_stays kept (in_slot.copy {key = key} {zs = zs} found) = in_slot.copy (kept key (owned k zs) refl found)
+  buffer_stays kept (in_slot.view {a = a} {n = n} named) = in_slot.view (names a n named)
 
   all_stay : (slots : List Buffer) (buffers : List source.Buffer) → ((i key : ℕ) (l : OwnedNumbers) → slice_get slots i ≡ Some (held.Copy key) → value_at copies key ≡ Some l → value_at left key ≡ Some l)
       → AllZip (BufferAgrees space copies k) slots buffers → AllZip (BufferAgrees after left k) slots buffers
@@ -58,7 +49,7 @@ module _ (space after : Space) (copies left : List (Option OwnedNumbers)) (k : �
   all_stay [] (c ∷ buffers) kept h = h
   all_stay (b ∷ slots) [] kept h = h
   all_stay (b ∷ slots) (c ∷ buffers) kept h =
-      (buffer_stays b c (λ key l is. kept 0 key l (ap (λ (y : Buffer). Some y) is)) h.0, all_stay slots buffers (λ i key l at. kept (suc i) key l at) h.1)
+      (buffer_stays (λ key l is. kept 0 key l (ap (λ (y : Buffer). Some y) is)) h.0, all_stay slots buffers (λ i key l at. kept (suc i) key l at) h.1)
 
   -- where the lists of all slots stay
   pub buffers_stay : (slots : List Buffer) (buffers : List source.Buffer) → BuffersAgree space copies k slots buffers → ((i key : ℕ) (l : OwnedNumbers) → slice_get slots i ≡ Some (held.Copy key) → value_at copies key ≡ Some l → value_at left key ≡ Some l)
@@ -72,7 +63,7 @@ module _ (space after : Space) (copies left : List (Option OwnedNumbers)) (k : �
   all_but (b ∷ slots) [] i kept h = absurd h
   all_but (b ∷ slots) (c ∷ buffers) zero kept h = (tt, all_stay slots buffers (λ j key l at. kept (suc j) key l (λ e. cc) at) h.1)
   all_but (b ∷ slots) (c ∷ buffers) (suc i) kept h = (
-    buffer_stays b c (λ key l is. kept 0 key l (λ e. cc) (ap (λ (y : Buffer). Some y) is)) h.0,
+    buffer_stays (λ key l is. kept 0 key l (λ e. cc) (ap (λ (y : Buffer). Some y) is)) h.0,
     all_but slots buffers i (λ j key l other at. kept (suc j) key l (λ e. other cc) at) h.1,
   )
 

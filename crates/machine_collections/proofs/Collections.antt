@@ -12,12 +12,12 @@ use Rattle.semantics.specs.Heap.{Heap}
 use Rattle.semantics.specs.Object.{ObjectValue, Number, Refers, Reference}
 use Rattle.semantics.specs.Thread as source
 use Rattle.semantics.specs.Variable as variable
-use Rattle.semantics.specs.Variable.{NoBuffer, Copy, View}
 use Rattle.tables.specs.Locals.{Frame, FrameSlots, LocalTable, by_frame, slots_by_frame}
 use Rattle.tables.specs.References.{address_at, references_in}
 use Rattle.tables.specs.Elements.{OwnedNumbers}
 use Rattle.machine_scenes.specs.declared.buffer.Buffer.{Buffer}
 use Rattle.machine_scenes.specs.declared.buffer.Buffer.TheVariants as buffer
+use Rattle.machine_scenes.specs.Buffers as in_slot
 use Rattle.machine_scenes.specs.Buffers.{BufferAgrees, IsTaken, Acquired}
 use Rattle.machine_scenes.specs.HeapAgrees.{BlockAgrees, BlocksAgree, HeapAgrees, IsTable, NamesAgree, ReferenceAgrees, SlotsAgree, ValueAgrees, ValuesAgree}
 use Rattle.machine_scenes.specs.Locals.{FrameAgrees, FramesAgree, IsKeyOf, KeysAgree}
@@ -97,16 +97,10 @@ module _ (Kept : ℕ → Type 0) (to : ℕ → ℕ) (s t : Space) (m : MovesBy K
   view_moved : (a n : ℕ) → Kept a → 0 < pins_at s a → name_at s a ≡ Some n → name_at t a ≡ Some n
   view_moved a n kept pinned h = subst (λ (x : ℕ). name_at t x ≡ Some n) (m.pinned a pinned) (name_moved a n kept h)
 
-  buffer_moved : (copies : List (Option OwnedNumbers)) (k : ℕ) (h : Buffer) (b : variable.Buffer) → ((a : ℕ) → h ≡ buffer.View a → Kept a × (0 < pins_at s a)) → BufferAgrees s copies k h b → BufferAgrees t copies k h b
-  buffer_moved copies k buffer.Null NoBuffer pinned e = e
-  buffer_moved copies k buffer.Null (Copy n zs) pinned e = absurd e
-  buffer_moved copies k buffer.Null (View n) pinned e = absurd e
-  buffer_moved copies k (buffer.Copy key) NoBuffer pinned e = absurd e
-  buffer_moved copies k (buffer.Copy key) (Copy n zs) pinned e = e
-  buffer_moved copies k (buffer.Copy key) (View n) pinned e = absurd e
-  buffer_moved copies k (buffer.View a) NoBuffer pinned e = absurd e
-  buffer_moved copies k (buffer.View a) (Copy n zs) pinned e = absurd e
-  buffer_moved copies k (buffer.View a) (View n) pinned e = let p = pinned a refl in view_moved a n p.0 p.1 e
+  buffer_moved : {copies : List (Option OwnedNumbers)} {k : ℕ} {h : Buffer} {b : variable.Buffer} → ((a : ℕ) → h ≡ buffer.View a → Kept a × (0 < pins_at s a)) → BufferAgrees s copies k h b → BufferAgrees t copies k h b
+  buffer_moved pinned in_slot.null = in_slot.null
+  buffer_moved pinned (in_slot.copy found) = in_slot.copy found
+  buffer_moved pinned (in_slot.view {a = a} {n = n} named) = let p = pinned a refl in in_slot.view (view_moved a n p.0 p.1 named)
 
   -- so a view in a slot shows the object that it did
   pub buffers_moved : (copies : List (Option OwnedNumbers)) (k : ℕ) (slots : List Buffer) (buffers : List variable.Buffer) → ((i a : ℕ) → slice_get slots i ≡ Some (buffer.View a) → Kept a × (0 < pins_at s a))
@@ -114,7 +108,7 @@ module _ (Kept : ℕ → Type 0) (to : ℕ → ℕ) (s t : Space) (m : MovesBy K
   buffers_moved copies k [] [] pinned e = e
   buffers_moved copies k [] (b ∷ buffers) pinned e = absurd e
   buffers_moved copies k (h ∷ slots) [] pinned e = absurd e
-  buffers_moved copies k (h ∷ slots) (b ∷ buffers) pinned e = (buffer_moved copies k h b (λ a is. pinned 0 a (ap (λ (x : Buffer). Some x) is)) e.0, buffers_moved copies k slots buffers (λ i a at. pinned (suc i) a at) e.1)
+  buffers_moved copies k (h ∷ slots) (b ∷ buffers) pinned e = (buffer_moved (λ a is. pinned 0 a (ap (λ (x : Buffer). Some x) is)) e.0, buffers_moved copies k slots buffers (λ i a at. pinned (suc i) a at) e.1)
 
   pub reference_moved : (o : Option ℕ) (r : Reference) → ((a : ℕ) → o ≡ Some a → Kept a) → ReferenceAgrees s o r → ReferenceAgrees t (option_map to o) r
   reference_moved None None kept h = h

@@ -9,7 +9,6 @@ use Rattle.heap.specs.Heap.{Block, Space, name_at}
 use Rattle.semantics.specs.Task.{Task}
 use Rattle.semantics.specs.Thread as source
 use Rattle.semantics.specs.Variable as variable
-use Rattle.semantics.specs.Variable.{NoBuffer, Copy, View}
 use Rattle.semantics.proofs.ReachableLemmas.{In, in_append_right, in_cases, in_head, in_tail}
 use Rattle.code_meaning.specs.Lowered.{Lowered}
 use Rattle.code_meaning.specs.Slots.{Visible}
@@ -17,6 +16,7 @@ use Rattle.tables.specs.Elements.{OwnedNumbers}
 use Rattle.machine_scenes.specs.declared.activation.Activation.{Activation}
 use Rattle.machine_scenes.specs.declared.buffer.Buffer.{Buffer}
 use Rattle.machine_scenes.specs.declared.buffer.Buffer.TheVariants as held
+use Rattle.machine_scenes.specs.Buffers as in_slot
 use Rattle.machine_scenes.specs.Buffers.{BufferAgrees, viewed_in}
 use Rattle.machine_threads.specs.InProgress.{WorkAgrees}
 use Rattle.machine_threads.specs.ThreadAgrees.{buffers_of}
@@ -30,13 +30,10 @@ pub view_at : (space : Space) (copies : List (Option OwnedNumbers)) (k : ℕ) (s
     → AllZip (BufferAgrees space copies k) slots buffers → slice_get slots i ≡ Some (held.View a) → (n : ℕ) × (name_at space a ≡ Some n) × In (viewed_in space slots) n
 view_at space copies k [] buffers i a h at = absurd (cc)
 view_at space copies k (x ∷ slots) [] i a h at = absurd h
-view_at space copies k (held.Null ∷ slots) (b ∷ buffers) zero a h at = absurd (cc)
-view_at space copies k (held.Copy key ∷ slots) (b ∷ buffers) zero a h at = absurd (cc)
-view_at space copies k (held.View x ∷ slots) (NoBuffer ∷ buffers) zero a h at = absurd h.0
-view_at space copies k (held.View x ∷ slots) (Copy n zs ∷ buffers) zero a h at = absurd h.0
-view_at space copies k (held.View x ∷ slots) (View n ∷ buffers) zero a h at =
-    let same : x ≡ a = cc in
-    (n, ap (name_at space) (sym same) ∙ h.0, subst (λ (o : Option ℕ). In (option_to_list o ++ viewed_in space slots) n) (sym h.0) (in_head n (viewed_in space slots)))
+view_at space copies k (x ∷ slots) (b ∷ buffers) zero a (in_slot.view {a = y} {n = n} named, h) at =
+    let same : y ≡ a = cc in
+    (n, ap (name_at space) (sym same) ∙ named, subst (λ (o : Option ℕ). In (option_to_list o ++ viewed_in space slots) n) (sym named) (in_head n (viewed_in space slots)))
+view_at space copies k (x ∷ slots) (b ∷ buffers) zero a h at = absurd (cc)
 view_at space copies k (held.Null ∷ slots) (b ∷ buffers) (suc i) a h at = view_at space copies k slots buffers i a h.1 at
 view_at space copies k (held.Copy key ∷ slots) (b ∷ buffers) (suc i) a h at = view_at space copies k slots buffers i a h.1 at
 view_at space copies k (held.View x ∷ slots) (b ∷ buffers) (suc i) a h at =

@@ -33,6 +33,7 @@ use Rattle.machine_scenes.specs.declared.new_object.New.{New}
 use Rattle.machine_scenes.specs.declared.new_object.New.TheVariants.{Fresh, Array, Text, Exception}
 use Rattle.machine_scenes.specs.declared.references.Held.{Held}
 use Rattle.machine_scenes.specs.declared.store.Store.{Store}
+use Rattle.machine_scenes.specs.Buffers as in_slot
 use Rattle.machine_scenes.specs.Buffers.{Acquired, AreViewed, BufferAgrees, BuffersAgree, HeldBuffers, HoldsBuffer, IsTaken, viewed_in}
 use Rattle.machine_scenes.specs.Given.{AreAddresses, HasBuffer, IsGiven, ReferenceIsGiven, StaticIsGiven, operand_at}
 use Rattle.machine_scenes.specs.HeapAgrees.{BlockAgrees, BlocksAgree, HeapAgrees, IsTable, NamesAgree, ReferenceAgrees, SlotsAgree, ValueAgrees, ValuesAgree, times}
@@ -108,22 +109,16 @@ module _ (space : Space) (o : Option Marks) where
   pub taken_noted : (copies : List (Option OwnedNumbers)) (views objects : ℕ) (all : Acquired) → IsTaken space copies views objects all → IsTaken noted_space copies views objects all
   taken_noted copies views objects all h = record { copied = h.copied; many = h.many; pins = h.pins; made = h.made; there = h.there }
 
-  pub buffer_noted : (copies : List (Option OwnedNumbers)) (owner : ℕ) (slot : Buffer) (b : buffer.Buffer) → BufferAgrees space copies owner slot b → BufferAgrees noted_space copies owner slot b
-  buffer_noted copies owner held.Null buffer.NoBuffer h = h
-  buffer_noted copies owner held.Null (buffer.Copy n zs) h = h
-  buffer_noted copies owner held.Null (buffer.View n) h = h
-  buffer_noted copies owner (held.Copy key) buffer.NoBuffer h = h
-  buffer_noted copies owner (held.Copy key) (buffer.Copy n zs) h = h
-  buffer_noted copies owner (held.Copy key) (buffer.View n) h = h
-  buffer_noted copies owner (held.View a) buffer.NoBuffer h = h
-  buffer_noted copies owner (held.View a) (buffer.Copy n zs) h = h
-  buffer_noted copies owner (held.View a) (buffer.View n) h = h
+  pub buffer_noted : {copies : List (Option OwnedNumbers)} {owner : ℕ} {slot : Buffer} {b : buffer.Buffer} → BufferAgrees space copies owner slot b → BufferAgrees noted_space copies owner slot b
+  buffer_noted in_slot.null = in_slot.null
+  buffer_noted (in_slot.copy found) = in_slot.copy found
+  buffer_noted (in_slot.view named) = in_slot.view named
 
   buffers_zip : (copies : List (Option OwnedNumbers)) (owner : ℕ) (slots : List Buffer) (bs : List buffer.Buffer) → AllZip (BufferAgrees space copies owner) slots bs → AllZip (BufferAgrees noted_space copies owner) slots bs
   buffers_zip copies owner [] [] h = h
   buffers_zip copies owner [] (b ∷ bs) h = h
   buffers_zip copies owner (s ∷ slots) [] h = h
-  buffers_zip copies owner (s ∷ slots) (b ∷ bs) h = (buffer_noted copies owner s b h.0, buffers_zip copies owner slots bs h.1)
+  buffers_zip copies owner (s ∷ slots) (b ∷ bs) h = (buffer_noted h.0, buffers_zip copies owner slots bs h.1)
 
   pub buffers_noted : (copies : List (Option OwnedNumbers)) (owner : ℕ) (slots : List Buffer) (bs : List buffer.Buffer) → BuffersAgree space copies owner slots bs → BuffersAgree noted_space copies owner slots bs
   buffers_noted copies owner slots bs h = record { agree = buffers_zip copies owner slots bs h.agree; apart = h.apart }
@@ -139,7 +134,7 @@ module _ (space : Space) (o : Option Marks) where
   are_viewed_noted slots t h = λ n. subst (λ (names : List ℕ). times n names ≤ times n (objects_viewed t.variables)) (sym (viewed_noted slots)) (h n)
 
   pub holds_buffer_noted : (buffers : HeldBuffers) (slot : ℕ) (v : Option Variable) → HoldsBuffer space buffers slot v → HoldsBuffer noted_space buffers slot v
-  holds_buffer_noted buffers slot v h = record { type = h.type; buffer = h.buffer; is = h.is; held = h.held; there = h.there; agrees = buffer_noted buffers.copies buffers.owner h.held h.buffer h.agrees }
+  holds_buffer_noted buffers slot v h = record { type = h.type; buffer = h.buffer; is = h.is; held = h.held; there = h.there; agrees = buffer_noted h.agrees }
 
   -- ---- what operands give
 

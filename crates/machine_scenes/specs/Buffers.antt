@@ -1,5 +1,5 @@
 -- What the buffers of threads take, and how those in the slots of one stand for the source's.
-use Rattle.std.specs.Prelude.{◌≡◌, ◌≢◌, ℕ, ◌+◌, ◌<◌, ◌≤◌, Bool, true, false, List, [], ◌∷◌, ◌++◌, length, slice_get, Option, Some, FitsSigned}
+use Rattle.std.specs.Prelude.{◌≡◌, ◌≢◌, ℕ, ℤ, ◌+◌, ◌<◌, ◌≤◌, Bool, true, false, List, [], ◌∷◌, ◌++◌, length, slice_get, Option, Some, FitsSigned}
 use Rattle.std.specs.Int.{w32}
 use Rattle.std.specs.Option.{option_to_list}
 use Rattle.std.specs.List.{AllZip, AllByRecursion}
@@ -73,12 +73,13 @@ pub record HeldBuffers : Type 0 where
 abbrev pub holding : List Buffer → List (Option OwnedNumbers) → ℕ → HeldBuffers
 holding slots copies owner = record { slots = slots; copies = copies; owner = owner }
 
--- a slot of the call with this owner stands for a buffer: the key of a list with its elements, or the address of its object
-abbrev pub BufferAgrees : Space → (copies : List (Option OwnedNumbers)) → (owner : ℕ) → Buffer → source.Buffer → Type 0
-BufferAgrees space copies owner held.Null NoBuffer = Unit {0}
-BufferAgrees space copies owner (held.Copy key) (Copy n zs) = value_at copies key ≡ Some (owned owner zs)
-BufferAgrees space copies owner (held.View a) (View n) = name_at space a ≡ Some n
-BufferAgrees space copies owner h b = ⊥
+-- a slot of the call with this owner stands for a buffer
+pub data BufferAgrees (space : Space) (copies : List (Option OwnedNumbers)) (owner : ℕ) : Buffer → source.Buffer → Type 0 where
+  null : BufferAgrees space copies owner held.Null NoBuffer
+  -- the key of a list with its elements
+  copy : {key n : ℕ} {zs : List ℤ} → value_at copies key ≡ Some (owned owner zs) → BufferAgrees space copies owner (held.Copy key) (Copy n zs)
+  -- the address of its object
+  view : {a n : ℕ} → name_at space a ≡ Some n → BufferAgrees space copies owner (held.View a) (View n)
 
 -- slot by slot, and no two slots have one list
 pub record BuffersAgree (space : Space) (copies : List (Option OwnedNumbers)) (owner : ℕ) (slots : List Buffer) (buffers : List source.Buffer) : Type 0 where

@@ -14,6 +14,7 @@ use Rattle.heap.specs.Heap.{Space, name_at, values_at, with_value}
 use Rattle.syntax.specs.Views.{unit_tree}
 use Rattle.heap.specs.declared.value.Value.TheVariants.{Number as Word}
 use Rattle.base.specs.declared.element.ElementType.{ElementType as ElementOfCode}
+use Rattle.base.proofs.Lists.{set_same}
 use Rattle.code.specs.declared.instr.Instr.{Instr}
 use Rattle.code.specs.declared.instr.Instr.TheVariants as instr
 use Rattle.code.specs.declared.instr.Plain.{Plain}
@@ -41,10 +42,11 @@ use Rattle.code_meaning.specs.Slots.{Visible, Slots, visible_to, Shows, elements
 use Rattle.code_meaning.specs.Stands.{StandsFor}
 use Rattle.code_meaning.specs.Does.{AtEnd, GoesOn, Loads, Stops, Works, WritesBuffer, IsReturn, trap_of}
 use Rattle.code_meaning.specs.Lowered.{Lowered}
-use Rattle.code_meaning.proofs.BufferLaws.{buffer_by_kind, buffer_stays as buffer_seen_still, set_same}
+use Rattle.code_meaning.proofs.BufferLaws.{buffer_by_kind, buffer_stays as buffer_seen_still}
 use Rattle.code_meaning.proofs.ElementWords.{convert_fits, element_words}
 use Rattle.machine_answers.specs.Answers.{WritesAt}
 use Rattle.machine_answers.specs.Copies.{word_of}
+use Rattle.machine_scenes.specs.Buffers as in_slot
 use Rattle.machine_scenes.specs.Buffers.{Acquired, AreViewed, BufferAgrees, BuffersAgree, KeepsCopies, acquired_by, beside, viewed_in}
 use Rattle.machine_scenes.specs.HeapAgrees.{ReferenceAgrees, times}
 use Rattle.machine_steps.proofs.ViewCounts.{views_stay}
@@ -66,12 +68,13 @@ use Rattle.machine_threads.specs.SlotsHold.{IsSmallCopy, slots_of, values_in}
 use Rattle.machine_steps.specs.Moved.{HasMoved}
 use Rattle.semantics.specs.declared.event.Event.{Event}
 use Rattle.semantics.specs.declared.event.Event.TheVariants as event
+use Rattle.semantics_typing.proofs.Lists.{all_get}
 use Rattle.machine_steps.specs.declared.execute.Executed.TheVariants.{Did}
 use Rattle.machine_steps.proofs.Acquisitions.{assigned_same, copied_there, store_same, viewed_there}
 use Rattle.machine_steps.proofs.Calls.{Ready, depth_behind, stands_at, stands_in}
 use Rattle.machine_steps.proofs.Changes.{is_buffer_set}
 use Rattle.machine_steps.proofs.Effects.{other_cases, possible_here}
-use Rattle.machine_steps.proofs.SlotBuffers.{all_put, all_there, buffer_held, buffer_stays, buffers_put, buffers_stay, there_is, words_are}
+use Rattle.machine_steps.proofs.SlotBuffers.{all_put, buffer_held, buffer_stays, buffers_put, buffers_stay, there_is, words_are}
 
 -- ---- a written list
 
@@ -174,7 +177,7 @@ module _ (p : Lowered) (w : World) (store : Store) (others : Acquired) (k owner 
           let it = buffer_held space store.elements owner call.slots.buffers.items r.meant.buffers slot b r.holds.buffers there in
           let same : elements_in b seen.numbers ≡ zs = cc (e) in
           ap (words_held store) (there_is call.slots.buffers.items slot it.0 it.1)
-          ∙ words_are p w store shared all shares owner it.0 b it.2
+          ∙ words_are p w store shared all shares it.2
           ∙ ap (λ (l : List ℤ). map (λ z. cast_unsigned w32 z) l) same
 
   -- a trap leaves all as it was
@@ -316,7 +319,7 @@ module _ (p : Lowered) (w : World) (store : Store) (others : Acquired) (k owner 
 
       inside : nat_lt j (length (words_held store it.0)) ≡ true
       inside =
-          ap (λ (l : List ℕ). nat_lt j (length l)) (words_are p w store shared all shares owner it.0 (seen.buffer x) it.2)
+          ap (λ (l : List ℕ). nat_lt j (length l)) (words_are p w store shared all shares it.2)
           ∙ ap (nat_lt j) (length-map (elements_in (seen.buffer x) seen.numbers) (λ z. cast_unsigned w32 z))
           ∙ lt-ltb j (length (elements_in (seen.buffer x) seen.numbers)) h.inside
 
@@ -335,24 +338,23 @@ module _ (p : Lowered) (w : World) (store : Store) (others : Acquired) (k owner 
       depth = depth_behind p classes space store.elements owner call code seen s.frames task rest r i at 0 (λ leaves. subst Leaves is leaves) (ap (λ (g : Instr). depth_after g (length call.stack)) is ∙ ap (λ (st : List ℕ). depth_after (instr.StoreBuffer element slot line) (length st)) h.operands)
 
       -- of a copy
-      copy_written : (key n : ℕ) (zs : List ℤ) → it.0 ≡ held_as.Copy key → seen.buffer x ≡ Copy n zs → Wrote (SetsElement x j z)
-      copy_written key n zs of is_copy =
+      copy_written : (key n : ℕ) (zs : List ℤ) → value_at store.elements key ≡ Some (owned owner zs) → it.0 ≡ held_as.Copy key → seen.buffer x ≡ Copy n zs → Wrote (SetsElement x j z)
+      copy_written key n zs list of is_copy =
           let new : variable.Buffer = Copy n (slice_set zs j number) in
           let vs = assign x (Elements h.type new) s.variables in
           let next : source.Thread = record s { tasks = Some rest; variables = vs } in
           let back : cast_signed w32 (cast_unsigned w32 number) ≡ number = to_z-of_z {w = w32} (convert_fits h.type z) in
           let store_is : store' ≡ record store { elements = written store.elements key j number } =
           wrote.0 ∙ ap (λ (b : HeldBuffer). with_word store b j (cast_unsigned w32 number)) of ∙ ap (λ (y : ℤ). let st : Store = record store { elements = written store.elements key j y } in st) back in
-          let list : value_at store.elements key ≡ Some (owned owner zs) = subst (λ (g : HeldBuffer). BufferAgrees space store.elements owner g (Copy n zs)) of (subst (λ (b : variable.Buffer). BufferAgrees space store.elements owner it.0 b) is_copy it.2) in
           let was : lookup x s.variables ≡ Some (Elements h.type (Copy n zs)) = variable_is ∙ ap (λ (b : variable.Buffer). Some (Elements h.type b)) is_copy in
           let copies = written store.elements key j number in
           let slot_there : slice_get call.slots.buffers.items h.slot ≡ Some (held_as.Copy key) = it.1 ∙ ap (λ (g : HeldBuffer). Some g) of in
-          let small : IsSmallCopy (Copy n zs) = all_there IsSmallCopy r.meant.buffers h.slot (Copy n zs) r.holds.small (h.there ∙ ap (λ (b : variable.Buffer). Some b) is_copy) in
+          let small : IsSmallCopy (Copy n zs) = all_get IsSmallCopy r.meant.buffers h.slot (Copy n zs) r.holds.small (h.there ∙ ap (λ (b : variable.Buffer). Some b) is_copy) in
           let buffers = slice_set r.meant.buffers h.slot new in
           let agree : BuffersAgree space copies owner call.slots.buffers.items buffers =
           subst (λ (l : List HeldBuffer). BuffersAgree space copies owner l buffers) (set_same call.slots.buffers.items h.slot (held_as.Copy key) slot_there)
           (buffers_put space space store.elements copies owner call.slots.buffers.items r.meant.buffers h.slot (held_as.Copy key) new r.holds.buffers (written_here store.elements owner key zs list j number)
-          (λ m g c other there agrees. buffer_stays space space store.elements copies owner g c (λ a name named. named) (λ key' numbers named found. written_elsewhere store.elements owner key zs list j number key' numbers (λ same_key. other (r.holds.buffers.apart m h.slot key (there ∙ ap (λ (y : HeldBuffer). Some y) named ∙ ap (λ (y : ℕ). Some (held_as.Copy y)) same_key) slot_there)) found) agrees)
+          (λ m g c other there agrees. buffer_stays (λ a name named. named) (λ key' numbers named found. written_elsewhere store.elements owner key zs list j number key' numbers (λ same_key. other (r.holds.buffers.apart m h.slot key (there ∙ ap (λ (y : HeldBuffer). Some y) named ∙ ap (λ (y : ℕ). Some (held_as.Copy y)) same_key) slot_there)) found) agrees)
           (λ m key' other there same_key. other (r.holds.buffers.apart m h.slot key (there ∙ ap (λ (y : HeldBuffer). Some y) (sym same_key)) slot_there))) in
           let shown : Shows code h.names (visible_to own shared next) (record held { buffers = buffers }) =
           subst (λ (b : variable.Buffer). Shows code h.names (visible_to own shared next) (record held { buffers = slice_set r.meant.buffers h.slot b })) (ap (with_element h.type j z) is_copy)
@@ -385,11 +387,10 @@ module _ (p : Lowered) (w : World) (store : Store) (others : Acquired) (k owner 
           })
 
       -- of a view
-      view_written : (a n : ℕ) → it.0 ≡ held_as.View a → seen.buffer x ≡ View n → Wrote (SetsElement x j z)
-      view_written a n of is_view =
+      view_written : (a n : ℕ) → name_at space a ≡ Some n → it.0 ≡ held_as.View a → seen.buffer x ≡ View n → Wrote (SetsElement x j z)
+      view_written a n named of is_view =
           let now : Shared = record shared { heap = with_value_at shared.heap n j (Number number) } in
           let next : source.Thread = with_tasks s rest in
-          let named : name_at space a ≡ Some n = subst (λ (g : HeldBuffer). BufferAgrees space store.elements owner g (View n)) of (subst (λ (b : variable.Buffer). BufferAgrees space store.elements owner it.0 b) is_view it.2) in
           let there : nat_lt j (length (words_held store (held_as.View a))) ≡ true = ap (λ (b : HeldBuffer). nat_lt j (length (words_held store b))) (sym of) ∙ inside in
           let writes : WritesAt space a j (Word (cast_unsigned w32 number)) n (Number number) =
           record { there = named; agrees = (convert_fits h.type z, refl); within = omega (arith, ltb-true j (length (words_held store (held_as.View a))) there, length-map (values_at space a) word_of) } in
@@ -413,7 +414,7 @@ module _ (p : Lowered) (w : World) (store : Store) (others : Acquired) (k owner 
                 (record {
                   keys = keys_stay space space' keeps.names call.locals call.slots.references.items r.meant.references r.meant.owners r.holds.keys;
                   fields = r.holds.fields;
-                  buffers = buffers_stay space space' store.elements store.elements owner call.slots.buffers.items r.meant.buffers r.holds.buffers (λ m g c found agrees. buffer_stays space space' store.elements store.elements owner g c keeps.names (λ key numbers g_is at_key. at_key) agrees);
+                  buffers = buffers_stay space space' store.elements store.elements owner call.slots.buffers.items r.meant.buffers r.holds.buffers (λ m g c found agrees. buffer_stays keeps.names (λ key numbers g_is at_key. at_key) agrees);
                   small = r.holds.small;
                 })
                 h.stands shown;
@@ -426,19 +427,13 @@ module _ (p : Lowered) (w : World) (store : Store) (others : Acquired) (k owner 
           })
 
       -- of either
-      buffer_written : (g : HeldBuffer) (b : variable.Buffer) → it.0 ≡ g → seen.buffer x ≡ b → BufferAgrees space store.elements owner g b → Wrote (SetsElement x j z)
-      buffer_written held_as.Null NoBuffer of of_source agrees = absurd (let none : j < length (elements_in NoBuffer seen.numbers) = subst (λ (c : variable.Buffer). j < length (elements_in c seen.numbers)) of_source h.inside in omega (arith, none))
-      buffer_written held_as.Null (Copy n zs) of of_source agrees = absurd agrees
-      buffer_written held_as.Null (View n) of of_source agrees = absurd agrees
-      buffer_written (held_as.Copy key) NoBuffer of of_source agrees = absurd agrees
-      buffer_written (held_as.Copy key) (Copy n zs) of of_source agrees = copy_written key n zs of of_source
-      buffer_written (held_as.Copy key) (View n) of of_source agrees = absurd agrees
-      buffer_written (held_as.View a) NoBuffer of of_source agrees = absurd agrees
-      buffer_written (held_as.View a) (Copy n zs) of of_source agrees = absurd agrees
-      buffer_written (held_as.View a) (View n) of of_source agrees = view_written a n of of_source
+      buffer_written : {g : HeldBuffer} {b : variable.Buffer} → BufferAgrees space store.elements owner g b → it.0 ≡ g → seen.buffer x ≡ b → Wrote (SetsElement x j z)
+      buffer_written in_slot.null of of_source = absurd (let none : j < length (elements_in NoBuffer seen.numbers) = subst (λ (c : variable.Buffer). j < length (elements_in c seen.numbers)) of_source h.inside in omega (arith, none))
+      buffer_written (in_slot.copy {key = key} {n = n} {zs = zs} found) of of_source = copy_written key n zs found of of_source
+      buffer_written (in_slot.view {a = a} {n = n} named) of of_source = view_written a n named of of_source
 
       element_written : Wrote (SetsElement x j z)
-      element_written = buffer_written it.0 (seen.buffer x) refl refl it.2
+      element_written = buffer_written it.2 refl refl
 
     -- nothing goes on
     no_work : (tasks : List Task) (h : GoesOn code r.known call.place call.stack held seen (tasks ++ rest)) (stack : List ℕ) → Works seen held (instr.StoreBuffer element slot line) stack h.path h.after → ⊥

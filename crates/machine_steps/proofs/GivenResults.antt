@@ -16,6 +16,7 @@ use Rattle.semantics.specs.Object.{Reference}
 use Rattle.semantics.specs.Thread as source
 use Rattle.semantics.specs.Value.{Value, Int, Flag}
 use Rattle.semantics.specs.Variable.{Buffer, NoBuffer, LocalRef, FieldHandle, MethodHandle, Elements}
+use Rattle.code_meaning.specs.Slots as value
 use Rattle.code_meaning.specs.Slots.{ValueHasType, word_of}
 use Rattle.code_meaning.specs.Stands.{IsBufferResult, IsStaticResult, number_type}
 use Rattle.base.specs.Element.{ElementType}
@@ -29,6 +30,7 @@ use Rattle.tables.specs.Locals.{LocalTable, AreStacked}
 use Rattle.machine_answers.specs.Answers.{GivenAgrees}
 use Rattle.machine_answers.specs.Answers as row
 use Rattle.machine_calls.specs.CarriedOut.{IsForStatic, IsFresh, ResultAgrees, acquired_with}
+use Rattle.machine_scenes.specs.Buffers as in_slot
 use Rattle.machine_scenes.specs.Buffers.{BufferAgrees, acquired_of, nothing_acquired}
 use Rattle.machine_scenes.specs.declared.buffer.Buffer.{Buffer as HeldBuffer}
 use Rattle.machine_scenes.specs.Statics.{held as held_of}
@@ -71,8 +73,8 @@ pub record IsMethodId (unit : SourceUnit) (classes : Classes) (g : Given) (c : C
   pub fills : (old : Option MethodId) → filled (MethodHandle old) c ≡ MethodHandle method
 
 pub number_given : (unit : SourceUnit) (classes : Classes) (space : Space) (kind : ResultKind) (g : Given) (c : CallResult) (of : ExprType) → GivenAgrees unit classes space kind g c → number_type kind ≡ Some of → IsNumber g c of
-number_given unit classes space kind g c of (row.int {z = z} is fits) e = record { value = Int z; gave = refl; same = ap given.Number is; well_typed = (fits, let same : Jint ≡ of = cc in sym same) }
-number_given unit classes space kind g c of (row.flag {b = b} is) e = record { value = Flag b; gave = refl; same = ap given.Number is; well_typed = let same : ty.Flag ≡ of = cc in sym same }
+number_given unit classes space kind g c of (row.int {z = z} is fits) e = record { value = Int z; gave = refl; same = ap given.Number is; well_typed = let same : Jint ≡ of = cc in subst (ValueHasType (Int z)) same (value.int fits) }
+number_given unit classes space kind g c of (row.flag {b = b} is) e = record { value = Flag b; gave = refl; same = ap given.Number is; well_typed = let same : ty.Flag ≡ of = cc in subst (ValueHasType (Flag b)) same value.flag }
 number_given unit classes space kind g c of h e = absurd (cc)
 
 pub reference_given : (unit : SourceUnit) (classes : Classes) (space : Space) (g : Given) (c : CallResult) → GivenAgrees unit classes space NewLocal g c → IsReference space g c
@@ -158,7 +160,7 @@ pub record IsBuffer (store : Store) (k : ℕ) (g : Given) (c : CallResult) : Typ
 pub buffer_given : (unit : SourceUnit) (classes : Classes) (store : Store) (k : ℕ) (access : Access) (g : Given) (c : CallResult) → ((b : Buffer) → c ≡ BufferResult b → IsSmallCopy b) → ResultAgrees unit classes store k g (GivesBuffer access) c → IsBuffer store k g c
 buffer_given unit classes store k access (given.Buffer h) (BufferResult b) small agrees = record { held = h; buffer = b; same = refl; agrees = agrees.1; fills = λ t old. refl; takes = refl; small = small b refl }
 buffer_given unit classes store k access (given.Buffer h) NullResult small agrees =
-    record { held = h; buffer = NoBuffer; same = refl; agrees = subst (λ (y : HeldBuffer). BufferAgrees store.heap store.elements k y NoBuffer) (sym agrees.1) tt; fills = λ t old. refl; takes = refl; small = tt }
+    record { held = h; buffer = NoBuffer; same = refl; agrees = subst (λ (y : HeldBuffer). BufferAgrees store.heap store.elements k y NoBuffer) (sym agrees.1) in_slot.null; fills = λ t old. refl; takes = refl; small = tt }
 buffer_given unit classes store k access (given.Buffer h) NoResult small agrees = absurd agrees.1
 buffer_given unit classes store k access (given.Buffer h) (ScalarResult v) small agrees = absurd agrees.1
 buffer_given unit classes store k access (given.Buffer h) (ReferenceResult r) small agrees = absurd agrees.1

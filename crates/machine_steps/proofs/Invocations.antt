@@ -26,7 +26,7 @@ use Rattle.semantics.specs.Term.{Done}
 use Rattle.semantics.specs.Task.{Task, Branch, Target, VariableKind, ScalarKind, ReferenceKind, FieldKind, BufferKind, Declared, Assigned, Tested, Dropped, MethodKind}
 use Rattle.semantics.specs.Thread as source
 use Rattle.semantics.specs.Thread.{Shared}
-use Rattle.semantics.specs.Value.{Value, Word, Int, Flag, Truth}
+use Rattle.semantics.specs.Value.{Value, Int, Truth}
 use Rattle.semantics.specs.Variable.{Buffer, NoBuffer, StaticReference, Variable, Variables, Scalar, LocalRef, FieldHandle, MethodHandle, Elements, LocalArray, assign}
 use Rattle.semantics.specs.World.{World}
 use Rattle.code.specs.Call.{Call}
@@ -37,6 +37,7 @@ use Rattle.code.specs.declared.instr.Target.TheVariants as destination
 use Rattle.code_meaning.specs.Layout.{Known}
 use Rattle.code_meaning.specs.Does.{GoesInto, TakesBuffer, TakesStatic, TakesTest, TakesField, TakesMethod, TakesNumber, TakesReference, TakesResult}
 use Rattle.code_meaning.specs.Lowered.{Lowered}
+use Rattle.code_meaning.specs.Slots as value
 use Rattle.code_meaning.specs.Slots.{Visible, Shows, Slots, ValueHasType, kind_of_variable, static_index, type_of_array, visible_to, word_of, OfField, OfMethod}
 use Rattle.code_meaning.specs.Stands.{IsStaticResult, StandsFor, number_type}
 use Rattle.type_rules.specs.TypeRules.{is_droppable}
@@ -52,6 +53,7 @@ use Rattle.machine_scenes.specs.StoreAgrees.{Keeps, StoreAgrees}
 use Rattle.machine_scenes.specs.Locals.{FramesAgree, IsKeyOf, KeysAgree}
 use Rattle.tables.specs.Locals.{LocalTable, AreStacked}
 use Rattle.semantics_safety.specs.Owners.{Owners, is_target, level_held}
+use Rattle.semantics_safety.proofs.NameLaws.{lookup_same, is_same}
 use Rattle.std.specs.Str.{bytes_eq}
 use Rattle.std.proofs.lemmas.Slice.Eq.{bytes_eq-Decides}
 use Rattle.machine_answers.specs.Answers.{GivenAgrees}
@@ -69,7 +71,7 @@ use Rattle.machine_calls.proofs.StaticStores.{with_same, with_static}
 use Rattle.machine_steps.specs.Received.{HasRoom, MakesLocal, Receives, buffers_with, fields_with, numbers_with, stack_with, statics_with}
 use Rattle.machine_steps.proofs.Calls.{Ready, depth_behind}
 use Rattle.machine_threads.specs.SlotsHold.{IsSmallCopy, Meant, SlotsHold, slots_of, values_in}
-use Rattle.machine_steps.proofs.Changes.{OthersOwn, lookup_same, buffer_by_kind, field_by_kind, method_by_kind, is_buffer_set, is_field_set, is_method_set, is_referred, is_set, local_by_kind, scalar_by_kind}
+use Rattle.machine_steps.proofs.Changes.{OthersOwn, buffer_by_kind, field_by_kind, method_by_kind, is_buffer_set, is_field_set, is_method_set, is_referred, is_set, local_by_kind, scalar_by_kind}
 use Rattle.machine_steps.proofs.StillShown.{shows_stay}
 use Rattle.machine_scenes.proofs.KeyLaws.{key_put, keys_left, live_there}
 use Rattle.machine_steps.proofs.MadeKeys.{made_left, made_new, room_frame}
@@ -80,10 +82,6 @@ use Rattle.machine_steps.proofs.SlotBuffers.{all_put}
 use Rattle.machine_steps.proofs.ViewCounts.{views_same, views_taken}
 use Rattle.machine_calls.proofs.BufferLaws.{buffer_put}
 use Rattle.machine_steps.proofs.GivenResults.{IsBuffer, IsField, IsGlobal, IsMethodId, IsNumber, IsReference, buffer_given, field_given, frames_result, method_given, no_number, nothing_with, number_given, other_given, plain_result, reference_given, static_given}
-
--- a variable is its own target
-same_target : (x : Identifier) → bytes_eq x x ≡ true
-same_target x = (bytes_eq-Decides x x).1 refl
 
 -- ---- the source's thread
 
@@ -183,14 +181,11 @@ nothing_named (Some (Elements type b)) k t = absurd (cc)
 nothing_named (Some (LocalArray type zs)) k t = absurd (cc)
 
 -- a `jint` is 0 where its word is
-zero_word : (v : Value) → ValueHasType v Jint → (word_of v == 0) ≡ is_zero (ScalarResult v)
-zero_word (Word n) h = absurd (let same = h.1 in cc)
-zero_word (Flag b) h = absurd (cc)
-zero_word (Truth b) h = absurd (cc)
-zero_word (Int z) h =
+zero_word : {v : Value} → ValueHasType v Jint → (word_of v == 0) ≡ is_zero (ScalarResult v)
+zero_word (value.int {z = z} h) =
     ⊎_elim
     (λ (t : ((word_of (Int z) == 0) ≡ true) × (word_of (Int z) ≡ 0)).
-    let number : z ≡ pos 0 = sym (to_z-of_z {w = w32} h.0) ∙ ap (cast_signed w32) t.1 in
+    let number : z ≡ pos 0 = sym (to_z-of_z {w = w32} h) ∙ ap (cast_signed w32) t.1 in
     t.0 ∙ sym ((Decides-int_eq z (pos 0)).1 number))
     (λ (t : ((word_of (Int z) == 0) ≡ false) × (word_of (Int z) ≡ 0 → ⊥)). t.0 ∙ sym (unequal (int_eq z (pos 0)) refl t.1))
     (eqb_tells (word_of (Int z)) 0)
@@ -324,9 +319,9 @@ module _ (p : Lowered) (w : World) (old : Space) (old_copies : List (Option Owne
   number_finishes same_statics no_word i (Declared declared x) free receives of n goes = record {
     now = next;
     tasks = rest;
-    store_agrees = with_same p w store next (beside others (taken_by (assign x (Scalar n.value) s.variables))) (plain_shares (subst IsNoBuffer (sym n.gave) tt) (assign x (Scalar n.value) s.variables) (assigned_nothing x (Scalar n.value) s.variables refl refl (free x (same_target x)))) statics same_statics;
+    store_agrees = with_same p w store next (beside others (taken_by (assign x (Scalar n.value) s.variables))) (plain_shares (subst IsNoBuffer (sym n.gave) tt) (assign x (Scalar n.value) s.variables) (assigned_nothing x (Scalar n.value) s.variables refl refl (free x (is_same x)))) statics same_statics;
     keeps = keeps;
-    views = plain_views (assign x (Scalar n.value) s.variables) receives.buffers (assigned_nothing x (Scalar n.value) s.variables refl refl (free x (same_target x)));
+    views = plain_views (assign x (Scalar n.value) s.variables) receives.buffers (assigned_nothing x (Scalar n.value) s.variables refl refl (free x (is_same x)));
     variables = assign x (Scalar n.value) s.variables;
     steps = declared_is line f args rest s left q c untold told next declared x (Scalar n.value) (ap (λ (k : VariableKind). filled (blank k (length (frames_received kind c left))) c) goes.0 ∙ ap (filled (blank ScalarKind 0)) n.gave);
     stands = fewer_stands p w.classes space store.elements k after own (put_owners (Declared declared x) own (assign x (Scalar n.value) s.variables)) next (resuming (assign x (Scalar n.value) s.variables)) (frames_received kind c left) rest (fewer_put declared x (Scalar n.value) own s.variables refl) (number_stands no_word i receives of x goes.1 n);
@@ -336,9 +331,9 @@ module _ (p : Lowered) (w : World) (old : Space) (old_copies : List (Option Owne
       record {
         now = next;
         tasks = rest;
-        store_agrees = with_same p w store next (beside others (taken_by (assign x (Scalar n.value) s.variables))) (plain_shares (subst IsNoBuffer (sym n.gave) tt) (assign x (Scalar n.value) s.variables) (assigned_nothing x (Scalar n.value) s.variables refl refl (free x (same_target x)))) statics same_statics;
+        store_agrees = with_same p w store next (beside others (taken_by (assign x (Scalar n.value) s.variables))) (plain_shares (subst IsNoBuffer (sym n.gave) tt) (assign x (Scalar n.value) s.variables) (assigned_nothing x (Scalar n.value) s.variables refl refl (free x (is_same x)))) statics same_statics;
         keeps = keeps;
-        views = plain_views (assign x (Scalar n.value) s.variables) receives.buffers (assigned_nothing x (Scalar n.value) s.variables refl refl (free x (same_target x)));
+        views = plain_views (assign x (Scalar n.value) s.variables) receives.buffers (assigned_nothing x (Scalar n.value) s.variables refl refl (free x (is_same x)));
         variables = assign x (Scalar n.value) s.variables;
         steps = assigned_is line f args rest s left q c untold told next x (Scalar old.0) (Scalar n.value) old.1 (ap (filled (Scalar old.0)) n.gave);
         stands = fewer_stands p w.classes space store.elements k after own (put_owners (Assigned x) own (assign x (Scalar n.value) s.variables)) next (resuming (assign x (Scalar n.value) s.variables)) (frames_received kind c left) rest (fewer_put ScalarKind x (Scalar n.value) own s.variables refl) (number_stands no_word i receives of x goes.1 n);
@@ -381,9 +376,9 @@ module _ (p : Lowered) (w : World) (old : Space) (old_copies : List (Option Owne
       record {
         now = next;
         tasks = rest;
-        store_agrees = with_same p w store next (beside others (taken_by (assign x (LocalRef level n.reference) s.variables))) (plain_shares plain (assign x (LocalRef level n.reference) s.variables) (assigned_nothing x (LocalRef level n.reference) s.variables refl refl (free x (same_target x)))) statics same_statics;
+        store_agrees = with_same p w store next (beside others (taken_by (assign x (LocalRef level n.reference) s.variables))) (plain_shares plain (assign x (LocalRef level n.reference) s.variables) (assigned_nothing x (LocalRef level n.reference) s.variables refl refl (free x (is_same x)))) statics same_statics;
         keeps = keeps;
-        views = plain_views (assign x (LocalRef level n.reference) s.variables) receives.buffers (assigned_nothing x (LocalRef level n.reference) s.variables refl refl (free x (same_target x)));
+        views = plain_views (assign x (LocalRef level n.reference) s.variables) receives.buffers (assigned_nothing x (LocalRef level n.reference) s.variables refl refl (free x (is_same x)));
         variables = assign x (LocalRef level n.reference) s.variables;
         steps = declared_is line f args rest s left q c untold told next declared x (LocalRef level n.reference) (ap (λ (k : VariableKind). filled (blank k level) c) goes.0 ∙ n.fills level None);
         stands = reference_stands no_word i receives x goes.1 n level counted (put_owners (Declared declared x) own (assign x (LocalRef level n.reference) s.variables)) (others_put declared x own (assign x (LocalRef level n.reference) s.variables)) (put_here declared x (LocalRef level n.reference) own s.variables) local;
@@ -394,9 +389,9 @@ module _ (p : Lowered) (w : World) (old : Space) (old_copies : List (Option Owne
       record {
         now = next;
         tasks = rest;
-        store_agrees = with_same p w store next (beside others (taken_by (assign x (LocalRef old.0 n.reference) s.variables))) (plain_shares plain (assign x (LocalRef old.0 n.reference) s.variables) (assigned_nothing x (LocalRef old.0 n.reference) s.variables refl refl (free x (same_target x)))) statics same_statics;
+        store_agrees = with_same p w store next (beside others (taken_by (assign x (LocalRef old.0 n.reference) s.variables))) (plain_shares plain (assign x (LocalRef old.0 n.reference) s.variables) (assigned_nothing x (LocalRef old.0 n.reference) s.variables refl refl (free x (is_same x)))) statics same_statics;
         keeps = keeps;
-        views = plain_views (assign x (LocalRef old.0 n.reference) s.variables) receives.buffers (assigned_nothing x (LocalRef old.0 n.reference) s.variables refl refl (free x (same_target x)));
+        views = plain_views (assign x (LocalRef old.0 n.reference) s.variables) receives.buffers (assigned_nothing x (LocalRef old.0 n.reference) s.variables refl refl (free x (is_same x)));
         variables = assign x (LocalRef old.0 n.reference) s.variables;
         steps = assigned_is line f args rest s left q c untold told next x (LocalRef old.0 old.1) (LocalRef old.0 n.reference) old.2 (n.fills old.0 old.1);
         stands = reference_stands no_word i receives x goes.1 n old.0 counted (put_owners (Assigned x) own (assign x (LocalRef old.0 n.reference) s.variables)) (others_put ReferenceKind x own (assign x (LocalRef old.0 n.reference) s.variables)) (put_here ReferenceKind x (LocalRef old.0 n.reference) own s.variables) local;
@@ -426,9 +421,9 @@ module _ (p : Lowered) (w : World) (old : Space) (old_copies : List (Option Owne
   field_finishes plain same_statics no_word i (Declared declared x) free receives n goes = record {
     now = next;
     tasks = rest;
-    store_agrees = with_same p w store next (beside others (taken_by (assign x (FieldHandle n.field) s.variables))) (plain_shares plain (assign x (FieldHandle n.field) s.variables) (assigned_nothing x (FieldHandle n.field) s.variables refl refl (free x (same_target x)))) statics same_statics;
+    store_agrees = with_same p w store next (beside others (taken_by (assign x (FieldHandle n.field) s.variables))) (plain_shares plain (assign x (FieldHandle n.field) s.variables) (assigned_nothing x (FieldHandle n.field) s.variables refl refl (free x (is_same x)))) statics same_statics;
     keeps = keeps;
-    views = plain_views (assign x (FieldHandle n.field) s.variables) receives.buffers (assigned_nothing x (FieldHandle n.field) s.variables refl refl (free x (same_target x)));
+    views = plain_views (assign x (FieldHandle n.field) s.variables) receives.buffers (assigned_nothing x (FieldHandle n.field) s.variables refl refl (free x (is_same x)));
     variables = assign x (FieldHandle n.field) s.variables;
     steps = declared_is line f args rest s left q c untold told next declared x (FieldHandle n.field) (ap (λ (k : VariableKind). filled (blank k (length (frames_received kind c left))) c) goes.0 ∙ n.fills None);
     stands = fewer_stands p w.classes space store.elements k after own (put_owners (Declared declared x) own (assign x (FieldHandle n.field) s.variables)) next (resuming (assign x (FieldHandle n.field) s.variables)) (frames_received kind c left) rest (fewer_put declared x (FieldHandle n.field) own s.variables refl) (field_stands no_word i receives x goes.1 n);
@@ -438,9 +433,9 @@ module _ (p : Lowered) (w : World) (old : Space) (old_copies : List (Option Owne
       record {
         now = next;
         tasks = rest;
-        store_agrees = with_same p w store next (beside others (taken_by (assign x (FieldHandle n.field) s.variables))) (plain_shares plain (assign x (FieldHandle n.field) s.variables) (assigned_nothing x (FieldHandle n.field) s.variables refl refl (free x (same_target x)))) statics same_statics;
+        store_agrees = with_same p w store next (beside others (taken_by (assign x (FieldHandle n.field) s.variables))) (plain_shares plain (assign x (FieldHandle n.field) s.variables) (assigned_nothing x (FieldHandle n.field) s.variables refl refl (free x (is_same x)))) statics same_statics;
         keeps = keeps;
-        views = plain_views (assign x (FieldHandle n.field) s.variables) receives.buffers (assigned_nothing x (FieldHandle n.field) s.variables refl refl (free x (same_target x)));
+        views = plain_views (assign x (FieldHandle n.field) s.variables) receives.buffers (assigned_nothing x (FieldHandle n.field) s.variables refl refl (free x (is_same x)));
         variables = assign x (FieldHandle n.field) s.variables;
         steps = assigned_is line f args rest s left q c untold told next x (FieldHandle old.0) (FieldHandle n.field) old.1 (n.fills old.0);
         stands = fewer_stands p w.classes space store.elements k after own (put_owners (Assigned x) own (assign x (FieldHandle n.field) s.variables)) next (resuming (assign x (FieldHandle n.field) s.variables)) (frames_received kind c left) rest (fewer_put FieldKind x (FieldHandle n.field) own s.variables refl) (field_stands no_word i receives x goes.1 n);
@@ -470,9 +465,9 @@ module _ (p : Lowered) (w : World) (old : Space) (old_copies : List (Option Owne
   method_finishes plain same_statics no_word i (Declared declared x) free receives n goes = record {
     now = next;
     tasks = rest;
-    store_agrees = with_same p w store next (beside others (taken_by (assign x (MethodHandle n.method) s.variables))) (plain_shares plain (assign x (MethodHandle n.method) s.variables) (assigned_nothing x (MethodHandle n.method) s.variables refl refl (free x (same_target x)))) statics same_statics;
+    store_agrees = with_same p w store next (beside others (taken_by (assign x (MethodHandle n.method) s.variables))) (plain_shares plain (assign x (MethodHandle n.method) s.variables) (assigned_nothing x (MethodHandle n.method) s.variables refl refl (free x (is_same x)))) statics same_statics;
     keeps = keeps;
-    views = plain_views (assign x (MethodHandle n.method) s.variables) receives.buffers (assigned_nothing x (MethodHandle n.method) s.variables refl refl (free x (same_target x)));
+    views = plain_views (assign x (MethodHandle n.method) s.variables) receives.buffers (assigned_nothing x (MethodHandle n.method) s.variables refl refl (free x (is_same x)));
     variables = assign x (MethodHandle n.method) s.variables;
     steps = declared_is line f args rest s left q c untold told next declared x (MethodHandle n.method) (ap (λ (k : VariableKind). filled (blank k (length (frames_received kind c left))) c) goes.0 ∙ n.fills None);
     stands = fewer_stands p w.classes space store.elements k after own (put_owners (Declared declared x) own (assign x (MethodHandle n.method) s.variables)) next (resuming (assign x (MethodHandle n.method) s.variables)) (frames_received kind c left) rest (fewer_put declared x (MethodHandle n.method) own s.variables refl) (method_stands no_word i receives x goes.1 n);
@@ -482,9 +477,9 @@ module _ (p : Lowered) (w : World) (old : Space) (old_copies : List (Option Owne
       record {
         now = next;
         tasks = rest;
-        store_agrees = with_same p w store next (beside others (taken_by (assign x (MethodHandle n.method) s.variables))) (plain_shares plain (assign x (MethodHandle n.method) s.variables) (assigned_nothing x (MethodHandle n.method) s.variables refl refl (free x (same_target x)))) statics same_statics;
+        store_agrees = with_same p w store next (beside others (taken_by (assign x (MethodHandle n.method) s.variables))) (plain_shares plain (assign x (MethodHandle n.method) s.variables) (assigned_nothing x (MethodHandle n.method) s.variables refl refl (free x (is_same x)))) statics same_statics;
         keeps = keeps;
-        views = plain_views (assign x (MethodHandle n.method) s.variables) receives.buffers (assigned_nothing x (MethodHandle n.method) s.variables refl refl (free x (same_target x)));
+        views = plain_views (assign x (MethodHandle n.method) s.variables) receives.buffers (assigned_nothing x (MethodHandle n.method) s.variables refl refl (free x (is_same x)));
         variables = assign x (MethodHandle n.method) s.variables;
         steps = assigned_is line f args rest s left q c untold told next x (MethodHandle old.0) (MethodHandle n.method) old.1 (n.fills old.0);
         stands = fewer_stands p w.classes space store.elements k after own (put_owners (Assigned x) own (assign x (MethodHandle n.method) s.variables)) next (resuming (assign x (MethodHandle n.method) s.variables)) (frames_received kind c left) rest (fewer_put MethodKind x (MethodHandle n.method) own s.variables refl) (method_stands no_word i receives x goes.1 n);
@@ -537,7 +532,7 @@ module _ (p : Lowered) (w : World) (old : Space) (old_copies : List (Option Owne
   test_finishes : SameStatics → (target : Target) → with_result function.target 0 ≡ Some 1 → Receives destination.Test kind None g carried after → IsNumber g c Jint → TakesTest code r.known call.place call.stack held (visible_to own shared s) line target rest → Ends target
   test_finishes same_statics target count receives n takes =
       let word : stack_with destination.Test g ≡ truth_word (is_zero c) ∷ [] =
-      ap (stack_with destination.Test) n.same ∙ ap (λ (b : Bool). truth_word b ∷ []) (zero_word n.value n.well_typed ∙ sym (ap is_zero n.gave)) in
+      ap (stack_with destination.Test) n.same ∙ ap (λ (b : Bool). truth_word b ∷ []) (zero_word n.well_typed ∙ sym (ap is_zero n.gave)) in
       let tasks : List Task = Branch line (Done (Truth (is_zero c))) takes.then' takes.else' ∷ rest in
       subst Ends (sym takes.is) (record {
         now = next;
@@ -586,9 +581,9 @@ module _ (p : Lowered) (w : World) (old : Space) (old_copies : List (Option Owne
   buffer_finishes same_statics no_word element i (Declared declared x) free receives t n goes = record {
     now = next;
     tasks = rest;
-    store_agrees = with_same p w store next (beside others (taken_by (assign x (Elements t n.buffer) s.variables))) (buffer_shares no_word element i receives t x goes.1 n (free x (same_target x))) statics same_statics;
+    store_agrees = with_same p w store next (beside others (taken_by (assign x (Elements t n.buffer) s.variables))) (buffer_shares no_word element i receives t x goes.1 n (free x (is_same x))) statics same_statics;
     keeps = keeps;
-    views = buffer_views no_word element i receives t x goes.1 n (free x (same_target x));
+    views = buffer_views no_word element i receives t x goes.1 n (free x (is_same x));
     variables = assign x (Elements t n.buffer) s.variables;
     steps = declared_is line f args rest s left q c untold told next declared x (Elements t n.buffer) (ap (λ (k : VariableKind). filled (blank k (length (frames_received kind c left))) c) goes.0 ∙ n.fills t NoBuffer);
     stands = fewer_stands p w.classes space store.elements k after own (put_owners (Declared declared x) own (assign x (Elements t n.buffer) s.variables)) next (resuming (assign x (Elements t n.buffer) s.variables)) (frames_received kind c left) rest (fewer_put declared x (Elements t n.buffer) own s.variables refl) (buffer_stands no_word element i receives t x goes.1 n);
@@ -598,9 +593,9 @@ module _ (p : Lowered) (w : World) (old : Space) (old_copies : List (Option Owne
       record {
         now = next;
         tasks = rest;
-        store_agrees = with_same p w store next (beside others (taken_by (assign x (Elements t n.buffer) s.variables))) (buffer_shares no_word element i receives t x goes.1 n (free x (same_target x))) statics same_statics;
+        store_agrees = with_same p w store next (beside others (taken_by (assign x (Elements t n.buffer) s.variables))) (buffer_shares no_word element i receives t x goes.1 n (free x (is_same x))) statics same_statics;
         keeps = keeps;
-        views = buffer_views no_word element i receives t x goes.1 n (free x (same_target x));
+        views = buffer_views no_word element i receives t x goes.1 n (free x (is_same x));
         variables = assign x (Elements t n.buffer) s.variables;
         steps = assigned_is line f args rest s left q c untold told next x (Elements t old.0) (Elements t n.buffer) old.1 (n.fills t old.0);
         stands = fewer_stands p w.classes space store.elements k after own (put_owners (Assigned x) own (assign x (Elements t n.buffer) s.variables)) next (resuming (assign x (Elements t n.buffer) s.variables)) (frames_received kind c left) rest (fewer_put (BufferKind t) x (Elements t n.buffer) own s.variables refl) (buffer_stands no_word element i receives t x goes.1 n);

@@ -7,14 +7,13 @@ use Rattle.semantics.specs.Task.{Task, Invoke}
 use Rattle.semantics.specs.Thread as source
 use Rattle.semantics.specs.Thread.{Shared, objects_viewed}
 use Rattle.semantics.specs.Variable as variable
-use Rattle.semantics.specs.Variable.{NoBuffer, Copy, View}
 use Rattle.code_meaning.specs.Lowered.{Lowered}
 use Rattle.code_meaning.specs.Slots.{visible_to}
 use Rattle.tables.specs.Elements.{OwnedNumbers, owned}
 use Rattle.machine_scenes.specs.declared.activation.Activation.{Activation}
 use Rattle.machine_scenes.specs.declared.buffer.Buffer.{Buffer}
-use Rattle.machine_scenes.specs.declared.buffer.Buffer.TheVariants as held
 use Rattle.semantics_safety.specs.Owners.{Owners}
+use Rattle.machine_scenes.specs.Buffers as in_slot
 use Rattle.machine_scenes.specs.Buffers.{AreViewed, BufferAgrees, KeepsCopies}
 use Rattle.machine_scenes.specs.HeapAgrees.{times}
 use Rattle.machine_scenes.specs.StoreAgrees.{Keeps}
@@ -28,22 +27,16 @@ use Rattle.machine_steps.proofs.StillShown.{shows_stay}
 module _ (p : Lowered) (classes : Classes) (owner : ℕ) (space space' : Space) (copies copies' : List (Option OwnedNumbers)) (shared shared' : Shared) (keeps : Keeps space shared space' shared') (keeps_copies : KeepsCopies owner copies copies') where
   -- ---- buffers of another call
 
-  buffer_stays : (j : ℕ) (h : Buffer) (b : variable.Buffer) → j ≢ owner → BufferAgrees space copies j h b → BufferAgrees space' copies' j h b
-  buffer_stays j held.Null NoBuffer other e = e
-  buffer_stays j held.Null (Copy n zs) other e = absurd e
-  buffer_stays j held.Null (View n) other e = absurd e
-  buffer_stays j (held.Copy key) NoBuffer other e = absurd e
-  buffer_stays j (held.Copy key) (Copy n zs) other e = keeps_copies key (owned j zs) e other
-  buffer_stays j (held.Copy key) (View n) other e = absurd e
-  buffer_stays j (held.View a) NoBuffer other e = absurd e
-  buffer_stays j (held.View a) (Copy n zs) other e = absurd e
-  buffer_stays j (held.View a) (View n) other e = keeps.names a n e
+  buffer_stays : {j : ℕ} {h : Buffer} {b : variable.Buffer} → j ≢ owner → BufferAgrees space copies j h b → BufferAgrees space' copies' j h b
+  buffer_stays other in_slot.null = in_slot.null
+  buffer_stays {j = j} other (in_slot.copy {key = key} {zs = zs} found) = in_slot.copy (keeps_copies key (owned j zs) found other)
+  buffer_stays other (in_slot.view {a = a} {n = n} named) = in_slot.view (keeps.names a n named)
 
   pub slots_stay : (j : ℕ) (slots : List Buffer) (buffers : List variable.Buffer) → j ≢ owner → AllZip (BufferAgrees space copies j) slots buffers → AllZip (BufferAgrees space' copies' j) slots buffers
   slots_stay j [] [] other e = e
   slots_stay j [] (b ∷ buffers) other e = absurd e
   slots_stay j (h ∷ slots) [] other e = absurd e
-  slots_stay j (h ∷ slots) (b ∷ buffers) other e = (buffer_stays j h b other e.0, slots_stay j slots buffers other e.1)
+  slots_stay j (h ∷ slots) (b ∷ buffers) other e = (buffer_stays other e.0, slots_stay j slots buffers other e.1)
 
   -- those that slots view are the same
   pub views_stay : (j : ℕ) (slots : List Buffer) (buffers : List variable.Buffer) (s : source.Thread) → j ≢ owner → AllZip (BufferAgrees space copies j) slots buffers → AreViewed space slots s → AreViewed space' slots s

@@ -12,6 +12,9 @@ use Rattle.code.specs.declared.instr.Instr.TheVariants as instr
 use Rattle.code.specs.declared.instr.Operand.TheVariants as operand
 use Rattle.code.specs.declared.instr.ReferenceOperand.TheVariants.{Null, Local}
 use Rattle.code_meaning.specs.Lowered.{Lowered}
+use Rattle.code_meaning.specs.Fits as rule
+use Rattle.code_meaning.specs.Fits.{TermHasType}
+use Rattle.code_meaning.specs.Slots as typed
 use Rattle.code_meaning.specs.Slots.{visible_to}
 use Rattle.code_meaning.specs.Stands.{NumberStands, ReturnStands, TasksStand}
 use Rattle.heap.specs.Heap.{Space}
@@ -28,15 +31,13 @@ use Rattle.semantics.specs.Effect.{Effect, Becomes, Calls, Sets, SetsElement, Re
 use Rattle.semantics.specs.Object.{Reference}
 use Rattle.semantics.specs.Sight.{Sight}
 use Rattle.semantics.specs.Task.{Task, SetScalar, SetElement, SetNull, MakeArray, Invoke, Print, Branch, EndIf, Loop, EndTurn, Return, ReturnValue, Impossible, Target, Operand}
-use Rattle.semantics.specs.Term as term
 use Rattle.semantics.specs.Term.{Term, Done, Read, index_of, reduce}
 use Rattle.semantics.specs.Thread.{Shared, Thread, sight_of}
-use Rattle.semantics.specs.Value.{Value, Word, Int, Flag, Truth, Outcome, Gives, Traps, Stuck}
+use Rattle.semantics.specs.Value.{Value, Int, Truth, Outcome, Gives, Traps, Stuck}
 use Rattle.semantics.specs.Variable.{StaticReference, Empty, Live, Weakly, Cleared, Deleted, Variables, as_reference, as_static}
 use Rattle.semantics_safety.specs.Owners.{Owners, IsOwn}
 use Rattle.semantics_safety.specs.Used.{task_names}
 use Rattle.tables.specs.Elements.{OwnedNumbers}
-use Rattle.type_rules.specs.ExprTypes as ty
 use Rattle.type_rules.specs.ExprTypes.{Jint, Ref}
 
 -- ---- which tasks return
@@ -111,25 +112,21 @@ module _ (p : Lowered) (classes : Classes) (space : Space) (copies : List (Optio
   AreOwn names = AllByRecursion (λ x. IsOwn own x (lookup x s.variables)) names
 
   -- a number, which is the topmost word
-  by_number : (line : ℕ) (t : Term) (c : CallResult) → NumberStands code r.known call.place call.stack line Jint t (instr.ReturnJint ∷ []) → with_value (sight_of shared s) line (λ v. Returns (ScalarResult v)) (ReturnValue line) t ≡ Returns c → Agrees c
-  by_number line (Done (Int z)) c (under_way, there) is =
+  by_number : (line : ℕ) (t : Term) (c : CallResult) → TermHasType r.known t Jint → NumberStands code r.known call.place call.stack line Jint t (instr.ReturnJint ∷ []) → with_value (sight_of shared s) line (λ v. Returns (ScalarResult v)) (ReturnValue line) t ≡ Returns c → Agrees c
+  by_number line t c (rule.done (typed.int {z = z} fits)) (under_way, there) is =
       let same : i ≡ instr.ReturnJint = cc (at, there.0) in
       let gives : ScalarResult (Int z) ≡ c = cc (is) in
       subst (λ (j : Instr). ReturnAgrees space (given_by j call) c) (sym same)
-      (subst (ReturnAgrees space (value.Number (top_of call.stack))) gives (ap top_of under_way.operands, under_way.ty.0))
-  by_number line (Done (Word n)) c (under_way, at_code) is = absurd (let e : Jint ≡ ty.Word = under_way.ty.1 in cc)
-  by_number line (Done (Flag b)) c (under_way, at_code) is = absurd (let e : Jint ≡ ty.Flag = under_way.ty in cc)
-  by_number line (Done (Truth b)) c (under_way, at_code) is = absurd (let e : Jint ≡ ty.Truth = under_way.ty in cc)
-  by_number line t c h is = no_result (with_value (sight_of shared s) line (λ v. Returns (ScalarResult v)) (ReturnValue line) t) c (stays_line line {A = Term} (λ u. Becomes (ReturnValue line u ∷ [])) (reduce (sight_of shared s) t) (λ u. tt)) is
+      (subst (ReturnAgrees space (value.Number (top_of call.stack))) gives (ap top_of under_way.operands, fits))
+  by_number line t c well_typed h is = no_result (with_value (sight_of shared s) line (λ v. Returns (ScalarResult v)) (ReturnValue line) t) c (stays_line line {A = Term} (λ u. Becomes (ReturnValue line u ∷ [])) (reduce (sight_of shared s) t) (λ u. tt)) is
 
   -- a `jint` variable is worked out first
-  by_term : (line : ℕ) (t : Term) (c : CallResult) → NumberStands code r.known call.place call.stack line Jint t (instr.ReturnJint ∷ []) → return_effect (sight_of shared s) line t ≡ Returns c → Agrees c
-  by_term line (term.Named tree.Null) c h is = absurd (h.0.ty)
-  by_term line (Read x) c h is =
-      let shown = r.shows.each x (record { ty = Jint; index = h.0.ty.0 }) h.0.ty.1 in
+  by_term : (line : ℕ) (t : Term) (c : CallResult) → TermHasType r.known t Jint → NumberStands code r.known call.place call.stack line Jint t (instr.ReturnJint ∷ []) → return_effect (sight_of shared s) line t ≡ Returns c → Agrees c
+  by_term line t c (rule.read {x = x} there) h is =
+      let shown = r.shows.each x (record { ty = Jint; index = there.0 }) there.1 in
       let named : Becomes (ReturnValue line (Done shown.value) ∷ []) ≡ Returns c = sym (ap (λ (o : Outcome Value). returned_name line o ((visible_to own shared s).sight.reference x)) shown.is) ∙ is in
       no_result (Becomes (ReturnValue line (Done shown.value) ∷ [])) c tt named
-  by_term line t c h is = by_number line t c h is
+  by_term line t c well_typed h is = by_number line t c well_typed h is
 
   -- a local reference, where it is the variable's own
   by_name : (line : ℕ) (x : Identifier) (n : ℕ) (c : CallResult) → lookup x r.known ≡ Some (record { ty = Ref; index = n }) → slice_get code.instrs call.place ≡ Some (instr.ReturnReference (Local n)) → AreOwn (x ∷ []) → return_effect (sight_of shared s) line (Read x) ≡ Returns c → Agrees c
@@ -145,7 +142,7 @@ module _ (p : Lowered) (classes : Classes) (space : Space) (copies : List (Optio
       (address_there space call.locals call.slots.references.items r.meant.references r.meant.owners n shown.reference r.holds.keys shown.there (λ m object. has m (shown.there ∙ ap (λ (q : Reference). Some q) object))))
 
   by_value : (line : ℕ) (t : Term) (c : CallResult) → ReturnStands code r.known call.place call.stack line t → AreOwn (task_names (ReturnValue line t)) → return_effect (sight_of shared s) line t ≡ Returns c → Agrees c
-  by_value line t c (inl h) owned is = by_term line t c h is
+  by_value line t c (inl h) owned is = by_term line t c h.0.ty h is
   by_value line t c (inr (inl (null, there))) owned is =
       let same : i ≡ instr.ReturnReference Null = cc (at, there) in
       let named : Returns (ReferenceResult None) ≡ Returns c = sym (ap (return_effect (sight_of shared s) line) null) ∙ is in

@@ -1,24 +1,27 @@
 -- Buffers in slots, once one of them or what they show has changed.
-use Rattle.std.proofs.Common.{◌≡◌, ◌≢◌, ◌⊎◌, inl, inr, ℕ, zero, suc, ℤ, ◌<◌, ◌≤◌, ◌^◌, List, [], ◌∷◌, length, map, replicate, Option, Some, refl, sym, ap, ◌∙◌, subst, arith}
+use Rattle.std.proofs.Common.{◌≡◌, ◌≢◌, ◌⊎◌, inl, inr, ℕ, zero, suc, ℤ, ◌<◌, ◌≤◌, ◌^◌, List, [], ◌∷◌, length, map, replicate, Option, Some, refl, sym, ap, ◌∙◌, arith}
 use Rattle.std.specs.Prelude.{slice_get, slice_set, unwrap_or, FitsSigned}
 use Rattle.std.specs.Int.{w32, cast_unsigned}
 use Rattle.std.specs.List.{AllByRecursion, AllZip}
 use Rattle.std.specs.Option.{option_map_or}
 use Rattle.std.proofs.lemmas.List.{length-map}
 use Rattle.std.proofs.lemmas.Option.{slice_get_within}
+use Rattle.std.proofs.lemmas.Slice.Zip.{AllZip-long}
 use Rattle.heap.specs.Heap.{Space, name_at, values_at}
 use Rattle.heap.specs.declared.value.Value.{Value}
 use Rattle.heap.specs.declared.value.Value.TheVariants.{Number as Word, Null, Block as Address}
 use Rattle.semantics.specs.Heap.{number_in, numbers_of, values_of}
 use Rattle.semantics.specs.Object.{ObjectValue, Number, Refers}
 use Rattle.semantics.specs.Thread.{Shared}
-use Rattle.semantics.specs.Variable.{Buffer, NoBuffer, Copy, View}
+use Rattle.semantics.specs.Variable.{Buffer, NoBuffer}
 use Rattle.semantics.specs.World.{World}
+use Rattle.semantics_typing.proofs.Lists.{all_get, zip_at}
 use Rattle.tables.specs.Elements.{OwnedNumbers, owned}
 use Rattle.tables.specs.Keys.{value_at}
 use Rattle.code_meaning.specs.Lowered.{Lowered}
 use Rattle.code_meaning.specs.Slots.{elements_in, is_no_buffer}
 use Rattle.machine_answers.specs.Answers.{AreWordsOf}
+use Rattle.machine_scenes.specs.Buffers as in_slot
 use Rattle.machine_scenes.specs.Buffers.{Acquired, BufferAgrees, BuffersAgree}
 use Rattle.machine_answers.specs.Copies.{word_of, words_at}
 use Rattle.machine_scenes.specs.HeapAgrees.{ValueAgrees, ValuesAgree}
@@ -52,25 +55,6 @@ module _ {A B : Type 0} (P Q : A → B → Type 0) where
   zip_put (x ∷ xs) (y ∷ ys) zero a b h q stay = (q, zip_all xs ys h.1 (λ j u v at. stay (suc j) u v (λ e. cc) at))
   zip_put (x ∷ xs) (y ∷ ys) (suc i) a b h q stay = (stay 0 x y (λ e. cc) refl h.0, zip_put xs ys i a b h.1 q (λ j u v other at. stay (suc j) u v (λ e. other (omega (arith, e))) at))
 
-zip_length : {A B : Type 0} (P : A → B → Type 0) (xs : List A) (ys : List B) → AllZip P xs ys → length ys ≡ length xs
-zip_length P [] [] h = refl
-zip_length P [] (y ∷ ys) h = absurd h
-zip_length P (x ∷ xs) [] h = absurd h
-zip_length P (x ∷ xs) (y ∷ ys) h = ap suc (zip_length P xs ys h.1)
-
--- what is at the place of the second list is at that of the first
-zip_there : {A B : Type 0} (P : A → B → Type 0) (xs : List A) (ys : List B) (i : ℕ) (y : B) → AllZip P xs ys → slice_get ys i ≡ Some y → (x : A) × (slice_get xs i ≡ Some x) × P x y
-zip_there P [] [] i y h at = absurd (cc (at))
-zip_there P [] (v ∷ ys) i y h at = absurd h
-zip_there P (x ∷ xs) [] i y h at = absurd h
-zip_there P (x ∷ xs) (v ∷ ys) zero y h at = (x, refl, let same : v ≡ y = cc (at) in subst (P x) same h.0)
-zip_there P (x ∷ xs) (v ∷ ys) (suc i) y h at = zip_there P xs ys i y h.1 at
-
-pub all_there : {A : Type 0} (P : A → Type 0) (xs : List A) (i : ℕ) (x : A) → AllByRecursion P xs → slice_get xs i ≡ Some x → P x
-all_there P [] i x h at = absurd (cc (at))
-all_there P (y ∷ xs) zero x h at = let same : y ≡ x = cc (at) in subst P same h.0
-all_there P (y ∷ xs) (suc i) x h at = all_there P xs i x h.1 at
-
 pub all_put : {A : Type 0} (P : A → Type 0) (xs : List A) (i : ℕ) (x : A) → AllByRecursion P xs → P x → AllByRecursion P (slice_set xs i x)
 all_put P [] i x h p = tt
 all_put P (y ∷ xs) zero x h p = (p, h.1)
@@ -79,12 +63,12 @@ all_put P (y ∷ xs) (suc i) x h p = (h.0, all_put P xs i x h.1 p)
 -- ---- slots
 
 pub buffers_count : (space : Space) (copies : List (Option OwnedNumbers)) (k : ℕ) (slots : List HeldBuffer) (buffers : List Buffer) → BuffersAgree space copies k slots buffers → length buffers ≡ length slots
-buffers_count space copies k slots buffers h = zip_length (BufferAgrees space copies k) slots buffers h.agree
+buffers_count space copies k slots buffers h = AllZip-long (BufferAgrees space copies k) slots buffers h.agree
 
 -- the slot of a buffer
 pub buffer_held : (space : Space) (copies : List (Option OwnedNumbers)) (k : ℕ) (slots : List HeldBuffer) (buffers : List Buffer) (i : ℕ) (b : Buffer) → BuffersAgree space copies k slots buffers → slice_get buffers i ≡ Some b
     → (h : HeldBuffer) × (slice_get slots i ≡ Some h) × BufferAgrees space copies k h b
-buffer_held space copies k slots buffers i b h at = zip_there (BufferAgrees space copies k) slots buffers i b h.agree at
+buffer_held space copies k slots buffers i b h at = zip_at (BufferAgrees space copies k) slots buffers i b h.agree at
 
 -- what is in it
 pub there_is : (slots : List HeldBuffer) (i : ℕ) (h : HeldBuffer) → slice_get slots i ≡ Some h → buffer_there slots i ≡ h
@@ -111,26 +95,20 @@ pub buffers_stay : (space space' : Space) (copies copies' : List (Option OwnedNu
 buffers_stay space space' copies copies' k slots buffers old stay = record { agree = zip_all (BufferAgrees space copies k) (BufferAgrees space' copies' k) slots buffers old.agree stay; apart = old.apart }
 
 -- a buffer stands for what it did where its object stays where it is, and its list as it was
-pub buffer_stays : (space space' : Space) (copies copies' : List (Option OwnedNumbers)) (k : ℕ) (g : HeldBuffer) (c : Buffer) → ((a n : ℕ) → name_at space a ≡ Some n → name_at space' a ≡ Some n) → ((key : ℕ) (numbers : OwnedNumbers) → g ≡ held.Copy key → value_at copies key ≡ Some numbers → value_at copies' key ≡ Some numbers)
+pub buffer_stays : {space space' : Space} {copies copies' : List (Option OwnedNumbers)} {k : ℕ} {g : HeldBuffer} {c : Buffer} → ((a n : ℕ) → name_at space a ≡ Some n → name_at space' a ≡ Some n) → ((key : ℕ) (numbers : OwnedNumbers) → g ≡ held.Copy key → value_at copies key ≡ Some numbers → value_at copies' key ≡ Some numbers)
     → BufferAgrees space copies k g c → BufferAgrees space' copies' k g c
-buffer_stays space space' copies copies' k held.Null NoBuffer names lists h = tt
-buffer_stays space space' copies copies' k held.Null (Copy n zs) names lists h = h
-buffer_stays space space' copies copies' k held.Null (View n) names lists h = h
-buffer_stays space space' copies copies' k (held.Copy key) NoBuffer names lists h = h
-buffer_stays space space' copies copies' k (held.Copy key) (Copy n zs) names lists h = lists key (owned k zs) refl h
-buffer_stays space space' copies copies' k (held.Copy key) (View n) names lists h = h
-buffer_stays space space' copies copies' k (held.View a) NoBuffer names lists h = h
-buffer_stays space space' copies copies' k (held.View a) (Copy n zs) names lists h = h
-buffer_stays space space' copies copies' k (held.View a) (View n) names lists h = names a n h
+buffer_stays names lists in_slot.null = in_slot.null
+buffer_stays {k = k} names lists (in_slot.copy {key = key} {zs = zs} found) = in_slot.copy (lists key (owned k zs) refl found)
+buffer_stays names lists (in_slot.view {a = a} {n = n} named) = in_slot.view (names a n named)
 
 -- NULL in a slot
 pub buffers_nulled : (space : Space) (copies : List (Option OwnedNumbers)) (k : ℕ) (slots : List HeldBuffer) (buffers : List Buffer) (i : ℕ) → BuffersAgree space copies k slots buffers → BuffersAgree space copies k (slice_set slots i held.Null) (slice_set buffers i NoBuffer)
-buffers_nulled space copies k slots buffers i h = buffers_put space space copies copies k slots buffers i held.Null NoBuffer h tt (λ j g c other at agrees. agrees) (λ j key other at e. cc)
+buffers_nulled space copies k slots buffers i h = buffers_put space space copies copies k slots buffers i held.Null NoBuffer h in_slot.null (λ j g c other at agrees. agrees) (λ j key other at e. cc)
 
 -- no buffer at all
 no_zips : (space : Space) (copies : List (Option OwnedNumbers)) (k n : ℕ) → AllZip (BufferAgrees space copies k) (replicate n held.Null) (replicate n NoBuffer)
 no_zips space copies k zero = tt
-no_zips space copies k (suc n) = (tt, no_zips space copies k n)
+no_zips space copies k (suc n) = (in_slot.null, no_zips space copies k n)
 
 none_copied : (n i key : ℕ) → slice_get (replicate n held.Null) i ≡ Some (held.Copy key) → ⊥
 none_copied zero i key at = cc
@@ -145,34 +123,24 @@ none_small zero = tt
 none_small (suc n) = (tt, none_small n)
 
 -- a buffer is NULL where the source's is
-null_same : (space : Space) (copies : List (Option OwnedNumbers)) (k : ℕ) (h : HeldBuffer) (b : Buffer) → BufferAgrees space copies k h b → is_null_buffer h ≡ is_no_buffer b
-null_same space copies k held.Null NoBuffer h = refl
-null_same space copies k held.Null (Copy n zs) h = absurd h
-null_same space copies k held.Null (View n) h = absurd h
-null_same space copies k (held.Copy key) NoBuffer h = absurd h
-null_same space copies k (held.Copy key) (Copy n zs) h = refl
-null_same space copies k (held.Copy key) (View n) h = absurd h
-null_same space copies k (held.View a) NoBuffer h = absurd h
-null_same space copies k (held.View a) (Copy n zs) h = absurd h
-null_same space copies k (held.View a) (View n) h = refl
+null_same : {space : Space} {copies : List (Option OwnedNumbers)} {k : ℕ} {h : HeldBuffer} {b : Buffer} → BufferAgrees space copies k h b → is_null_buffer h ≡ is_no_buffer b
+null_same in_slot.null = refl
+null_same h = refl
 
 pub null_buffer : (space : Space) (copies : List (Option OwnedNumbers)) (k : ℕ) (slots : List HeldBuffer) (buffers : List Buffer) (i : ℕ) (b : Buffer) → BuffersAgree space copies k slots buffers → slice_get buffers i ≡ Some b → is_null_buffer (buffer_there slots i) ≡ is_no_buffer b
 null_buffer space copies k slots buffers i b h at =
     let it = buffer_held space copies k slots buffers i b h at in
-    ap is_null_buffer (there_is slots i it.0 it.1) ∙ null_same space copies k it.0 b it.2
+    ap is_null_buffer (there_is slots i it.0 it.1) ∙ null_same it.2
 
 -- a view is of a block
-of_block : (space : Space) (copies : List (Option OwnedNumbers)) (k : ℕ) (h : HeldBuffer) (b : Buffer) → BufferAgrees space copies k h b → IsOfBlock space h
-of_block space copies k held.Null b h = tt
-of_block space copies k (held.Copy key) b h = tt
-of_block space copies k (held.View a) NoBuffer h = absurd h
-of_block space copies k (held.View a) (Copy n zs) h = absurd h
-of_block space copies k (held.View a) (View n) h = is_address space a n h
+of_block : (space : Space) {copies : List (Option OwnedNumbers)} {k : ℕ} {h : HeldBuffer} {b : Buffer} → BufferAgrees space copies k h b → IsOfBlock space h
+of_block space (in_slot.view {a = a} {n = n} named) = is_address space a n named
+of_block space h = tt
 
 all_of_blocks : (space : Space) (copies : List (Option OwnedNumbers)) (k : ℕ) (slots : List HeldBuffer) (buffers : List Buffer) (i : ℕ) → AllZip (BufferAgrees space copies k) slots buffers → IsOfBlock space (buffer_there slots i)
 all_of_blocks space copies k [] buffers i h = tt
 all_of_blocks space copies k (g ∷ slots) [] i h = absurd h
-all_of_blocks space copies k (g ∷ slots) (b ∷ buffers) zero h = of_block space copies k g b h.0
+all_of_blocks space copies k (g ∷ slots) (b ∷ buffers) zero h = of_block space h.0
 all_of_blocks space copies k (g ∷ slots) (b ∷ buffers) (suc i) h = all_of_blocks space copies k slots buffers i h.1
 
 pub slot_of_block : (space : Space) (copies : List (Option OwnedNumbers)) (k : ℕ) (slots : List HeldBuffer) (buffers : List Buffer) (i : ℕ) → BuffersAgree space copies k slots buffers → IsOfBlock space (buffer_there slots i)
@@ -208,32 +176,20 @@ module _ (p : Lowered) (w : World) (store : Store) (shared : Shared) (all : Acqu
       omega (arith, few_values store.heap a h.laid_out few, count, length-map (values_of shared.heap n) number_in)
 
   -- what a buffer in a slot holds are its elements
-  pub words_are : (k : ℕ) (g : HeldBuffer) (b : Buffer) → BufferAgrees store.heap store.elements k g b → words_held store g ≡ map (λ z. cast_unsigned w32 z) (elements_in b (numbers_of shared.heap))
-  words_are k held.Null NoBuffer agrees = refl
-  words_are k held.Null (Copy n zs) agrees = absurd agrees
-  words_are k held.Null (View n) agrees = absurd agrees
-  words_are k (held.Copy key) NoBuffer agrees = absurd agrees
-  words_are k (held.Copy key) (Copy n zs) agrees = ap (λ (o : Option OwnedNumbers). map (λ z. cast_unsigned w32 z) (option_map_or (λ (c : OwnedNumbers). c.numbers) o [])) agrees
-  words_are k (held.Copy key) (View n) agrees = absurd agrees
-  words_are k (held.View a) NoBuffer agrees = absurd agrees
-  words_are k (held.View a) (Copy n zs) agrees = absurd agrees
-  words_are k (held.View a) (View n) agrees = (words_there a n agrees).same
+  pub words_are : {k : ℕ} {g : HeldBuffer} {b : Buffer} → BufferAgrees store.heap store.elements k g b → words_held store g ≡ map (λ z. cast_unsigned w32 z) (elements_in b (numbers_of shared.heap))
+  words_are in_slot.null = refl
+  words_are (in_slot.copy found) = ap (λ (o : Option OwnedNumbers). map (λ z. cast_unsigned w32 z) (option_map_or (λ (c : OwnedNumbers). c.numbers) o [])) found
+  words_are (in_slot.view {a = a} {n = n} named) = (words_there a n named).same
 
-  fit_one : (k : ℕ) (g : HeldBuffer) (b : Buffer) (i : ℕ) (z : ℤ) → store.heap.cells ≤ 1048576 → BufferAgrees store.heap store.elements k g b → IsSmallCopy b → slice_get (elements_in b (numbers_of shared.heap)) i ≡ Some z → (i < 2 ^ 31) × FitsSigned w32 z
-  fit_one k held.Null NoBuffer i z few agrees small at = absurd (cc (at))
-  fit_one k held.Null (Copy n zs) i z few agrees small at = absurd agrees
-  fit_one k held.Null (View n) i z few agrees small at = absurd agrees
-  fit_one k (held.Copy key) NoBuffer i z few agrees small at = absurd agrees
-  fit_one k (held.Copy key) (Copy n zs) i z few agrees small at = (omega (arith, slice_get_within zs i z at, small.0), all_there (FitsSigned w32) zs i z small.1 at)
-  fit_one k (held.Copy key) (View n) i z few agrees small at = absurd agrees
-  fit_one k (held.View a) NoBuffer i z few agrees small at = absurd agrees
-  fit_one k (held.View a) (Copy n zs) i z few agrees small at = absurd agrees
-  fit_one k (held.View a) (View n) i z few agrees small at =
-      (omega (arith, slice_get_within (numbers_of shared.heap n) i z at, few_numbers a n few agrees), all_there (FitsSigned w32) (numbers_of shared.heap n) i z (words_there a n agrees).fit at)
+  fit_one : {k : ℕ} {g : HeldBuffer} {b : Buffer} (i : ℕ) (z : ℤ) → store.heap.cells ≤ 1048576 → BufferAgrees store.heap store.elements k g b → IsSmallCopy b → slice_get (elements_in b (numbers_of shared.heap)) i ≡ Some z → (i < 2 ^ 31) × FitsSigned w32 z
+  fit_one i z few in_slot.null small at = absurd (cc (at))
+  fit_one i z few (in_slot.copy {zs = zs} found) small at = (omega (arith, slice_get_within zs i z at, small.0), all_get (FitsSigned w32) zs i z small.1 at)
+  fit_one i z few (in_slot.view {a = a} {n = n} named) small at =
+      (omega (arith, slice_get_within (numbers_of shared.heap n) i z at, few_numbers a n few named), all_get (FitsSigned w32) (numbers_of shared.heap n) i z (words_there a n named).fit at)
 
   -- the elements of buffers in slots fit
   pub elements_fit : (k : ℕ) (slots : List HeldBuffer) (buffers : List Buffer) → store.heap.cells ≤ 1048576 → BuffersAgree store.heap store.elements k slots buffers → AllByRecursion IsSmallCopy buffers
       → (slot i : ℕ) (b : Buffer) (z : ℤ) → slice_get buffers slot ≡ Some b → slice_get (elements_in b (numbers_of shared.heap)) i ≡ Some z → (i < 2 ^ 31) × FitsSigned w32 z
   elements_fit k slots buffers few agrees small slot i b z at found =
       let it = buffer_held store.heap store.elements k slots buffers slot b agrees at in
-      fit_one k it.0 b i z few it.2 (all_there IsSmallCopy buffers slot b small at) found
+      fit_one i z few it.2 (all_get IsSmallCopy buffers slot b small at) found

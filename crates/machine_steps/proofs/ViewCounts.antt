@@ -9,7 +9,7 @@ use Rattle.heap.specs.Heap.{Space, name_at}
 use Rattle.semantics.specs.CallEffects.{freed, with_freed}
 use Rattle.semantics.specs.Thread.{Thread, objects_viewed}
 use Rattle.semantics.specs.Variable as source
-use Rattle.semantics.specs.Variable.{Variables, Elements, NoBuffer, Copy, View, assign, change, viewed}
+use Rattle.semantics.specs.Variable.{Variables, Elements, NoBuffer, assign, change, viewed}
 use Rattle.semantics_safety.specs.StepSafe.{HoldsNoBuffer}
 use Rattle.code.specs.declared.instr.NullableVariable.{NullableVariable}
 use Rattle.code.specs.declared.instr.NullableVariable.TheVariants as nullable
@@ -17,6 +17,7 @@ use Rattle.machine_steps.specs.Variables.{nulled_buffers}
 use Rattle.tables.specs.Elements.{OwnedNumbers}
 use Rattle.machine_scenes.specs.declared.buffer.Buffer.{Buffer}
 use Rattle.machine_scenes.specs.declared.buffer.Buffer.TheVariants as held
+use Rattle.machine_scenes.specs.Buffers as in_slot
 use Rattle.machine_scenes.specs.Buffers.{Acquired, AreViewed, BufferAgrees, acquired_of, nothing_acquired, viewed_in}
 use Rattle.machine_scenes.specs.HeapAgrees.{times}
 use Rattle.machine_scenes.proofs.HeldSums.{beside_freed, times_append}
@@ -29,26 +30,18 @@ pub viewed_stays : (space space' : Space) (copies : List (Option OwnedNumbers)) 
     → AllZip (BufferAgrees space copies k) slots buffers → viewed_in space' slots ≡ viewed_in space slots
 viewed_stays space space' copies k [] buffers names h = refl
 viewed_stays space space' copies k (x ∷ slots) [] names h = absurd h
-viewed_stays space space' copies k (held.Null ∷ slots) (b ∷ buffers) names h = viewed_stays space space' copies k slots buffers names h.1
-viewed_stays space space' copies k (held.Copy key ∷ slots) (b ∷ buffers) names h = viewed_stays space space' copies k slots buffers names h.1
-viewed_stays space space' copies k (held.View a ∷ slots) (NoBuffer ∷ buffers) names h = absurd h.0
-viewed_stays space space' copies k (held.View a ∷ slots) (Copy n zs ∷ buffers) names h = absurd h.0
-viewed_stays space space' copies k (held.View a ∷ slots) (View n ∷ buffers) names h =
-    ap (λ (o : Option ℕ). option_to_list o ++ viewed_in space' slots) (names a n h.0 ∙ sym h.0)
-    ∙ ap (λ (l : List ℕ). option_to_list (name_at space a) ++ l) (viewed_stays space space' copies k slots buffers names h.1)
+viewed_stays space space' copies k (x ∷ slots) (b ∷ buffers) names (in_slot.null, h) = viewed_stays space space' copies k slots buffers names h
+viewed_stays space space' copies k (x ∷ slots) (b ∷ buffers) names (in_slot.copy found, h) = viewed_stays space space' copies k slots buffers names h
+viewed_stays space space' copies k (x ∷ slots) (b ∷ buffers) names (in_slot.view {a = a} {n = n} named, h) =
+    ap (λ (o : Option ℕ). option_to_list o ++ viewed_in space' slots) (names a n named ∙ sym named)
+    ∙ ap (λ (l : List ℕ). option_to_list (name_at space a) ++ l) (viewed_stays space space' copies k slots buffers names h)
 
 -- a slot counts as the buffer that it stands for
-slot_counts : (space : Space) (copies : List (Option OwnedNumbers)) (k : ℕ) (h : Buffer) (b : source.Buffer) (slots : List Buffer) (n : ℕ) → BufferAgrees space copies k h b → times n (viewed_in space (h ∷ slots)) ≡ times n (acquired_of b).viewed + times n (viewed_in space slots)
-slot_counts space copies k held.Null NoBuffer slots n e = omega arith
-slot_counts space copies k held.Null (Copy m zs) slots n e = absurd e
-slot_counts space copies k held.Null (View m) slots n e = absurd e
-slot_counts space copies k (held.Copy key) NoBuffer slots n e = absurd e
-slot_counts space copies k (held.Copy key) (Copy m zs) slots n e = omega arith
-slot_counts space copies k (held.Copy key) (View m) slots n e = absurd e
-slot_counts space copies k (held.View a) NoBuffer slots n e = absurd e
-slot_counts space copies k (held.View a) (Copy m zs) slots n e = absurd e
-slot_counts space copies k (held.View a) (View m) slots n e =
-    times_append n (option_to_list (name_at space a)) (viewed_in space slots) ∙ ap (λ (o : Option ℕ). times n (option_to_list o) + times n (viewed_in space slots)) e
+slot_counts : (space : Space) {copies : List (Option OwnedNumbers)} {k : ℕ} {h : Buffer} {b : source.Buffer} (slots : List Buffer) (n : ℕ) → BufferAgrees space copies k h b → times n (viewed_in space (h ∷ slots)) ≡ times n (acquired_of b).viewed + times n (viewed_in space slots)
+slot_counts space slots n in_slot.null = omega arith
+slot_counts space slots n (in_slot.copy found) = omega arith
+slot_counts space slots n (in_slot.view {a = a} named) =
+    times_append n (option_to_list (name_at space a)) (viewed_in space slots) ∙ ap (λ (o : Option ℕ). times n (option_to_list o) + times n (viewed_in space slots)) named
 
 -- so what they view changes by what was in one and what is in it
 pub slot_put : (space : Space) (copies : List (Option OwnedNumbers)) (k : ℕ) (slots : List Buffer) (buffers : List source.Buffer) (i : ℕ) (b : source.Buffer) (h : Buffer) (c : source.Buffer) (n : ℕ)
@@ -59,13 +52,13 @@ slot_put space copies k [] (x ∷ buffers) i b h c n agree at new = absurd agree
 slot_put space copies k (x ∷ slots) [] i b h c n agree at new = absurd agree
 slot_put space copies k (x ∷ slots) (y ∷ buffers) zero b h c n agree at new =
     let same : y ≡ b = cc in
-    let was = slot_counts space copies k x y slots n agree.0 in
-    let now = slot_counts space copies k h c slots n new in
+    let was = slot_counts space slots n agree.0 in
+    let now = slot_counts space slots n new in
     let first : times n (acquired_of y).viewed ≡ times n (acquired_of b).viewed = ap (λ (z : source.Buffer). times n (acquired_of z).viewed) same in
     omega (arith, was, now, first)
 slot_put space copies k (x ∷ slots) (y ∷ buffers) (suc i) b h c n agree at new =
-    let was = slot_counts space copies k x y slots n agree.0 in
-    let now = slot_counts space copies k x y (slice_set slots i h) n agree.0 in
+    let was = slot_counts space slots n agree.0 in
+    let now = slot_counts space (slice_set slots i h) n agree.0 in
     let rest = slot_put space copies k slots buffers i b h c n agree.1 at new in
     omega (arith, was, now, rest)
 
@@ -78,7 +71,7 @@ more_viewed space (held.View a) slots n = omega (arith, times_append n (option_t
 -- whatever was in a slot, they view at most what is in it now beside what they did
 slot_taken : (space : Space) (copies : List (Option OwnedNumbers)) (k : ℕ) (slots : List Buffer) (i : ℕ) (h : Buffer) (c : source.Buffer) (n : ℕ) → BufferAgrees space copies k h c → times n (viewed_in space (slice_set slots i h)) ≤ times n (viewed_in space slots) + times n (acquired_of c).viewed
 slot_taken space copies k [] i h c n new = omega arith
-slot_taken space copies k (x ∷ slots) zero h c n new = omega (arith, slot_counts space copies k h c slots n new, more_viewed space x slots n)
+slot_taken space copies k (x ∷ slots) zero h c n new = omega (arith, slot_counts space slots n new, more_viewed space x slots n)
 slot_taken space copies k (held.Null ∷ slots) (suc i) h c n new = slot_taken space copies k slots i h c n new
 slot_taken space copies k (held.Copy key ∷ slots) (suc i) h c n new = slot_taken space copies k slots i h c n new
 slot_taken space copies k (held.View a ∷ slots) (suc i) h c n new =
@@ -114,7 +107,7 @@ pub views_freed : (space : Space) (copies : List (Option OwnedNumbers)) (k : ℕ
     → AllZip (BufferAgrees space copies k) slots buffers → slice_get buffers i ≡ Some b → lookup x s.variables ≡ Some (Elements t b) → next.variables ≡ change x freed s.variables
     → AreViewed space slots s → AreViewed space (slice_set slots i held.Null) next
 views_freed space copies k slots buffers i x t b s next agree at there is views = λ n.
-    let slot = slot_put space copies k slots buffers i b held.Null NoBuffer n agree at tt in
+    let slot = slot_put space copies k slots buffers i b held.Null NoBuffer n agree at in_slot.null in
     let variables = (beside_freed nothing_acquired s x t b there).viewed n in
     let next_views : times n (objects_viewed next.variables) ≡ times n (objects_viewed (with_freed s x).variables) = ap (λ (vs : Variables). times n (taken_by vs).viewed) is in
     omega (arith, slot, variables, next_views, times_append n (objects_viewed (with_freed s x).variables) [], views n)
