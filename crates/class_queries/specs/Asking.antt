@@ -4,7 +4,8 @@ use Rattle.std.specs.Str.{bytes_eq}
 use Rattle.base.specs.Options.{some_passes}
 use Rattle.syntax.specs.Parts.{own_call}
 use Rattle.syntax.specs.Tree.{Call, Stmt}
-use Rattle.jni.specs.JniFunction.{GetStaticMethodID, prototype}
+use Rattle.jni.specs.declared.function.JniFunction.TheVariants.{GetStaticMethodID}
+use Rattle.jni.specs.JniFunction.{prototype}
 
 -- a call of GetStaticMethodID
 abbrev pub is_asking : Call → Bool

@@ -2,7 +2,8 @@
 use Rattle.std.specs.Prelude.{ℕ, Bool, false, not, ◌==◌}
 use Rattle.class_rules.specs.BuiltIns.{class_class, string_class, number_array}
 use Rattle.class_rules.specs.Class.{Classes, class_kind, is_plain, is_object_array}
-use Rattle.jni.specs.Prototype.{ParameterKind, ClassObject, AnyArray, ObjectArray, StringObject, NumberArray}
+use Rattle.jni.specs.declared.kinds.ParameterKind.{ParameterKind}
+use Rattle.jni.specs.declared.kinds.ParameterKind.TheVariants.{ClassObject, AnyArray, ObjectArray, StringObject, NumberArray}
 
 -- an object of this class is of another kind than the parameter
 abbrev pub class_misfits : Classes → ParameterKind → (class : ℕ) → Bool

@@ -1,7 +1,7 @@
 //! Arguments and parameters.
 
 ghost use Rattle.std.specs.Prelude.{◌≡◌, map};
-ghost use Rattle.syntax.specs.Views.{parameter_tree, parameter_type_tree};
+ghost use Rattle.syntax.specs.Views.{parameter_tree};
 ghost use Rattle.semantics.specs.Load.{fit_parameters, fits_parameter};
 ghost use Rattle.world_values.specs.Views.{object_value_view};
 
@@ -26,7 +26,7 @@ pub fn arguments_fit(parameters: &[Parameter], arguments: &[ObjectValue]) -> boo
 
 /// Whether an argument is of the kind of a parameter.
 fn fits(kind: ParameterType, argument: ObjectValue) -> bool
-    ensures { result ≡ fits_parameter (parameter_type_tree kind) (object_value_view argument) }
+    ensures { result ≡ fits_parameter kind (object_value_view argument) }
 {
     match (kind, argument) {
         (ParameterType::Jint, ObjectValue::Number(_)) => true,

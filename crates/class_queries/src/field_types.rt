@@ -1,7 +1,6 @@
 //! What fields and statics can hold.
 
 ghost use Rattle.std.specs.Prelude.{◌≡◌};
-ghost use Rattle.base.specs.Element.{element_value};
 ghost use Rattle.classes.specs.Views.{field_type_view};
 ghost use Rattle.semantics.specs.Heap.{holds_number, holds_reference};
 
@@ -10,7 +9,7 @@ use jni::is_same_element;
 
 /// Whether a field of this type holds such numbers.
 pub fn holds_number(element: ElementType, field_type: FieldType) -> bool
-    ensures { result ≡ holds_number (element_value element) (field_type_view field_type) }
+    ensures { result ≡ holds_number element (field_type_view field_type) }
 {
     match field_type {
         FieldType::Number(numbers) => is_same_element(element, numbers),

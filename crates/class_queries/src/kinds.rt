@@ -2,7 +2,6 @@
 
 ghost use Rattle.std.specs.Prelude.{◌≡◌};
 ghost use Rattle.class_queries.specs.Kinds.{class_misfits};
-ghost use Rattle.jni.specs.Table.{parameter_value};
 
 use class_rules::ClassId;
 use classes::built_ins::{CLASS, STRING, number_array};
@@ -12,7 +11,7 @@ use jni::ParameterKind;
 
 /// Whether an object of this class is of another kind than the parameter.
 pub fn class_misfits(classes: &ClassTable, parameter: ParameterKind, class: ClassId) -> bool
-    ensures { result ≡ class_misfits classes.now (parameter_value parameter) class.number }
+    ensures { result ≡ class_misfits classes.now parameter class.number }
 {
     match parameter {
         ParameterKind::ClassObject => class != CLASS,

@@ -9,7 +9,7 @@ ghost use Rattle.class_rules.specs.Mangling.{is_class_name, is_unmangled, unesca
 ghost use Rattle.semantics.specs.Activation.{class_of_function};
 ghost use Rattle.semantics.specs.Method.{find_method, is_method_of, method_signature, parameter_signature, reference_signature, result_signature};
 ghost use Rattle.syntax.specs.Parts.{functions_of};
-ghost use Rattle.syntax.specs.Views.{function_tree, parameter_type_tree, reference_tree, result_tree, unit_tree};
+ghost use Rattle.syntax.specs.Views.{function_tree, unit_tree};
 
 use class_rules::mangling::is_mangled;
 use class_rules::{ClassId, unmangling_inverts_mangling};
@@ -97,7 +97,7 @@ fn is_unmangled(name: &[u8], class: &[u8], method: &[u8]) -> bool
 // ---- signatures
 
 fn reference_signature(kind: ReferenceType) -> &'static [u8]
-    ensures { result.now ≡ reference_signature (reference_tree kind) }
+    ensures { result.now ≡ reference_signature kind }
 {
     match kind {
         ReferenceType::Object | ReferenceType::Array => b"Ljava/lang/Object;",
@@ -113,7 +113,7 @@ fn reference_signature(kind: ReferenceType) -> &'static [u8]
 }
 
 fn parameter_signature(kind: ParameterType) -> &'static [u8]
-    ensures { result.now ≡ parameter_signature (parameter_type_tree kind) }
+    ensures { result.now ≡ parameter_signature kind }
 {
     match kind {
         ParameterType::Jint => b"I",
@@ -122,7 +122,7 @@ fn parameter_signature(kind: ParameterType) -> &'static [u8]
 }
 
 fn result_signature(kind: ResultType) -> &'static [u8]
-    ensures { result.now ≡ result_signature (result_tree kind) }
+    ensures { result.now ≡ result_signature kind }
 {
     match kind {
         ResultType::Void => b"V",

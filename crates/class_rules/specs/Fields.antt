@@ -4,7 +4,7 @@ use Rattle.std.specs.Option.{option_map_or}
 use Rattle.std.specs.List.{enumerate_from}
 use Rattle.std.specs.Str.{bytes_eq}
 use Rattle.base.specs.Bytes.{Identifier}
-use Rattle.base.specs.Element.{JInt, JShort, JByte, JChar}
+use Rattle.base.specs.declared.element.ElementType.TheVariants.{Int as JInt, Short as JShort, Byte as JByte, Char as JChar}
 use Rattle.class_rules.specs.Class.{Field, FieldType, NumberField, ReferenceField, ClassKind, Plain, Class, Classes, class_at, class_kind, class_name, ancestry}
 
 -- a field or static, by the class that declares it

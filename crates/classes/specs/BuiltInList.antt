@@ -11,7 +11,6 @@ use Rattle.class_rules.specs.Class.{Field, Plain, ArrayOfNumbers, Class, Classes
 use Rattle.class_rules.specs.BuiltIns.{array_class, number_array_classes, object_array_class}
 use Rattle.class_rules.specs.Mangling.{is_class_name}
 use Rattle.classes.specs.Tables.{names_differ, has_few_fields, declares_once}
-use Rattle.base.specs.Element.{element_value}
 use Rattle.classes.specs.Views.{field_type_view}
 
 abbrev pub listed_field : BuiltInField → Field
@@ -22,7 +21,7 @@ listed_class b = record { name = b.name.now; superclass = number_of b.superclass
 
 -- a class of arrays of numbers, by its name and the type of the numbers
 abbrev pub listed_number_array : Bor (List ℕ) × ElementType → Class
-listed_number_array (name, element) = array_class name.now (ArrayOfNumbers (element_value element))
+listed_number_array (name, element) = array_class name.now (ArrayOfNumbers element)
 
 -- the array classes of these, of which the first has this number
 abbrev pub array_classes : Classes → Classes

@@ -2,7 +2,7 @@
 use Rattle.std.specs.Prelude.{◌≡◌, ℕ, Bool, List, [], Option, None, Some, Result, Ok, Err, unwrap_or, position, slice_get, if◌then◌else◌}
 use Rattle.std.specs.Option.{option_map_or}
 use Rattle.base.specs.Bytes.{Identifier}
-use Rattle.base.specs.Element.{JInt}
+use Rattle.base.specs.declared.element.ElementType.TheVariants.{Int as JInt}
 use Rattle.classes.specs.declared.class.FieldHandle.{FieldHandle}
 use Rattle.classes.specs.declared.fields.FieldId.{FieldId as IdInMemory}
 use Rattle.classes.specs.declared.fault.FieldError.{FieldError}

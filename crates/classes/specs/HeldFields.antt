@@ -1,14 +1,13 @@
 -- The fields that lie in memory, as fields of the definitions.
 use Rattle.std.specs.Prelude.{ℕ, List, map}
 use Rattle.std.specs.Global.{Vec}
-use Rattle.base.specs.Element.{element_value}
 use Rattle.classes.specs.declared.class.FieldType.{FieldType as FieldTypeInMemory}
 use Rattle.classes.specs.declared.class.FieldType.TheVariants as type
 use Rattle.classes.specs.declared.class.Field.{Field as FieldInMemory}
 use Rattle.class_rules.specs.Class.{FieldType, NumberField, ReferenceField, Field}
 
 abbrev pub field_type_view : FieldTypeInMemory → FieldType
-field_type_view (type.Number t) = NumberField (element_value t)
+field_type_view (type.Number t) = NumberField t
 field_type_view (type.Reference c) = ReferenceField c.number
 
 abbrev pub field_view : FieldInMemory → Field

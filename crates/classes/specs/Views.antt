@@ -1,6 +1,5 @@
 -- The classes that lie in memory, as classes of the definitions.
 pub use Rattle.classes.specs.HeldFields.{field_type_view, field_view}
-use Rattle.base.specs.Element.{element_value}
 use Rattle.std.specs.Prelude.{ℕ, List, map}
 use Rattle.std.specs.Global.{Vec}
 use Rattle.classes.specs.declared.class.ClassKind.{ClassKind as KindInMemory}
@@ -11,7 +10,7 @@ use Rattle.class_rules.specs.Class.{ClassKind, Plain, ArrayOfNumbers, ArrayOfObj
 
 abbrev pub kind_view : KindInMemory → ClassKind
 kind_view kind.Plain = Plain
-kind_view (kind.ArrayOfNumbers t) = ArrayOfNumbers (element_value t)
+kind_view (kind.ArrayOfNumbers t) = ArrayOfNumbers t
 kind_view (kind.ArrayOfObjects c) = ArrayOfObjects c.number
 
 -- a class, by its name and what is kept of it

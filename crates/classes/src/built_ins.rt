@@ -7,7 +7,6 @@ ghost use Rattle.class_rules.specs.BuiltIns.{array_class, built_ins, number_arra
 ghost use Rattle.classes.specs.BuiltInList.{listed_field, listed_class, listed_number_array, array_classes, listed_classes, is_class_list};
 ghost use Rattle.classes.specs.Tables.{names_differ, field_names_differ, declares_once};
 ghost use Rattle.class_rules.specs.Class.{class_named};
-ghost use Rattle.base.specs.Element.{element_value};
 ghost use Rattle.classes.specs.Views.{kind_view};
 
 use crate::class::{ClassKind, ElementType, Entry, FieldType};
@@ -211,7 +210,7 @@ pub fn is_after_built_ins(class: ClassId, methods: bool) -> bool
 
 /// The class of arrays of such numbers.
 pub fn number_array(element: ElementType) -> ClassId
-    ensures { result.number ≡ number_array (element_value element) }
+    ensures { result.number ≡ number_array element }
 {
     match element {
         ElementType::Byte => ClassId { number: 20 },

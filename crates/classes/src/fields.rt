@@ -9,7 +9,6 @@ ghost use Rattle.class_rules.specs.ClassIds.{number_of};
 ghost use Rattle.class_rules.specs.Class.{NumberField, ReferenceField, class_named, class_kind, is_plain};
 ghost use Rattle.classes.specs.FieldViews.{field_id_view, declared_as, find_as};
 ghost use Rattle.class_rules.specs.Fields.{signature, type_of_signature, own_statics};
-ghost use Rattle.base.specs.Element.{element_value};
 ghost use Rattle.classes.specs.Views.{field_type_view};
 
 use crate::class::{ElementType, Field, FieldType};
@@ -79,7 +78,7 @@ fn reference_to(class: Option<ClassId>) -> Option<FieldType>
 
 /// Whether the text is the signature of numbers of this type.
 fn is_number_signature(element: ElementType, text: &[u8]) -> bool
-    ensures { (classes : _) → result ≡ bytes_eq (signature classes (NumberField (element_value element))) text.now }
+    ensures { (classes : _) → result ≡ bytes_eq (signature classes (NumberField element)) text.now }
 {
     let letter: &[u8] = match element {
         ElementType::Int => b"I",

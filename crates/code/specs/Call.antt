@@ -1,9 +1,10 @@
 -- Calls as instructions have them.
 use Rattle.std.specs.Prelude.{◌≡◌, ℕ, Bool, true, false, not, ◌||◌, List, map}
 use Rattle.std.specs.List.{list_all, list_any}
-use Rattle.jni.specs.JniFunction.{JniFunction, prototype}
-use Rattle.jni.specs.Prototype.{ParameterKind, Nullable, LocalVariable}
-use Rattle.jni.specs.Table.{function_value, result_value}
+use Rattle.jni.specs.declared.function.JniFunction.{JniFunction}
+use Rattle.jni.specs.JniFunction.{prototype}
+use Rattle.jni.specs.declared.kinds.ParameterKind.{ParameterKind}
+use Rattle.jni.specs.declared.kinds.ParameterKind.TheVariants.{Nullable, LocalVariable}
 use Rattle.code.specs.declared.instr.Call.{Call as InMemory}
 use Rattle.code.specs.declared.instr.Operand.{Operand}
 use Rattle.code.specs.declared.instr.Operand.TheVariants.{Static}
@@ -23,7 +24,7 @@ abbrev pub call_view : InMemory → Call
 call_view c = record {
   line = c.line;
   target = c.target;
-  function = function_value c.function;
+  function = c.function;
   operands = c.operands.items;
   texts = map (λ text. text.items) c.texts.items;
 }
@@ -45,5 +46,5 @@ asks parameters operands = not (list_all takes_any parameters) || list_any is_st
 
 -- a call in memory has what the table says of its function
 pub record IsPrepared (c : InMemory) : Type 0 where
-  pub result : result_value c.result ≡ (prototype (function_value c.function)).result
-  pub asked : c.asks ≡ asks (prototype (function_value c.function)).parameters c.operands.items
+  pub result : c.result ≡ (prototype c.function).result
+  pub asked : c.asks ≡ asks (prototype c.function).parameters c.operands.items

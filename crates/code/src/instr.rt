@@ -2,7 +2,6 @@
 
 ghost use Rattle.std.specs.Prelude.{◌≡◌, IfOk, map};
 ghost use Rattle.std.specs.List.{list_all, list_any};
-ghost use Rattle.jni.specs.Table.{function_value, parameter_value};
 ghost use Rattle.code.specs.Call.{call_view, is_static, takes_any, IsPrepared};
 
 pub use base::ElementType;
@@ -161,7 +160,7 @@ pub struct Call {
 
 /// Whether a parameter takes each local reference, and NULL.
 fn takes_any(parameter: ParameterKind) -> bool
-    ensures { result ≡ takes_any (parameter_value parameter) }
+    ensures { result ≡ takes_any parameter }
 {
     matches!(
         parameter,
@@ -178,7 +177,7 @@ fn is_static(operand: Operand) -> bool
 
 /// Whether all parameters do.
 fn all_take_any(parameters: &[ParameterKind]) -> bool
-    ensures { result ≡ list_all takes_any (map parameter_value parameters.now) }
+    ensures { result ≡ list_all takes_any parameters.now }
 {
     match parameters {
         [parameter, parameters @ ..] => takes_any(*parameter) && all_take_any(parameters),
@@ -205,7 +204,7 @@ impl Call {
         ensures view { call_view result ≡ record {
           line = line;
           target = target;
-          function = function_value function;
+          function = function;
           operands = operands.items;
           texts = map (λ text. text.items) texts.items;
         } }

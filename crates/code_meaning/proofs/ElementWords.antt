@@ -4,14 +4,14 @@ use Rattle.std.specs.Prelude.{FitsSigned}
 use Rattle.std.specs.Int.{w8, w16, w32, cast_unsigned}
 use Rattle.std.proofs.Math.Nat.{mod-lt}
 use Rattle.std.proofs.Math.Facts.{Fits-of_lt, Fits-of_z, Fits-lt-pow, of_z-to_z, sfits_to_z}
-use Rattle.base.specs.declared.element.ElementType.{ElementType as ElementInMemory}
+use Rattle.base.specs.declared.element.ElementType.{ElementType}
 use Rattle.base.specs.declared.element.ElementType.TheVariants as element
-use Rattle.base.specs.Element.{ElementType, JInt, JShort, JByte, JChar, element_value}
+use Rattle.base.specs.declared.element.ElementType.TheVariants.{Int as JInt, Short as JShort, Byte as JByte, Char as JChar}
 use Rattle.code.specs.Effect.{element_word}
 use Rattle.semantics.specs.Value.{convert}
 use Rattle.code_meaning.specs.Coding.{element_of}
 
-pub element_same : (t : ElementInMemory) → element_of (element_value t) ≡ t
+pub element_same : (t : ElementType) → element_of t ≡ t
 element_same element.Int = refl
 element_same element.Short = refl
 element_same element.Byte = refl

@@ -2,9 +2,8 @@
 use Rattle.std.proofs.Common.{◌≡◌, ℕ, zero, suc, ◌-◌, ◌<◌, Bool, true, false, List, [], ◌∷◌, ◌++◌, length, map, refl, sym, ap, ◌∙◌, arith, if◌then◌else◌}
 use Rattle.std.specs.Prelude.{zip, replicate}
 use Rattle.syntax.specs.Tree.{Argument}
-use Rattle.jni.specs.Prototype.{ParameterKind, Passed}
-use Rattle.jni.specs.Table.{parameter_value}
-use Rattle.jni.specs.declared.kinds.ParameterKind.{ParameterKind as KindInMemory}
+use Rattle.jni.specs.declared.kinds.ParameterKind.{ParameterKind}
+use Rattle.jni.specs.declared.kinds.ParameterKind.TheVariants.{Passed}
 use Rattle.code_meaning.specs.Arguments.{given_for}
 
 -- what a method is given where this number of arguments is left
@@ -22,7 +21,7 @@ none_passed [] = refl
 none_passed (a ∷ arguments) = refl
 
 -- where no parameter is left, and no method is given anything
-pub none_given : (calls : Bool) (own : List KindInMemory) (arguments : List Argument) → length own < 1 → calls ≡ false → given_for calls (map parameter_value own) arguments ≡ []
+pub none_given : (calls : Bool) (own : List ParameterKind) (arguments : List Argument) → length own < 1 → calls ≡ false → given_for calls own arguments ≡ []
 none_given calls [] arguments none e = ap (λ b. given_for b [] arguments) e ∙ none_passed arguments
 none_given calls (p ∷ own) arguments none e = absurd (omega (arith, none))
 

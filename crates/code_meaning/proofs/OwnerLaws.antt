@@ -10,8 +10,9 @@ use Rattle.std.proofs.lemmas.Bool.Decides.{not_from_Decides, Decides-eqb}
 use Rattle.std.proofs.lemmas.Slice.Eq.{bytes_eq-Decides}
 use Rattle.base.specs.Bytes.{Identifier, lookup}
 use Rattle.base.proofs.Lists.{get_set_other}
-use Rattle.type_rules.specs.ExprTypes.{ExprType, Jint, Ref, Global, Weak, FieldId, MethodId, Buffer, Array}
-use Rattle.type_rules.specs.ExprTypes as ty
+use Rattle.type_rules.specs.declared.ty.ExprType.{ExprType}
+use Rattle.type_rules.specs.declared.ty.ExprType.TheVariants.{Jint, Ref, Global, Weak, FieldId, MethodId, Buffer, Array}
+use Rattle.type_rules.specs.declared.ty.ExprType.TheVariants as types
 use Rattle.code.specs.Depth.{Listing}
 use Rattle.code_meaning.specs.Layout.{Slot, Known}
 use Rattle.code_meaning.specs.Fits.{IsOwn}
@@ -31,10 +32,10 @@ module _ (visible : Visible) (slots : Slots) (own : Identifier → Option ℕ) (
   -- only a local reference's slot has to do with owners
   slot_shown : (kind : ExprType) (i : ℕ) → (kind ≡ Ref → ((before : ℕ) → visible.owner x ≡ Some before → slice_get slots.owners i ≡ Some (Some before)) → (level : ℕ) → own x ≡ Some level → slice_get owners i ≡ Some (Some level))
       → ShowsSlot visible x slots (record { ty = kind; index = i }) kind → ShowsSlot (record visible { owner = own }) x (record slots { owners = owners }) (record { ty = kind; index = i }) kind
-  slot_shown ty.Word i kept h = number_shown (record { ty = ty.Word; index = i }) h
+  slot_shown types.Word i kept h = number_shown (record { ty = types.Word; index = i }) h
   slot_shown Jint i kept h = number_shown (record { ty = Jint; index = i }) h
-  slot_shown ty.Flag i kept h = number_shown (record { ty = ty.Flag; index = i }) h
-  slot_shown ty.Truth i kept h = tt
+  slot_shown types.Flag i kept h = number_shown (record { ty = types.Flag; index = i }) h
+  slot_shown types.Truth i kept h = tt
   slot_shown Ref i kept h = record { reference = h.reference; is = h.is; is_null = h.is_null; no_number = h.no_number; kind = h.kind; there = h.there; owner = λ n level is owned. kept refl (λ before was. h.owner n before is was) level owned }
   slot_shown Global i kept h = record {
     static = h.static;

@@ -9,10 +9,11 @@ use Rattle.std.proofs.lemmas.Bool.{ltb-true, ltb-false, eqb-true}
 use Rattle.std.proofs.lemmas.Slice.Eq.{bytes_eq-Decides}
 use Rattle.std.proofs.lemmas.Bool.Decides.{not_from_Decides, Decides-eqb}
 use Rattle.base.specs.Bytes.{Identifier, lookup}
-use Rattle.base.specs.Element.{ElementType}
+use Rattle.base.specs.declared.element.ElementType.{ElementType}
 use Rattle.base.proofs.Lists.{get_set_other, get_set_same}
-use Rattle.type_rules.specs.ExprTypes.{ExprType, Jint, Ref, Global, Weak, FieldId, MethodId, Buffer, Array}
-use Rattle.type_rules.specs.ExprTypes as ty
+use Rattle.type_rules.specs.declared.ty.ExprType.{ExprType}
+use Rattle.type_rules.specs.declared.ty.ExprType.TheVariants.{Jint, Ref, Global, Weak, FieldId, MethodId, Buffer, Array}
+use Rattle.type_rules.specs.declared.ty.ExprType.TheVariants as types
 use Rattle.type_rules.specs.TypeGroups.{IsNumberType}
 use Rattle.class_rules.specs.Fields as source
 use Rattle.semantics.specs.Method as method
@@ -73,9 +74,9 @@ fewer_shown code names known visible slots among shows = record { numbers = show
 -- ---- what stays
 
 number_place_at : (kind : ExprType) (i : ℕ) → IsNumberType kind → IsPlaceOf (record { ty = kind; index = i }) i
-number_place_at ty.Word i h = (omega arith, omega arith)
+number_place_at types.Word i h = (omega arith, omega arith)
 number_place_at Jint i h = (omega arith, omega arith)
-number_place_at ty.Flag i h = (omega arith, omega arith)
+number_place_at types.Flag i h = (omega arith, omega arith)
 number_place_at kind i h = absurd h
 
 pub number_place : (s : Slot) → IsNumberType s.ty → IsPlaceOf s s.index
@@ -91,10 +92,10 @@ module _ (old new : Visible) (x : Identifier) (slots slots' : Slots) (same : IsA
 
   pub slot_stays : (kind : ExprType) (i : ℕ) → ((k : ℕ) → IsPlaceOf (record { ty = kind; index = i }) k → slice_get slots'.numbers k ≡ slice_get slots.numbers k) → (kind ≡ Ref → ReferenceStays slots slots' i) → (IsHandleType kind → slice_get slots'.fields i ≡ slice_get slots.fields i)
       → (IsBufferType kind → slice_get slots'.buffers i ≡ slice_get slots.buffers i) → (IsStaticType kind → StaticStays old.statics new.statics x) → ShowsSlot old x slots (record { ty = kind; index = i }) kind → ShowsSlot new x slots' (record { ty = kind; index = i }) kind
-  slot_stays ty.Word i numbers references fields buffers statics h = number_stays ty.Word i (numbers i (omega arith, omega arith)) h
+  slot_stays types.Word i numbers references fields buffers statics h = number_stays types.Word i (numbers i (omega arith, omega arith)) h
   slot_stays Jint i numbers references fields buffers statics h = number_stays Jint i (numbers i (omega arith, omega arith)) h
-  slot_stays ty.Flag i numbers references fields buffers statics h = number_stays ty.Flag i (numbers i (omega arith, omega arith)) h
-  slot_stays ty.Truth i numbers references fields buffers statics h = tt
+  slot_stays types.Flag i numbers references fields buffers statics h = number_stays types.Flag i (numbers i (omega arith, omega arith)) h
+  slot_stays types.Truth i numbers references fields buffers statics h = tt
   slot_stays Ref i numbers references fields buffers statics h = record { reference = h.reference; is = same.reference ∙ h.is; is_null = same.is_null ∙ h.is_null; no_number = same.number ∙ h.no_number; kind = same.kind ∙ h.kind; there = (references refl).0 ∙ h.there; owner = λ n level is own. (references refl).1 ∙ h.owner n level is (sym same.owner ∙ own) }
   slot_stays Global i numbers references fields buffers statics h = record {
     static = record { place = (statics tt).place ∙ h.static.place; held = h.static.held; there = (statics tt).there ∙ h.static.there };
@@ -149,15 +150,15 @@ module _ (code : Listing) (known : Known) (old new : Visible) (slots slots' : Sl
 -- ---- a number variable is set
 
 number_shown : (visible : Visible) (x : Identifier) (slots : Slots) (s : Slot) (kind : ExprType) → IsNumberType kind → ShowsNumber visible x slots.numbers s → ShowsSlot visible x slots s kind
-number_shown visible x slots s ty.Word n h = h
+number_shown visible x slots s types.Word n h = h
 number_shown visible x slots s Jint n h = h
-number_shown visible x slots s ty.Flag n h = h
+number_shown visible x slots s types.Flag n h = h
 number_shown visible x slots s kind n h = absurd n
 
 place_within : (code : Listing) (kind : ExprType) (i : ℕ) → IsNumberType kind → IndexWithin code.slots kind i → i < code.slots.numbers
-place_within code ty.Word i n h = h
+place_within code types.Word i n h = h
 place_within code Jint i n h = h
-place_within code ty.Flag i n h = h
+place_within code types.Flag i n h = h
 place_within code kind i n h = absurd n
 
 pub number_below : (code : Listing) (known : Known) (x : Identifier) (s : Slot) → IsNumberType s.ty → IsSlotOf code known x s → s.index < code.slots.numbers
@@ -245,10 +246,10 @@ static_holds old new x i h shown is none is_null reference =
 
 -- a name that no variable has is known as a static, if at all
 no_variable_shown : (old new : Visible) (x : Identifier) (slots : Slots) (h : StaticReference) (s : Slot) (kind : ExprType) → IsHeld old x h new → ShowsSlot old x slots s kind → ShowsSlot new x slots s kind
-no_variable_shown old new x slots h s ty.Word held shown = absurd (let e : Some ScalarKind ≡ None = sym shown.kind ∙ held.before.kind in cc)
+no_variable_shown old new x slots h s types.Word held shown = absurd (let e : Some ScalarKind ≡ None = sym shown.kind ∙ held.before.kind in cc)
 no_variable_shown old new x slots h s Jint held shown = absurd (let e : Some ScalarKind ≡ None = sym shown.kind ∙ held.before.kind in cc)
-no_variable_shown old new x slots h s ty.Flag held shown = absurd (let e : Some ScalarKind ≡ None = sym shown.kind ∙ held.before.kind in cc)
-no_variable_shown old new x slots h s ty.Truth held shown = tt
+no_variable_shown old new x slots h s types.Flag held shown = absurd (let e : Some ScalarKind ≡ None = sym shown.kind ∙ held.before.kind in cc)
+no_variable_shown old new x slots h s types.Truth held shown = tt
 no_variable_shown old new x slots h s Ref held shown = absurd (let e : Some ReferenceKind ≡ None = sym shown.kind ∙ held.before.kind in cc)
 no_variable_shown old new x slots h s Global held shown = static_holds old new x s.index h shown held.statics held.after held.is_null held.reference
 no_variable_shown old new x slots h s Weak held shown = static_holds old new x s.index h shown held.statics held.after held.is_null held.reference

@@ -9,7 +9,8 @@ use Rattle.semantics.specs.Thread.{Shared, Thread}
 use Rattle.semantics.specs.Value.{Gives}
 use Rattle.semantics.specs.Variable.{Variable, Scalar, LocalRef, FieldHandle, MethodHandle, Elements, LocalArray, StaticReference, Empty, Live, Weakly, Cleared, Deleted, assign}
 use Rattle.code.specs.Depth.{Listing}
-use Rattle.type_rules.specs.ExprTypes.{ExprType, Global, Weak}
+use Rattle.type_rules.specs.declared.ty.ExprType.{ExprType}
+use Rattle.type_rules.specs.declared.ty.ExprType.TheVariants.{Global, Weak}
 use Rattle.code_meaning.specs.Layout.{Slot, Known}
 use Rattle.code_meaning.specs.Fits.{IsStaticType}
 use Rattle.code_meaning.specs.Slots.{visible_to, type_of_array, kind_of_variable, HasNoVariable, IsAsBefore, IsHeld, is_empty, Slots, ShowsSlot, Shows}

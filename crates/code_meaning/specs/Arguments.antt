@@ -1,8 +1,8 @@
 -- The arguments of a call, each with the kind of its parameter.
 use Rattle.std.specs.Prelude.{Bool, true, false, List, [], ◌∷◌, map}
 use Rattle.syntax.specs.Tree.{Argument}
-use Rattle.jni.specs.Prototype.{ParameterKind, Passed}
-use Rattle.jni.specs.Table.{parameter_value}
+use Rattle.jni.specs.declared.kinds.ParameterKind.{ParameterKind}
+use Rattle.jni.specs.declared.kinds.ParameterKind.TheVariants.{Passed}
 use Rattle.code_meaning.specs.declared.parameters.Parameters.{Parameters}
 
 -- the arguments with a function's own parameters, and, where it calls a method, what is left as what that is given
@@ -14,4 +14,4 @@ given_for false [] arguments = []
 
 -- the same with parameters in memory
 abbrev pub paired : Parameters → List Argument → List (ParameterKind × Argument)
-paired parameters arguments = given_for parameters.calls (map parameter_value parameters.own.now) arguments
+paired parameters arguments = given_for parameters.calls parameters.own.now arguments

@@ -3,18 +3,28 @@
 use Rattle.std.specs.Prelude.{ℕ, ◌+◌, Bool, true, false, not, List, [], ◌∷◌, ◌++◌, length, map, zip, flat_map, Option, Some, None, if◌then◌else◌}
 use Rattle.std.specs.Option.{option_map}
 use Rattle.base.specs.Bytes.{Identifier, lookup}
-use Rattle.base.specs.Element.{ElementType, JInt, JShort, JByte, JChar}
+use Rattle.base.specs.declared.element.ElementType.{ElementType}
+use Rattle.base.specs.declared.element.ElementType.TheVariants.{Int as JInt, Short as JShort, Byte as JByte, Char as JChar}
 use Rattle.syntax.specs.Tree as tree
-use Rattle.syntax.specs.Tree.{Constant, PrefixOp, LogicalNot, Complement, ToWord, ToInt, BinaryOp, LogicalOr, LogicalAnd, BitOr, BitXor, BitAnd, Equal, NotEqual, Less, LessEqual, Greater, GreaterEqual, ShiftLeft, ShiftRight, Add, Subtract, Multiply, Divide, Remainder, Expr, Argument, RightSide, FromExpr, FromCall, Test, TestExpr, TestCall, Stmt, Block, End, Next, Function}
-use Rattle.type_rules.specs.ExprTypes.{ExprType, Ref, Global, Weak, FieldId, MethodId, Buffer, Array, is_jint}
+use Rattle.syntax.specs.declared.expr.Constant.TheVariants as constants
+use Rattle.syntax.specs.declared.expr.PrefixOp.{PrefixOp}
+use Rattle.syntax.specs.declared.expr.PrefixOp.TheVariants.{LogicalNot, Complement, ToWord, ToInt}
+use Rattle.syntax.specs.declared.expr.BinaryOp.{BinaryOp}
+use Rattle.syntax.specs.declared.expr.BinaryOp.TheVariants.{LogicalOr, LogicalAnd, BitOr, BitXor, BitAnd, Equal, NotEqual, Less, LessEqual, Greater, GreaterEqual, ShiftLeft, ShiftRight, Add, Subtract, Multiply, Divide, Remainder}
+use Rattle.syntax.specs.declared.expr.Constant.{Constant}
+use Rattle.syntax.specs.Tree.{Expr, Argument, RightSide, FromExpr, FromCall, Test, TestExpr, TestCall, Stmt, Block, End, Next, Function}
+use Rattle.type_rules.specs.declared.ty.ExprType.{ExprType}
+use Rattle.type_rules.specs.declared.ty.ExprType.TheVariants.{Ref, Global, Weak, FieldId, MethodId, Buffer, Array}
+use Rattle.type_rules.specs.ExprTypes.{is_jint}
 use Rattle.type_rules.specs.TypeRules.{variable_type}
-use Rattle.jni.specs.JniFunction.{JniFunction, parameters_for, function_named}
-use Rattle.jni.specs.Prototype.{ParameterKind, IntNumber, Mode, Passed}
+use Rattle.jni.specs.declared.function.JniFunction.{JniFunction}
+use Rattle.jni.specs.JniFunction.{parameters_for, function_named}
+use Rattle.jni.specs.declared.kinds.ParameterKind.{ParameterKind}
+use Rattle.jni.specs.declared.kinds.ParameterKind.TheVariants.{IntNumber, Mode, Passed}
 use Rattle.code.specs.declared.instr.Operand.{Operand}
 use Rattle.code.specs.declared.instr.Operand.TheVariants as operand
-use Rattle.jni.specs.declared.mode.ReleaseMode.{ReleaseMode as ModeOfCode}
+use Rattle.jni.specs.declared.mode.ReleaseMode.{ReleaseMode}
 use Rattle.jni.specs.declared.mode.ReleaseMode.TheVariants as mode
-use Rattle.base.specs.declared.element.ElementType.{ElementType as ElementOfCode}
 use Rattle.base.specs.declared.element.ElementType.TheVariants as element
 use Rattle.code.specs.declared.instr.Operator.TheVariants as operator
 use Rattle.code.specs.declared.instr.TrappingOperator.TheVariants as trapping
@@ -26,7 +36,8 @@ use Rattle.code.specs.declared.instr.Target.TheVariants as target
 use Rattle.code.specs.declared.instr.Instr.{Instr}
 use Rattle.code.specs.declared.instr.Instr.TheVariants.{Push, Load, Store, Convert, Operate, OperateOrTrap, JumpIfFalseOrPop, JumpIfTrueOrPop, JumpIfFalse, Jump, JumpBack, LoadElement, StoreElement, LoadBuffer, StoreBuffer, ClearArray, TestNull, StoreNull, PutJint, Call, Return, ReturnJint, ReturnReference}
 use Rattle.code.specs.declared.instr.Instr.TheVariants as instr
-use Rattle.semantics.specs.Arguments.{ReleaseMode, CopyBackAndFree, CopyBack, FreeUncopied, mode_of}
+use Rattle.jni.specs.declared.mode.ReleaseMode.TheVariants.{CopyBackAndFree, CopyBack, FreeUncopied}
+use Rattle.semantics.specs.Arguments.{mode_of}
 use Rattle.semantics.specs.Term as term
 use Rattle.semantics.specs.Term.{Term, Done, Read, And, Or, IsNull, Prefix, Binary, term_of}
 use Rattle.semantics.specs.Value.{Int}
@@ -60,7 +71,7 @@ store_of (Some v) = StoreNull v ∷ []
 store_of None = []
 
 -- the element type of an instruction
-abbrev pub element_of : ElementType → ElementOfCode
+abbrev pub element_of : ElementType → ElementType
 element_of JInt = element.Int
 element_of JShort = element.Short
 element_of JByte = element.Byte
@@ -91,8 +102,8 @@ load_code s i = Load i ∷ []
 
 -- a named constant
 abbrev pub constant_code : Constant → List Instr
-constant_code tree.True = Push 1 ∷ []
-constant_code tree.False = Push 0 ∷ []
+constant_code constants.True = Push 1 ∷ []
+constant_code constants.False = Push 0 ∷ []
 constant_code c = []
 
 -- a prefix operator after its operand
@@ -192,14 +203,14 @@ address_operand None = operand.Null
 address_operand (Some s) = operand.IsCopy s.index
 
 -- a release mode, as an operand has it
-abbrev pub mode_code : ReleaseMode → ModeOfCode
+abbrev pub mode_code : ReleaseMode → ReleaseMode
 mode_code CopyBackAndFree = mode.CopyBackAndFree
 mode_code CopyBack = mode.CopyBack
 mode_code FreeUncopied = mode.FreeUncopied
 
 -- where what a method is given is found: a number is on the stack, and a reference is a variable or NULL
 abbrev pub passed_code : Known → Expr → Operand
-passed_code known (tree.Named tree.Null) = operand.Null
+passed_code known (tree.Named constants.Null) = operand.Null
 passed_code known (tree.Variable x) = passed_variable (lookup x known)
 passed_code known e = operand.Number
 
@@ -224,7 +235,7 @@ number_code s i = if is_jint (Some s) then load_code s i else []
 
 -- what a method is given, where it is a number
 abbrev pub passed_rest : Known → (line : ℕ) → Expr → List Instr
-passed_rest known line (tree.Named tree.Null) = []
+passed_rest known line (tree.Named constants.Null) = []
 passed_rest known line (tree.Variable x) = of_slot number_code (lookup x known)
 passed_rest known line e = expr_code known line e
 
@@ -278,7 +289,7 @@ named_call_code known line target (Some f) arguments = call_code known line targ
 
 -- a value for a variable
 abbrev pub value_code : Known → (line : ℕ) → Slot → Expr → List Instr
-value_code known line s (tree.Named tree.Null) = store_of (nullable_of s.ty s.index)
+value_code known line s (tree.Named constants.Null) = store_of (nullable_of s.ty s.index)
 value_code known line s e = expr_code known line e ++ Store s.index ∷ []
 
 -- a right side
@@ -298,7 +309,7 @@ returned_code s i = Load i ∷ ReturnJint ∷ []
 
 -- a value is returned
 abbrev pub return_code : Known → (line : ℕ) → Term → List Instr
-return_code known line (term.Named tree.Null) = ReturnReference Null ∷ []
+return_code known line (term.Named constants.Null) = ReturnReference Null ∷ []
 return_code known line (Read x) = of_slot returned_code (lookup x known)
 return_code known line t = term_code known line t ++ ReturnJint ∷ []
 

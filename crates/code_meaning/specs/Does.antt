@@ -5,22 +5,30 @@ use Rattle.std.specs.Option.{option_map}
 use Rattle.std.specs.List.{AllZip}
 use Rattle.std.specs.Int.{w32, cast_signed, cast_unsigned}
 use Rattle.base.specs.Bytes.{Identifier, lookup}
-use Rattle.base.specs.Element.{ElementType}
+use Rattle.base.specs.declared.element.ElementType.{ElementType}
 use Rattle.syntax.specs.Tree.{Block}
-use Rattle.jni.specs.Access.{Access}
-use Rattle.jni.specs.JniFunction.{JniFunction, prototype, parameters_for}
-use Rattle.jni.specs.Prototype.{ParameterKind, FieldID, MethodID, TextBytes, ArrayVariable, BufferVariable, Mode, IsCopy, ResultKind, NewLocal, GivesInt, GivesField, GivesMethod}
+use Rattle.jni.specs.declared.access.Access.{Access}
+use Rattle.jni.specs.declared.function.JniFunction.{JniFunction}
+use Rattle.jni.specs.JniFunction.{prototype, parameters_for}
+use Rattle.jni.specs.declared.kinds.ParameterKind.{ParameterKind}
+use Rattle.jni.specs.declared.kinds.ParameterKind.TheVariants.{FieldID, MethodID, TextBytes, ArrayVariable, BufferVariable, Mode, IsCopy}
+use Rattle.jni.specs.declared.kinds.ResultKind.{ResultKind}
+use Rattle.jni.specs.declared.kinds.ResultKind.TheVariants.{NewLocal, GivesInt, GivesField, GivesMethod}
 use Rattle.type_rules.specs.TypeRules.{is_droppable}
-use Rattle.type_rules.specs.ExprTypes.{ExprType, Flag, Ref, FieldId, MethodId, Buffer}
+use Rattle.type_rules.specs.declared.ty.ExprType.{ExprType}
+use Rattle.type_rules.specs.declared.ty.ExprType.TheVariants.{Flag, Ref, FieldId, MethodId, Buffer}
 use Rattle.class_rules.specs.Fields as source
 use Rattle.semantics.specs.Method as method
 use Rattle.semantics.specs.Object.{Reference}
-use Rattle.semantics.specs.Arguments.{Actual, ReferenceActual, FieldActual, MethodActual, NumberActual, TextActual, VariableActual, ModeActual, NothingActual, ReleaseMode}
+use Rattle.jni.specs.declared.mode.ReleaseMode.{ReleaseMode}
+use Rattle.semantics.specs.Arguments.{Actual, ReferenceActual, FieldActual, MethodActual, NumberActual, TextActual, VariableActual, ModeActual, NothingActual}
 use Rattle.semantics.specs.Effect.{Effect, Becomes, Sets, SetsNull, SetsElement, MakesArray, Prints, Calls, Returns, TrapsAt, NoEffect}
 use Rattle.semantics.specs.Task.{Task, Branch, Target, Declared, Assigned, Tested, Dropped, VariableKind, ScalarKind, ReferenceKind, FieldKind, MethodKind, BufferKind}
 use Rattle.semantics.specs.Term.{Done}
-use Rattle.semantics.specs.Value.{Value, Trap, Int, Gives}
+use Rattle.semantics.specs.declared.trap.Trap.{Trap}
+use Rattle.semantics.specs.Value.{Value, Int, Gives}
 use Rattle.semantics.specs.Value as value
+use Rattle.semantics.specs.declared.trap.Trap.TheVariants as traps
 use Rattle.semantics.specs.Variable as variable
 use Rattle.semantics.specs.Variable.{StaticReference, Empty}
 use Rattle.code.specs.Call.{Call}
@@ -53,9 +61,9 @@ IsReturn i = ⊥
 
 -- the trap of an instruction
 abbrev pub trap_of : PlainTrap → Trap
-trap_of trap.DivisionByZero = value.DivisionByZero
-trap_of trap.ShiftTooFar = value.ShiftTooFar
-trap_of trap.OutOfRange = value.OutOfRange
+trap_of trap.DivisionByZero = traps.DivisionByZero
+trap_of trap.ShiftTooFar = traps.ShiftTooFar
+trap_of trap.OutOfRange = traps.OutOfRange
 
 -- no element of a buffer in a slot is at this index
 abbrev pub IsPast : Visible → Slots → (i index : ℕ) → Type 0

@@ -3,13 +3,23 @@ use Rattle.std.specs.Prelude.{◌≡◌, ◌≢◌, ℕ, ◌+◌, ◌^◌, ◌<�
 use Rattle.std.specs.List.{AllZip}
 use Rattle.base.specs.Limits.{most_elements}
 use Rattle.base.specs.Bytes.{Identifier, lookup}
-use Rattle.base.specs.Element.{ElementType, JChar}
+use Rattle.base.specs.declared.element.ElementType.{ElementType}
+use Rattle.base.specs.declared.element.ElementType.TheVariants.{Char as JChar}
 use Rattle.syntax.specs.Tree as tree
-use Rattle.syntax.specs.Tree.{LogicalNot, Complement, ToWord, ToInt, BinaryOp, Expr, Argument, Call, RightSide, FromExpr, FromCall, Test, TestExpr, TestCall, Stmt, Block, End, Next, Function}
-use Rattle.jni.specs.Access.{Access}
-use Rattle.jni.specs.JniFunction.{JniFunction, function_named, prototype, parameters_for, takes_count}
-use Rattle.jni.specs.Prototype.{ParameterKind, Nullable, NonNull, AnyReference, ClassObject, AnyArray, ObjectArray, StringObject, NumberArray, LocalVariable, StaticVariable, WeakVariable, FieldID, MethodID, Passed, IntNumber, TextBytes, ArrayVariable, BufferVariable, Mode, IsCopy, ResultKind, NewLocal, NewGlobal, NewWeak, GivesFlag, GivesInt, GivesField, GivesMethod, GivesBuffer, GivesNothing}
-use Rattle.type_rules.specs.ExprTypes.{ExprType, Word, Jint, Flag, Truth, Ref, Global, Weak, FieldId, MethodId, Buffer, Array, group, is_buffer_for}
+use Rattle.syntax.specs.declared.expr.Constant.TheVariants as constants
+use Rattle.syntax.specs.declared.expr.PrefixOp.TheVariants.{LogicalNot, Complement, ToWord, ToInt}
+use Rattle.syntax.specs.declared.expr.BinaryOp.{BinaryOp}
+use Rattle.syntax.specs.Tree.{Expr, Argument, Call, RightSide, FromExpr, FromCall, Test, TestExpr, TestCall, Stmt, Block, End, Next, Function}
+use Rattle.jni.specs.declared.access.Access.{Access}
+use Rattle.jni.specs.declared.function.JniFunction.{JniFunction}
+use Rattle.jni.specs.JniFunction.{function_named, prototype, parameters_for, takes_count}
+use Rattle.jni.specs.declared.kinds.ParameterKind.{ParameterKind}
+use Rattle.jni.specs.declared.kinds.ParameterKind.TheVariants.{Nullable, NonNull, AnyReference, ClassObject, AnyArray, ObjectArray, StringObject, NumberArray, LocalVariable, StaticVariable, WeakVariable, FieldID, MethodID, Passed, IntNumber, TextBytes, ArrayVariable, BufferVariable, Mode, IsCopy}
+use Rattle.jni.specs.declared.kinds.ResultKind.{ResultKind}
+use Rattle.jni.specs.declared.kinds.ResultKind.TheVariants.{NewLocal, NewGlobal, NewWeak, GivesFlag, GivesInt, GivesField, GivesMethod, GivesBuffer, GivesNothing}
+use Rattle.type_rules.specs.declared.ty.ExprType.{ExprType}
+use Rattle.type_rules.specs.declared.ty.ExprType.TheVariants.{Word, Jint, Flag, Truth, Ref, Global, Weak, FieldId, MethodId, Buffer, Array}
+use Rattle.type_rules.specs.ExprTypes.{group, is_buffer_for}
 use Rattle.type_rules.specs.TypeRules.{variable_type, is_droppable, is_mode}
 use Rattle.type_rules.specs.TypeGroups.{IsIndexType, IsNumberType, OperatorFits}
 use Rattle.code.specs.declared.slots.SlotCounts.{SlotCounts}
@@ -49,8 +59,8 @@ pub data TermHasType (known : Known) : Term → ExprType → Type 0 where
   done : {v : Value} {s : ExprType} → ValueHasType v s → TermHasType known (Done v) s
   word : {n : ℕ} → n < 2 ^ 32 → TermHasType known (term.Number n true) Word
   int : {n : ℕ} → n < 2 ^ 31 → TermHasType known (term.Number n false) Jint
-  true_flag : TermHasType known (term.Named tree.True) Flag
-  false_flag : TermHasType known (term.Named tree.False) Flag
+  true_flag : TermHasType known (term.Named constants.True) Flag
+  false_flag : TermHasType known (term.Named constants.False) Flag
   read : {x : Identifier} {s : ExprType} → IsVariable known x s → TermHasType known (Read x) s
   -- of an array or a buffer
   element : {x : Identifier} {n : Slot} {t : Term} {r : ExprType} → lookup x known ≡ Some n → HasElements n.ty
@@ -172,13 +182,13 @@ NameFits known s e = ⊥
 
 -- NULL, the name of a local reference, or that of a static
 abbrev pub ReferenceFits : Known → Expr → Type 0
-ReferenceFits known (tree.Named tree.Null) = Unit {0}
+ReferenceFits known (tree.Named constants.Null) = Unit {0}
 ReferenceFits known (tree.Variable x) = (s : Slot) × (lookup x known ≡ Some s) × ((s.ty ≡ Ref) ⊎ (s.ty ≡ Global))
 ReferenceFits known e = ⊥
 
 -- the same, or the name of a weak static
 abbrev pub AnyReferenceFits : Known → Expr → Type 0
-AnyReferenceFits known (tree.Named tree.Null) = Unit {0}
+AnyReferenceFits known (tree.Named constants.Null) = Unit {0}
 AnyReferenceFits known (tree.Variable x) = (s : Slot) × (lookup x known ≡ Some s) × ((s.ty ≡ Ref) ⊎ IsStaticType s.ty)
 AnyReferenceFits known e = ⊥
 
@@ -225,17 +235,17 @@ TakesInt p = (p ≡ IntNumber) ⊎ (p ≡ Passed)
 
 -- NULL, or the name of a field ID
 abbrev pub FieldFits : Known → Expr → Type 0
-FieldFits known (tree.Named tree.Null) = Unit {0}
+FieldFits known (tree.Named constants.Null) = Unit {0}
 FieldFits known e = NameFits known FieldId e
 
 -- NULL, or the name of a method ID
 abbrev pub MethodFits : Known → Expr → Type 0
-MethodFits known (tree.Named tree.Null) = Unit {0}
+MethodFits known (tree.Named constants.Null) = Unit {0}
 MethodFits known e = NameFits known MethodId e
 
 -- what a method is given: NULL, the name of a `jint` or of a reference, or another number
 abbrev pub PassedFits : Known → Expr → Type 0
-PassedFits known (tree.Named tree.Null) = Unit {0}
+PassedFits known (tree.Named constants.Null) = Unit {0}
 PassedFits known (tree.Variable x) = (s : Slot) × (lookup x known ≡ Some s) × ((s.ty ≡ Jint) ⊎ (s.ty ≡ Ref) ⊎ (s.ty ≡ Global))
 PassedFits known e = NumberFits known (term_of e) Jint
 
@@ -264,7 +274,7 @@ ArgumentFits known LocalVariable (tree.Value e) = NameFits known Ref e
 ArgumentFits known StaticVariable (tree.Value e) = NameFits known Global e
 ArgumentFits known WeakVariable (tree.Value e) = NameFits known Weak e
 ArgumentFits known AnyReference (tree.Value e) = AnyReferenceFits known e
-ArgumentFits known IsCopy (tree.Value e) = e ≡ tree.Named tree.Null
+ArgumentFits known IsCopy (tree.Value e) = e ≡ tree.Named constants.Null
 ArgumentFits known IsCopy (tree.AddressOf x) = IsVariable known x Flag
 ArgumentFits known p (tree.Value e) = ReferenceFits known e
 ArgumentFits known p a = ⊥
@@ -283,7 +293,7 @@ ValueFits known Jint e = NumberFits known (term_of e) Jint
 ValueFits known Flag e = NumberFits known (term_of e) Flag
 ValueFits known Truth e = ⊥
 ValueFits known (Array t size) e = ⊥
-ValueFits known s e = e ≡ tree.Named tree.Null
+ValueFits known s e = e ≡ tree.Named constants.Null
 
 -- what a function gives fits a variable of this type
 abbrev pub ResultFits : ExprType → ResultKind → Type 0
@@ -319,7 +329,7 @@ TestFits known (TestCall c) = CallGives known Jint c
 
 -- what is returned: NULL, a local reference or a number
 abbrev pub ReturnFits : Known → Term → Type 0
-ReturnFits known (term.Named tree.Null) = Unit {0}
+ReturnFits known (term.Named constants.Null) = Unit {0}
 ReturnFits known (Read x) = (s : Slot) × (lookup x known ≡ Some s) × ((s.ty ≡ Ref) ⊎ (s.ty ≡ Jint))
 ReturnFits known t = NumberFits known t Jint
 

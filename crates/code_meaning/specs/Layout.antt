@@ -1,10 +1,13 @@
 -- Which slots the names of a function have.
 use Rattle.std.specs.Prelude.{ℕ, ◌+◌, true, false, List, [], ◌∷◌, ◌++◌, length}
 use Rattle.base.specs.Bytes.{Identifier, ByName}
-use Rattle.base.specs.Element.{JChar}
+use Rattle.base.specs.declared.element.ElementType.TheVariants.{Char as JChar}
 use Rattle.syntax.specs.Tree as tree
-use Rattle.syntax.specs.Tree.{Stmt, Block, End, Next, Parameter, ParameterType, IntParameter, ReferenceParameter, Function, Static}
-use Rattle.type_rules.specs.ExprTypes.{ExprType, Word, Jint, Flag, Ref, Global, Weak, FieldId, MethodId, Buffer, Array}
+use Rattle.syntax.specs.declared.declared_type.ParameterType.{ParameterType}
+use Rattle.syntax.specs.declared.declared_type.ParameterType.TheVariants.{Jint as IntParameter, Reference as ReferenceParameter}
+use Rattle.syntax.specs.Tree.{Stmt, Block, End, Next, Parameter, Function, Static}
+use Rattle.type_rules.specs.declared.ty.ExprType.{ExprType}
+use Rattle.type_rules.specs.declared.ty.ExprType.TheVariants.{Word, Jint, Flag, Ref, Global, Weak, FieldId, MethodId, Buffer, Array}
 use Rattle.type_rules.specs.TypeRules.{variable_type, static_type}
 use Rattle.code.specs.declared.slots.SlotCounts.{SlotCounts}
 

@@ -5,9 +5,18 @@ use Rattle.std.specs.List.{list_any, sum_by}
 use Rattle.base.specs.Limits.{most_steps}
 use Rattle.base.specs.Bytes.{Identifier}
 use Rattle.syntax.specs.Parts.{null_tested, statements_of}
-use Rattle.syntax.specs.Tree.{VariableType, JIntVariable, JSize, ParameterType, IntParameter, Parameter, ResultType, IntResult, Null, Expr, Number, Named, Variable, Element, Prefix, Binary, Paren, Argument, Value, Call, RightSide, FromExpr, FromCall, Test, TestExpr, TestCall, Stmt, Declare, DeclareBuffer, DeclareChars, DeclareArray, Assign, AssignElement, Perform, PutJint, If, IfElse, While, Return, ReturnValue, Block, End, Next, Function, Item, StaticItem, FunctionItem, SourceUnit}
-use Rattle.jni.specs.JniFunction.{JniFunction, parameters_for, function_named}
-use Rattle.jni.specs.Prototype.{ParameterKind, IntNumber, Passed}
+use Rattle.syntax.specs.declared.declared_type.ParameterType.{ParameterType}
+use Rattle.syntax.specs.declared.declared_type.ParameterType.TheVariants.{Jint as IntParameter}
+use Rattle.syntax.specs.declared.declared_type.VariableType.{VariableType}
+use Rattle.syntax.specs.declared.declared_type.VariableType.TheVariants.{Jint as JIntVariable, Jsize as JSize}
+use Rattle.syntax.specs.declared.unit.ResultType.{ResultType}
+use Rattle.syntax.specs.declared.unit.ResultType.TheVariants.{Jint as IntResult}
+use Rattle.syntax.specs.declared.expr.Constant.TheVariants.{Null}
+use Rattle.syntax.specs.Tree.{Parameter, Expr, Number, Named, Variable, Element, Prefix, Binary, Paren, Argument, Value, Call, RightSide, FromExpr, FromCall, Test, TestExpr, TestCall, Stmt, Declare, DeclareBuffer, DeclareChars, DeclareArray, Assign, AssignElement, Perform, PutJint, If, IfElse, While, Return, ReturnValue, Block, End, Next, Function, Item, StaticItem, FunctionItem, SourceUnit}
+use Rattle.jni.specs.declared.function.JniFunction.{JniFunction}
+use Rattle.jni.specs.JniFunction.{parameters_for, function_named}
+use Rattle.jni.specs.declared.kinds.ParameterKind.{ParameterKind}
+use Rattle.jni.specs.declared.kinds.ParameterKind.TheVariants.{IntNumber, Passed}
 
 -- ---- expressions
 

@@ -5,10 +5,13 @@ use Rattle.std.specs.Option.{option_map}
 use Rattle.std.specs.Str.{bytes_eq}
 use Rattle.base.specs.Limits.{most_elements}
 use Rattle.base.specs.Bytes.{Identifier, lookup}
-use Rattle.base.specs.Element.{ElementType}
-use Rattle.syntax.specs.Tree.{ParameterType, IntParameter, ReferenceParameter, Parameter}
-use Rattle.type_rules.specs.ExprTypes.{ExprType, Jint, Ref, Global, Weak, FieldId, MethodId, Buffer, Array}
-use Rattle.type_rules.specs.ExprTypes as ty
+use Rattle.base.specs.declared.element.ElementType.{ElementType}
+use Rattle.syntax.specs.declared.declared_type.ParameterType.{ParameterType}
+use Rattle.syntax.specs.declared.declared_type.ParameterType.TheVariants.{Jint as IntParameter, Reference as ReferenceParameter}
+use Rattle.syntax.specs.Tree.{Parameter}
+use Rattle.type_rules.specs.declared.ty.ExprType.{ExprType}
+use Rattle.type_rules.specs.declared.ty.ExprType.TheVariants.{Jint, Ref, Global, Weak, FieldId, MethodId, Buffer, Array}
+use Rattle.type_rules.specs.declared.ty.ExprType.TheVariants as types
 use Rattle.class_rules.specs.Fields as source
 use Rattle.semantics.specs.Heap.{numbers_of}
 use Rattle.semantics.specs.Method as method
@@ -16,7 +19,8 @@ use Rattle.semantics.specs.Object.{ObjectValue, Number, Refers, Reference}
 use Rattle.semantics.specs.Sight.{Sight, in_range}
 use Rattle.semantics.specs.Task.{VariableKind, ScalarKind, ReferenceKind, FieldKind, MethodKind, BufferKind}
 use Rattle.semantics.specs.Thread.{Shared, Thread, sight_of}
-use Rattle.semantics.specs.Value.{Value, Word, Int, Flag, Truth, OutOfRange, Outcome, Gives, Traps, Stuck, convert}
+use Rattle.semantics.specs.declared.trap.Trap.TheVariants.{OutOfRange}
+use Rattle.semantics.specs.Value.{Value, Word, Int, Flag, Truth, Outcome, Gives, Traps, Stuck, convert}
 use Rattle.semantics.specs.Variable as variable
 use Rattle.semantics.specs.Variable.{Variable, Scalar, LocalRef, FieldHandle, MethodHandle, Elements, LocalArray, NoBuffer, Copy, View, StaticReference, Empty, Live, Weakly, Cleared, Deleted, Statics, as_static, as_argument, assign}
 use Rattle.code.specs.declared.instr.NullableVariable.{NullableVariable}
@@ -36,10 +40,10 @@ word_of (Truth b) = truth_word b
 
 -- a value of this type, in its range
 pub data ValueHasType : Value → ExprType → Type 0 where
-  word : {n : ℕ} → n < 2 ^ 32 → ValueHasType (Word n) ty.Word
+  word : {n : ℕ} → n < 2 ^ 32 → ValueHasType (Word n) types.Word
   int : {z : ℤ} → FitsSigned w32 z → ValueHasType (Int z) Jint
-  flag : {b : Bool} → ValueHasType (Flag b) ty.Flag
-  truth : {b : Bool} → ValueHasType (Truth b) ty.Truth
+  flag : {b : Bool} → ValueHasType (Flag b) types.Flag
+  truth : {b : Bool} → ValueHasType (Truth b) types.Truth
 
 -- ---- what can be seen
 
@@ -302,10 +306,10 @@ pub record ShowsBuffer (visible : Visible) (x : Identifier) (buffers : List vari
 
 -- what the slots show of a name with a slot of this type
 abbrev pub ShowsSlot : Visible → Identifier → Slots → Slot → ExprType → Type 0
-ShowsSlot visible x slots s ty.Word = ShowsNumber visible x slots.numbers s
+ShowsSlot visible x slots s types.Word = ShowsNumber visible x slots.numbers s
 ShowsSlot visible x slots s Jint = ShowsNumber visible x slots.numbers s
-ShowsSlot visible x slots s ty.Flag = ShowsNumber visible x slots.numbers s
-ShowsSlot visible x slots s ty.Truth = Unit {0}
+ShowsSlot visible x slots s types.Flag = ShowsNumber visible x slots.numbers s
+ShowsSlot visible x slots s types.Truth = Unit {0}
 ShowsSlot visible x slots s Ref = ShowsReference visible x slots s.index
 ShowsSlot visible x slots s Global = ShowsStatic visible x s.index
 ShowsSlot visible x slots s Weak = ShowsStatic visible x s.index

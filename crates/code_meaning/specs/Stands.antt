@@ -2,16 +2,24 @@
 use Rattle.std.specs.Prelude.{◌≡◌, ℕ, ◌+◌, ◌-◌, ◌≤◌, ◌⊎◌, Bool, true, false, ◌&&◌, ◌||◌, List, [], ◌∷◌, ◌++◌, length, slice_get, zip, flat_map, Option, Some, None, IsTrue}
 use Rattle.std.specs.List.{list_any, AllZip}
 use Rattle.base.specs.Bytes.{Identifier, lookup}
-use Rattle.base.specs.Element.{ElementType}
+use Rattle.base.specs.declared.element.ElementType.{ElementType}
 use Rattle.syntax.specs.Tree as tree
-use Rattle.syntax.specs.Tree.{BitOr, Expr, Stmt, Block, End, Next}
-use Rattle.jni.specs.Access.{Access}
-use Rattle.jni.specs.JniFunction.{JniFunction, prototype, parameters_for}
-use Rattle.jni.specs.Prototype.{ParameterKind, FieldID, MethodID, Passed, TextBytes, ArrayVariable, BufferVariable, Mode, IsCopy, ResultKind, NewLocal, NewGlobal, NewWeak, GivesFlag, GivesInt, GivesField, GivesMethod, GivesBuffer}
-use Rattle.type_rules.specs.ExprTypes.{ExprType, Jint, Ref, FieldId, MethodId, Buffer, Array}
-use Rattle.type_rules.specs.ExprTypes as ty
+use Rattle.syntax.specs.declared.expr.Constant.TheVariants as constants
+use Rattle.syntax.specs.declared.expr.BinaryOp.TheVariants.{BitOr}
+use Rattle.syntax.specs.Tree.{Expr, Stmt, Block, End, Next}
+use Rattle.jni.specs.declared.access.Access.{Access}
+use Rattle.jni.specs.declared.function.JniFunction.{JniFunction}
+use Rattle.jni.specs.JniFunction.{prototype, parameters_for}
+use Rattle.jni.specs.declared.kinds.ParameterKind.{ParameterKind}
+use Rattle.jni.specs.declared.kinds.ParameterKind.TheVariants.{FieldID, MethodID, Passed, TextBytes, ArrayVariable, BufferVariable, Mode, IsCopy}
+use Rattle.jni.specs.declared.kinds.ResultKind.{ResultKind}
+use Rattle.jni.specs.declared.kinds.ResultKind.TheVariants.{NewLocal, NewGlobal, NewWeak, GivesFlag, GivesInt, GivesField, GivesMethod, GivesBuffer}
+use Rattle.type_rules.specs.declared.ty.ExprType.{ExprType}
+use Rattle.type_rules.specs.declared.ty.ExprType.TheVariants.{Jint, Ref, FieldId, MethodId, Buffer, Array}
+use Rattle.type_rules.specs.declared.ty.ExprType.TheVariants as types
 use Rattle.type_rules.specs.TypeRules.{is_droppable}
 use Rattle.type_rules.specs.TypeGroups.{IsIndexType, IsNumberType}
+use Rattle.jni.specs.declared.mode.ReleaseMode.{ReleaseMode}
 use Rattle.semantics.specs.Arguments.{mode_of}
 use Rattle.semantics.specs.Task.{Task, SetScalar, SetElement, SetNull, MakeArray, Invoke, Print, Branch, EndIf, Loop, EndTurn, Return, ReturnValue, Impossible, Target, Declared, Assigned, Tested, Dropped, VariableKind, ScalarKind, ReferenceKind, FieldKind, MethodKind, BufferKind, Operand, NumberOperand, PassedName, Given}
 use Rattle.semantics.specs.Term as term
@@ -21,8 +29,6 @@ use Rattle.code.specs.Call.{Call}
 use Rattle.code.specs.declared.instr.Operand.{Operand as Where}
 use Rattle.code.specs.declared.instr.Operand.TheVariants as operand
 use Rattle.code.specs.declared.instr.LocalArray.{LocalArray}
-use Rattle.base.specs.declared.element.ElementType.{ElementType as ElementOfCode}
-use Rattle.jni.specs.declared.mode.ReleaseMode.{ReleaseMode}
 use Rattle.code.specs.declared.instr.NullableVariable.{NullableVariable}
 use Rattle.code.specs.declared.instr.ReferenceOperand.TheVariants.{Null, Local}
 use Rattle.code.specs.declared.instr.Target.{Target as Destination}
@@ -125,9 +131,9 @@ target_name target = None
 
 -- the kind of a variable of this type; statics and arrays have none
 abbrev pub kind_of_type : ExprType → Option VariableKind
-kind_of_type ty.Word = Some ScalarKind
+kind_of_type types.Word = Some ScalarKind
 kind_of_type Jint = Some ScalarKind
-kind_of_type ty.Flag = Some ScalarKind
+kind_of_type types.Flag = Some ScalarKind
 kind_of_type Ref = Some ReferenceKind
 kind_of_type FieldId = Some FieldKind
 kind_of_type MethodId = Some MethodKind
@@ -175,7 +181,7 @@ pub record BlockStands (code : Listing) (l : Layout) (place : ℕ) (b : Block) :
 pub record BranchStands (code : Listing) (known : Known) (place : ℕ) (stack : List ℕ) (after : After) (line : ℕ) (t : Term) (then' else' : Block) : Type 0 where
   pub slots : SlotCounts
   pub slots_else : SlotCounts
-  pub test : IsUnderWay known ty.Truth t stack
+  pub test : IsUnderWay known types.Truth t stack
   pub then_code : List Instr
   pub then_is : then_code ≡ block_code (record { known = known; slots = slots }) then'
   pub else_code : List Instr
@@ -190,7 +196,7 @@ pub record BranchStands (code : Listing) (known : Known) (place : ℕ) (stack : 
 -- NULL for a reference, a field ID, a method ID or `isCopy`
 pub record NullStands (p : ParameterKind) (given : Operand) : Type 0 where
   pub kind : TakesNull p
-  pub is : given ≡ Given (tree.Value (tree.Named tree.Null))
+  pub is : given ≡ Given (tree.Value (tree.Named constants.Null))
 
 -- a bare name, as it is given for a parameter that takes no number alone
 abbrev pub named_operand : ParameterKind → Identifier → Operand
@@ -247,7 +253,7 @@ pub record AddressStands (known : Known) (i : ℕ) (p : ParameterKind) (given : 
   pub kind : p ≡ IsCopy
   pub name : Identifier
   pub is : given ≡ Given (tree.AddressOf name)
-  pub there : lookup name known ≡ Some (record { ty = ty.Flag; index = i })
+  pub there : lookup name known ≡ Some (record { ty = types.Flag; index = i })
 
 -- where the instruction finds an argument, for a parameter of this kind
 abbrev pub OperandStands : Known → Where → ParameterKind × Operand → Type 0
@@ -326,7 +332,7 @@ ResultGoes code known after place s kind target = ⊥
 -- the type of a variable that takes what a function gives as a number
 abbrev pub number_type : ResultKind → Option ExprType
 number_type GivesInt = Some Jint
-number_type GivesFlag = Some ty.Flag
+number_type GivesFlag = Some types.Flag
 number_type kind = None
 
 -- what a function gives goes into a static
@@ -354,7 +360,7 @@ abbrev pub IsBufferResult : ResultKind → Type 0
 IsBufferResult gives = (access : Access) × (gives ≡ GivesBuffer access)
 
 -- a buffer takes it, with elements of the type that the instruction has
-abbrev pub BufferGoes : Listing → Known → After → (place : ℕ) → ElementOfCode → (i : ℕ) → Target → Type 0
+abbrev pub BufferGoes : Listing → Known → After → (place : ℕ) → ElementType → (i : ℕ) → Target → Type 0
 BufferGoes code known after place element i target =
     (t : ElementType) × (writable : Bool) × (element ≡ element_of t)
     × ResultGoes code known after place (record { ty = Buffer t writable; index = i }) (BufferKind t) target
@@ -403,8 +409,8 @@ pub record LoopStands (code : Listing) (known : Known) (place : ℕ) (stack : Li
     (test : Expr) (t : Term) (body : Block) : Type 0 where
   pub slots : SlotCounts
   pub start : ℕ
-  pub under_way : IsUnderWay known ty.Truth t stack
-  pub fits : NumberFits known (term_of test) ty.Truth
+  pub under_way : IsUnderWay known types.Truth t stack
+  pub fits : NumberFits known (term_of test) types.Truth
   pub test_code : List Instr
   pub test_is : test_code ≡ expr_code known line test
   pub body_code : List Instr
@@ -430,7 +436,7 @@ pub record TurnStands (code : Listing) (known : Known) (place : ℕ) (stack : Li
 -- NULL or a local reference is returned
 abbrev pub ReferenceReturned : Listing → Known → (place : ℕ) → Term → Type 0
 ReferenceReturned code known place t =
-    ((t ≡ term.Named tree.Null) × (slice_get code.instrs place ≡ Some (instr.ReturnReference Null)))
+    ((t ≡ term.Named constants.Null) × (slice_get code.instrs place ≡ Some (instr.ReturnReference Null)))
     ⊎ ((x : Identifier) × (i : ℕ) × (t ≡ Read x) × (lookup x known ≡ Some (record { ty = Ref; index = i }))
     × (slice_get code.instrs place ≡ Some (instr.ReturnReference (Local i))))
 

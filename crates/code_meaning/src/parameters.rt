@@ -3,7 +3,6 @@
 ghost use Rattle.std.specs.Prelude.{◌≡◌, [], ◌∷◌, List, length, zip, IfSome, IfNone};
 ghost use Rattle.syntax.specs.Tree.{Argument};
 ghost use Rattle.jni.specs.JniFunction.{parameters_for};
-ghost use Rattle.jni.specs.Table.{function_value, parameter_value};
 ghost use Rattle.code_meaning.specs.Arguments.{paired};
 
 use jni::{JniFunction, ParameterKind};
@@ -20,7 +19,7 @@ impl Parameters {
     /// Those of all arguments of a call.
     #[tactic(auto, using(crate::proofs::Given::paired_alike))]
     pub fn of(function: JniFunction) -> Parameters
-        ensures { (arguments : List Argument) → paired result arguments ≡ zip (parameters_for (function_value function) (length arguments)) arguments }
+        ensures { (arguments : List Argument) → paired result arguments ≡ zip (parameters_for function (length arguments)) arguments }
     {
         Parameters {
             own: function.prototype().parameters,
@@ -31,7 +30,7 @@ impl Parameters {
     /// The kind of the first, and those after it.
     pub fn first(self) -> Option<(ParameterKind, Parameters)>
         ensures some { IfSome result (λ f. (a : Argument) (arguments : List Argument)
-            → paired self (a ∷ arguments) ≡ (parameter_value f.0, a) ∷ paired f.1 arguments) }
+            → paired self (a ∷ arguments) ≡ (f.0, a) ∷ paired f.1 arguments) }
         ensures none { IfNone result ((arguments : List Argument) → paired self arguments ≡ []) }
     {
         match self.own {

@@ -1,6 +1,8 @@
 -- The functions that call a method.
 use Rattle.std.proofs.Common.{◌≡◌, true, length, refl}
-use Rattle.jni.specs.JniFunction.{JniFunction, CallStaticVoidMethod, CallStaticIntMethod, CallStaticObjectMethod, calls_method, prototype}
+use Rattle.jni.specs.declared.function.JniFunction.{JniFunction}
+use Rattle.jni.specs.declared.function.JniFunction.TheVariants.{CallStaticVoidMethod, CallStaticIntMethod, CallStaticObjectMethod}
+use Rattle.jni.specs.JniFunction.{calls_method, prototype}
 
 -- one has two parameters of its own
 pub own_are_two : (f : JniFunction) → calls_method f ≡ true → length (prototype f).parameters ≡ 2

@@ -9,7 +9,8 @@ use Rattle.std.proofs.lemmas.Slice.Eq.{bytes_eq-Decides}
 use Rattle.std.proofs.lemmas.List.FromFn.{get_or-map-range_with_len}
 use Rattle.base.specs.Bytes.{Identifier}
 use Rattle.jni.specs.declared.kinds.Prototype.{Prototype as PrototypeInMemory}
-use Rattle.jni.specs.JniFunction.{JniFunction, prototype, all_functions, function_named}
+use Rattle.jni.specs.declared.function.JniFunction.{JniFunction}
+use Rattle.jni.specs.JniFunction.{prototype, all_functions, function_named}
 use Rattle.jni.specs.Table.{Facts, facts, facts_of, all_rows, has_name}
 
 -- ---- the rows

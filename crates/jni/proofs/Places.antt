@@ -3,10 +3,11 @@ use Rattle.std.proofs.Common.{arith, ◌≡◌, ◌+◌, ◌-◌, ◌≤◌, ℕ
 use Rattle.std.specs.List.{slice_get}
 use Rattle.std.proofs.Math.Seq.{drop-nil}
 use Rattle.std.proofs.lemmas.List.{drop-take}
-use Rattle.base.specs.Element.{ElementType}
-use Rattle.jni.specs.Access.{ElementsCopy}
+use Rattle.base.specs.declared.element.ElementType.{ElementType}
+use Rattle.jni.specs.declared.access.Access.TheVariants.{ElementsCopy}
 use Rattle.jni.specs.Table.{Facts, all_rows}
-use Rattle.jni.specs.JniFunction.{JniFunction, all_functions, typed_functions, access_functions}
+use Rattle.jni.specs.declared.function.JniFunction.{JniFunction}
+use Rattle.jni.specs.JniFunction.{all_functions, typed_functions, access_functions}
 
 -- what is at a place of a part of a list, is in the list too
 in_front : {A : Type 0} (xs : List A) (m k : ℕ) (f : A) → slice_get (take m xs) k ≡ Some f → slice_get xs k ≡ Some f

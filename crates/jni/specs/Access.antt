@@ -1,11 +1,8 @@
 -- How a buffer comes to an array's elements or a string's units.
 use Rattle.std.specs.Prelude.{Bool, true, false}
-use Rattle.base.specs.Element.{ElementType, same_element}
-
--- as a copy or as a view of them
-pub data Access : Type 0 where
-  ElementsCopy : ElementType → Access
-  ArrayView CharsCopy CharsView : Access
+use Rattle.base.specs.Element.{same_element}
+use Rattle.jni.specs.declared.access.Access.{Access}
+use Rattle.jni.specs.declared.access.Access.TheVariants.{ElementsCopy, ArrayView, CharsCopy, CharsView}
 
 -- whether a buffer is a view of the object itself
 abbrev pub is_critical : Access → Bool

@@ -1,11 +1,8 @@
 -- What a function of the JNI does to buffers, references and frames.
-use Rattle.jni.specs.Access.{Access}
-use Rattle.jni.specs.JniFunction.{JniFunction, GetBuffer, ReleaseBuffer, DeleteLocalRef, PopLocalFrame}
-
--- the functions that the rules on paths know apart
-pub data StateEffect : Type 0 where
-  Gets Releases : Access → StateEffect
-  Deletes Pops Other : StateEffect
+use Rattle.jni.specs.declared.function.JniFunction.{JniFunction}
+use Rattle.jni.specs.declared.function.JniFunction.TheVariants.{DeleteLocalRef, PopLocalFrame, GetBuffer, ReleaseBuffer}
+use Rattle.jni.specs.declared.kinds.StateEffect.{StateEffect}
+use Rattle.jni.specs.declared.kinds.StateEffect.TheVariants.{Gets, Releases, Deletes, Pops, Other}
 
 -- what a function does
 abbrev pub state_effect : JniFunction → StateEffect

@@ -1,9 +1,8 @@
 //! How a buffer comes to an array's elements or a string's units.
 
 ghost use Rattle.std.specs.Prelude.{◌≡◌};
-ghost use Rattle.base.specs.Element.{same_element, element_value};
+ghost use Rattle.base.specs.Element.{same_element};
 ghost use Rattle.jni.specs.Access.{is_critical, same_access};
-ghost use Rattle.jni.specs.Table.{access_value};
 
 use base::ElementType;
 
@@ -23,14 +22,14 @@ pub enum Access {
 impl Access {
     /// Whether a buffer of this access is a view of the object itself.
     pub fn is_critical(self) -> bool
-        ensures { result ≡ is_critical (access_value self) }
+        ensures { result ≡ is_critical self }
     {
         matches!(self, Access::ArrayView | Access::CharsView)
     }
 
     /// Whether two accesses are the same.
     pub fn is_same(self, other: Access) -> bool
-        ensures { result ≡ same_access (access_value self) (access_value other) }
+        ensures { result ≡ same_access self other }
     {
         match self {
             Access::ElementsCopy(t) => match other {
@@ -46,7 +45,7 @@ impl Access {
 
 /// Whether two element types are the same.
 pub fn is_same_element(a: ElementType, b: ElementType) -> bool
-    ensures { result ≡ same_element (element_value a) (element_value b) }
+    ensures { result ≡ same_element a b }
 {
     a == b
 }

@@ -2,9 +2,8 @@
 
 ghost use Rattle.std.specs.Prelude.{◌≡◌, ◌<◌, ◌≤◌, ◌-◌, [], Some, length, map, find, get_or, take, drop, slice_get};
 ghost use Rattle.std.specs.Option.{option_map};
-ghost use Rattle.base.specs.Element.{element_value};
 ghost use Rattle.jni.specs.JniFunction.{access_functions, all_functions, calls_method, function_named, typed_functions};
-ghost use Rattle.jni.specs.Table.{access_value, all_rows, facts, facts_of, function_value, functions_value, has_name};
+ghost use Rattle.jni.specs.Table.{all_rows, facts, facts_of, has_name, listed};
 
 use crate::access::Access;
 use crate::access::Access::{ArrayView, CharsCopy, CharsView, ElementsCopy};
@@ -224,7 +223,7 @@ static METHOD_ROWS: [Prototype; 4] = rows! {
 
 /// The number of the first function of an element type in the table, each of which has nine.
 fn typed_number(element: ElementType) -> usize
-    ensures { take 9 (drop result all_functions) ≡ typed_functions (element_value element) }
+    ensures { take 9 (drop result all_functions) ≡ typed_functions element }
 {
     match element {
         ElementType::Int => 37,
@@ -236,7 +235,7 @@ fn typed_number(element: ElementType) -> usize
 
 /// The number of the function of an access that gets a buffer, after which comes the one that releases it.
 fn buffer_number(access: Access) -> usize
-    ensures { take 2 (drop result all_functions) ≡ access_functions (access_value access) }
+    ensures { take 2 (drop result all_functions) ≡ access_functions access }
 {
     match access {
         Access::ElementsCopy(element) => typed_number(element) + 7,
@@ -356,7 +355,7 @@ fn row(number: usize) -> &'static Prototype
 impl JniFunction {
     /// The function's place in the table.
     fn number(self) -> usize
-        ensures { slice_get all_functions result ≡ Some (function_value self) }
+        ensures { slice_get all_functions result ≡ Some self }
     {
         match self {
             JniFunction::FindClass => 0,
@@ -414,7 +413,7 @@ impl JniFunction {
 
     /// What the table says of the function.
     pub fn prototype(self) -> &'static Prototype
-        ensures { facts result.now ≡ facts_of (function_value self) }
+        ensures { facts result.now ≡ facts_of self }
     {
         row(self.number())
     }
@@ -422,7 +421,7 @@ impl JniFunction {
     /// Whether the function calls a method, which is given the arguments after the class and the method ID (JNI
     /// Specification, chapter 4, Calling Static Methods).
     pub fn calls_method(self) -> bool
-        ensures { result ≡ calls_method (function_value self) }
+        ensures { result ≡ calls_method self }
     {
         matches!(
             self,
@@ -434,7 +433,7 @@ impl JniFunction {
 
     /// Whether this is the function's name.
     fn is_named(self, name: &[u8]) -> bool
-        ensures { result ≡ has_name name.now (function_value self) }
+        ensures { result ≡ has_name name.now self }
     {
         self.prototype().name == name
     }
@@ -552,7 +551,7 @@ static BY_LENGTH: [&[JniFunction]; 32] = [
 
 /// The first of the functions that has a name.
 fn first_named(mut functions: &[JniFunction], name: &[u8]) -> Option<JniFunction>
-    ensures { option_map function_value result ≡ find (has_name name.now) (map function_value functions.entry.now) }
+    ensures { result ≡ find (has_name name.now) functions.entry.now }
 {
     while let [function, rest @ ..] = functions {
         if function.is_named(name) {
@@ -566,14 +565,14 @@ fn first_named(mut functions: &[JniFunction], name: &[u8]) -> Option<JniFunction
 /// The function of a name among those of a length.
 fn named_at(table: &[&[JniFunction]], place: usize, name: &[u8]) -> Option<JniFunction>
     requires { place < length table.now }
-    ensures { option_map function_value result ≡ find (has_name name.now) (get_or (map functions_value table.now) place []) }
+    ensures { result ≡ find (has_name name.now) (get_or (map listed table.now) place []) }
 {
     first_named(table[place], name)
 }
 
 /// The function of a name. It is looked for among those whose names are as long.
 pub fn function_named(name: &[u8]) -> Option<JniFunction>
-    ensures { option_map function_value result ≡ function_named name.now }
+    ensures { result ≡ function_named name.now }
 {
     named_at(&BY_LENGTH, name.len() % 32, name)
 }

@@ -2,7 +2,6 @@
 
 ghost use Rattle.std.specs.Prelude.{◌≡◌};
 ghost use Rattle.jni.specs.Subjects.{subject_of};
-ghost use Rattle.jni.specs.Table.{function_value};
 
 use crate::function::JniFunction;
 
@@ -33,7 +32,7 @@ impl JniFunction {
     /// What the function works on.
     #[inline]
     pub fn subject(self) -> Subject
-        ensures { result ≡ subject_of (function_value self) }
+        ensures { result ≡ subject_of self }
     {
         match self {
             JniFunction::NewLocalRef | JniFunction::NewGlobalRef => Subject::References,

@@ -8,8 +8,13 @@ use Rattle.std.proofs.lemmas.Bool.{or_parts}
 use Rattle.base.specs.Bytes.{Identifier, lookup}
 use Rattle.syntax.specs.Limits.{numbers_in_range, block_height, block_well_formed, IsTree}
 use Rattle.syntax.specs.Parts.{functions_of, statements_of, own_expressions, parameter_names}
-use Rattle.syntax.specs.Tree.{ParameterType, IntParameter, ReferenceParameter, Parameter, Function, Void, Item, StaticItem, FunctionItem, SourceUnit}
-use Rattle.type_rules.specs.ExprTypes.{ExprType, Jint, Ref, Global, Weak, Scope}
+use Rattle.syntax.specs.declared.declared_type.ParameterType.{ParameterType}
+use Rattle.syntax.specs.declared.declared_type.ParameterType.TheVariants.{Jint as IntParameter, Reference as ReferenceParameter}
+use Rattle.syntax.specs.declared.unit.ResultType.TheVariants.{Void}
+use Rattle.syntax.specs.Tree.{Parameter, Function, Item, StaticItem, FunctionItem, SourceUnit}
+use Rattle.type_rules.specs.declared.ty.ExprType.{ExprType}
+use Rattle.type_rules.specs.declared.ty.ExprType.TheVariants.{Jint, Ref, Global, Weak}
+use Rattle.type_rules.specs.ExprTypes.{Scope}
 use Rattle.type_rules.specs.TypeRules.{IsWellTyped, Place, StaticForm, HeadForm, has_name, has_repeated, parameter_type, places_of, function_places, item_places, static_type}
 use Rattle.code.specs.declared.instr.Instr.TheVariants as instr
 use Rattle.region_rules.specs.Regions.{AcceptedFunction, HasRegions}

@@ -7,10 +7,12 @@ use Rattle.std.proofs.lemmas.List.{append-nil}
 use Rattle.std.proofs.lemmas.Bool.{ltb-true, ltb-false, lt-ltb}
 use Rattle.std.proofs.lemmas.Option.{slice_get_within}
 use Rattle.base.specs.Bytes.{Identifier, lookup}
-use Rattle.base.specs.Element.{ElementType}
-use Rattle.syntax.specs.Tree.{Expr, Block, BitOr}
-use Rattle.type_rules.specs.ExprTypes.{ExprType, Jint, Ref, Buffer, Array}
-use Rattle.type_rules.specs.ExprTypes as ty
+use Rattle.base.specs.declared.element.ElementType.{ElementType}
+use Rattle.syntax.specs.declared.expr.BinaryOp.TheVariants.{BitOr}
+use Rattle.syntax.specs.Tree.{Expr, Block}
+use Rattle.type_rules.specs.declared.ty.ExprType.{ExprType}
+use Rattle.type_rules.specs.declared.ty.ExprType.TheVariants.{Jint, Ref, Buffer, Array}
+use Rattle.type_rules.specs.declared.ty.ExprType.TheVariants as types
 use Rattle.type_rules.specs.TypeGroups.{IsIndexType}
 use Rattle.code.specs.declared.instr.ReferenceOperand.TheVariants.{Null, Local}
 use Rattle.code.specs.declared.instr.Instr.TheVariants as instr
@@ -25,7 +27,8 @@ use Rattle.semantics.specs.Sight.{in_range}
 use Rattle.semantics.specs.Task.{Task, SetScalar, SetElement, SetNull, MakeArray, Invoke, Print, Branch, EndIf, Loop, EndTurn, Return, ReturnValue, Impossible, tasks_of}
 use Rattle.semantics.specs.Term as term
 use Rattle.semantics.specs.Term.{Term, Done, term_of}
-use Rattle.semantics.specs.Value.{Value, Word, Int, Truth, OutOfRange, Gives, Traps}
+use Rattle.semantics.specs.declared.trap.Trap.TheVariants.{OutOfRange}
+use Rattle.semantics.specs.Value.{Value, Word, Int, Truth, Gives, Traps}
 use Rattle.semantics.specs.Variable as variable
 use Rattle.code_meaning.specs.Layout.{Slot, Known, Layout}
 use Rattle.code_meaning.specs.Coding.{element_of, write_code, term_code, paths_code, turn_code, block_code}
@@ -146,7 +149,7 @@ module _ (code : Listing) (known : Known) (place : ℕ) (stack : List ℕ) (slot
   branch_step line (Done v) then' else' rest h = elim (value_type h.stand.test.ty) [ ]
   branch_step line t then' else' rest h =
       let d = h.stand in
-      step_inside code known place stack slots visible shows sees line t ty.Truth [] (paths_code d.then_code (d.else_code ++ instr.Jump 0 ∷ [])) (λ u. Branch line u then' else') rest tt d.test.ty d.test.begun (d.test.operands ∙ sym (append-nil (held t))) d.at (λ u. h.returns)
+      step_inside code known place stack slots visible shows sees line t types.Truth [] (paths_code d.then_code (d.else_code ++ instr.Jump 0 ∷ [])) (λ u. Branch line u then' else') rest tt d.test.ty d.test.begun (d.test.operands ∙ sym (append-nil (held t))) d.at (λ u. h.returns)
       (λ p u well_typed begun at size.
       let first : place + length (term_code known line t) + 1 ≡ p + length (term_code known line u) + 1 = omega (arith, size) in
       let second : place + length (term_code known line t) + 1 + length d.then_code + 1 ≡ p + length (term_code known line u) + 1 + length d.then_code + 1 = omega (arith, size) in
@@ -174,7 +177,7 @@ module _ (code : Listing) (known : Known) (place : ℕ) (stack : List ℕ) (slot
       subst (λ n. TasksStand code known n [] (Loop line test (term_of test) body ∷ rest)) (sym same) (record {
         slots = d.slots;
         start = d.start;
-        under_way = number_begins known (term_of test) ty.Truth d.fits;
+        under_way = number_begins known (term_of test) types.Truth d.fits;
         fits = d.fits;
         test_code = d.test_code;
         test_is = d.test_is;
@@ -246,7 +249,7 @@ module _ (code : Listing) (known : Known) (place : ℕ) (stack : List ℕ) (slot
   loop_step line test (Done v) body rest h = elim (value_type h.stand.under_way.ty) [ ]
   loop_step line test t body rest h =
       let d = h.stand in
-      step_inside code known place stack slots visible shows sees line t ty.Truth [] [] (λ u. Loop line test u body) rest tt d.under_way.ty d.under_way.begun (d.under_way.operands ∙ sym (append-nil (held t)))
+      step_inside code known place stack slots visible shows sees line t types.Truth [] [] (λ u. Loop line test u body) rest tt d.under_way.ty d.under_way.begun (d.under_way.operands ∙ sym (append-nil (held t)))
       (subst (HasAt code.instrs place) (sym (append-nil (term_code known line t))) d.here) (λ u. h.returns)
       (λ p u well_typed begun at size. record {
         slots = d.slots;

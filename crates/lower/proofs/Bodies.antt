@@ -6,14 +6,25 @@ use Rattle.std.specs.Prelude.{zip}
 use Rattle.std.specs.List.{AllZip}
 use Rattle.std.proofs.Common.{◌≡◌, ℕ, ◌+◌, ◌⊎◌, inl, inr, Bool, true, false, List, [], ◌∷◌, ◌++◌, length, Option, Some, refl, sym, ap, ◌∙◌, subst, arith, length-append, map, suc}
 use Rattle.base.specs.Bytes.{Identifier, lookup}
-use Rattle.base.specs.Element.{ElementType, JChar}
+use Rattle.base.specs.declared.element.ElementType.{ElementType}
+use Rattle.base.specs.declared.element.ElementType.TheVariants.{Char as JChar}
 use Rattle.syntax.specs.Tree as tree
-use Rattle.syntax.specs.Tree.{Expr, Argument, RightSide, FromExpr, FromCall, Test, TestExpr, TestCall, Stmt, Block, End, Next, VariableType, BitOr, Call}
-use Rattle.jni.specs.Access.{Access, ElementsCopy, ArrayView, CharsCopy, CharsView}
+use Rattle.syntax.specs.declared.declared_type.VariableType.TheVariants as variables
+use Rattle.syntax.specs.declared.expr.Constant.TheVariants as constants
+use Rattle.syntax.specs.declared.declared_type.VariableType.{VariableType}
+use Rattle.syntax.specs.declared.expr.BinaryOp.TheVariants.{BitOr}
+use Rattle.syntax.specs.Tree.{Expr, Argument, RightSide, FromExpr, FromCall, Test, TestExpr, TestCall, Stmt, Block, End, Next, Call}
+use Rattle.jni.specs.declared.access.Access.{Access}
+use Rattle.jni.specs.declared.access.Access.TheVariants.{ElementsCopy, ArrayView, CharsCopy, CharsView}
 use Rattle.jni.specs.JniFunction.{function_named, prototype, parameters_for}
-use Rattle.jni.specs.Prototype.{ParameterKind, LocalVariable, StaticVariable, FieldID, MethodID, Passed, IntNumber, TextBytes, ArrayVariable, BufferVariable, Mode, IsCopy, ResultKind, NewLocal, NewGlobal, GivesFlag, GivesInt, GivesField, GivesMethod, GivesBuffer, GivesNothing, AnyReference, WeakVariable, NewWeak}
-use Rattle.type_rules.specs.ExprTypes.{ExprType, Jint, Ref, Global, Weak, FieldId, MethodId, Buffer, Array, is_buffer_for}
-use Rattle.type_rules.specs.ExprTypes as ty
+use Rattle.jni.specs.declared.kinds.ParameterKind.{ParameterKind}
+use Rattle.jni.specs.declared.kinds.ParameterKind.TheVariants.{LocalVariable, StaticVariable, FieldID, MethodID, Passed, IntNumber, TextBytes, ArrayVariable, BufferVariable, Mode, IsCopy, AnyReference, WeakVariable}
+use Rattle.jni.specs.declared.kinds.ResultKind.{ResultKind}
+use Rattle.jni.specs.declared.kinds.ResultKind.TheVariants.{NewLocal, NewGlobal, GivesFlag, GivesInt, GivesField, GivesMethod, GivesBuffer, GivesNothing, NewWeak}
+use Rattle.type_rules.specs.declared.ty.ExprType.{ExprType}
+use Rattle.type_rules.specs.declared.ty.ExprType.TheVariants.{Jint, Ref, Global, Weak, FieldId, MethodId, Buffer, Array}
+use Rattle.type_rules.specs.ExprTypes.{is_buffer_for}
+use Rattle.type_rules.specs.declared.ty.ExprType.TheVariants as types
 use Rattle.type_rules.specs.TypeRules.{variable_type}
 use Rattle.type_rules.specs.TypeGroups.{IsNumberType}
 use Rattle.type_rules.proofs.CallParameters.{parameters_count}
@@ -46,11 +57,11 @@ number_begins known t s h = record { ty = h.ty; begun = untouched_begun t h.unto
 
 -- a number for a variable is worked out before the variable is set
 set_is : (known : Known) (line : ℕ) (target : Target) (x : Identifier) (e : Expr) (s : ExprType) → NumberFits known (term_of e) s → set_task line target x e ≡ SetScalar line x (term_of e)
-set_is known line target x (tree.Named tree.Null) s h = elim h.ty [ ]
+set_is known line target x (tree.Named constants.Null) s h = elim h.ty [ ]
 set_is known line target x e s h = refl
 
 pub value_is : (known : Known) (line : ℕ) (slot : Slot) (e : Expr) (s : ExprType) → NumberFits known (term_of e) s → value_code known line slot e ≡ expr_code known line e ++ instr.Store slot.index ∷ []
-value_is known line slot (tree.Named tree.Null) s h = elim h.ty [ ]
+value_is known line slot (tree.Named constants.Null) s h = elim h.ty [ ]
 value_is known line slot e s h = refl
 
 -- a buffer for an access is a buffer
@@ -78,7 +89,7 @@ module _ (code : Listing) (known : Known) (line place : ℕ) (tail : List Task) 
         further = (names, among, subst (λ p. TasksStand code names p [] tail) size further);
       })
 
-  null_set : (target : Target) (x : Identifier) (slot : Slot) (e : Expr) (variable : NullableVariable) (names : Known) → e ≡ tree.Named tree.Null → nullable_of slot.ty slot.index ≡ Some variable → target_name target ≡ Some x → GoesTo known slot target → HasAt code.instrs place (value_code known line slot e)
+  null_set : (target : Target) (x : Identifier) (slot : Slot) (e : Expr) (variable : NullableVariable) (names : Known) → e ≡ tree.Named constants.Null → nullable_of slot.ty slot.index ≡ Some variable → target_name target ≡ Some x → GoesTo known slot target → HasAt code.instrs place (value_code known line slot e)
       → IsSlotOf code known x slot → AreAmong names ((x, slot) ∷ known) → TasksStand code names (place + length (value_code known line slot e)) [] tail → TasksStand code known place [] (set_task line target x e ∷ tail)
   null_set target x slot e variable names null same name goes at own among further =
       let is : value_code known line slot e ≡ instr.StoreNull variable ∷ [] = ap (λ (d : Expr). value_code known line slot d) null ∙ ap store_of same in
@@ -99,10 +110,10 @@ module _ (code : Listing) (known : Known) (line place : ℕ) (tail : List Task) 
 
   value_set : (target : Target) (x : Identifier) (kind : ExprType) (i : ℕ) (e : Expr) (names : Known) → ValueFits known kind e → target_name target ≡ Some x → GoesTo known (record { ty = kind; index = i }) target → HasAt code.instrs place (value_code known line (record { ty = kind; index = i }) e) → IsSlotOf code known x (record { ty = kind; index = i })
       → AreAmong names ((x, record { ty = kind; index = i }) ∷ known) → TasksStand code names (place + length (value_code known line (record { ty = kind; index = i }) e)) [] tail → TasksStand code known place [] (set_task line target x e ∷ tail)
-  value_set target x ty.Word i e names fits name goes at own among further = number_set target x (record { ty = ty.Word; index = i }) e names tt fits at own among further
+  value_set target x types.Word i e names fits name goes at own among further = number_set target x (record { ty = types.Word; index = i }) e names tt fits at own among further
   value_set target x Jint i e names fits name goes at own among further = number_set target x (record { ty = Jint; index = i }) e names tt fits at own among further
-  value_set target x ty.Flag i e names fits name goes at own among further = number_set target x (record { ty = ty.Flag; index = i }) e names tt fits at own among further
-  value_set target x ty.Truth i e names fits name goes at own among further = absurd fits
+  value_set target x types.Flag i e names fits name goes at own among further = number_set target x (record { ty = types.Flag; index = i }) e names tt fits at own among further
+  value_set target x types.Truth i e names fits name goes at own among further = absurd fits
   value_set target x Ref i e names fits name goes at own among further = null_set target x (record { ty = Ref; index = i }) e (nullable.Local i) names fits refl name goes at own among further
   value_set target x Global i e names fits name goes at own among further = null_set target x (record { ty = Global; index = i }) e (nullable.Static i) names fits refl name goes at own among further
   value_set target x Weak i e names fits name goes at own among further = null_set target x (record { ty = Weak; index = i }) e (nullable.Static i) names fits refl name goes at own among further
@@ -126,7 +137,7 @@ module _ (code : Listing) (known : Known) (line place : ℕ) (tail : List Task) 
 
   -- a reference of any kind is found there too
   any_found : (e : Expr) → AnyReferenceFits known e → OperandStands known (operand_code known (AnyReference, tree.Value e)) (AnyReference, operand (AnyReference, tree.Value e))
-  any_found (tree.Named tree.Null) h = record { kind = tt; is = refl }
+  any_found (tree.Named constants.Null) h = record { kind = tt; is = refl }
   any_found (tree.Variable x) (s, found, inl e) = local_stands AnyReference x s.index tt (found ∙ ap (λ (r : ExprType). Some (record { ty = r; index = s.index })) e)
   any_found (tree.Variable x) (s, found, inr is) = static_stands AnyReference x s.ty s.index is tt found
   any_found e h = absurd h
@@ -146,7 +157,7 @@ module _ (code : Listing) (known : Known) (line place : ℕ) (tail : List Task) 
   reference_found StaticVariable e local global plain h = absurd local
   reference_found WeakVariable e local global plain h = absurd local
   reference_found LocalVariable e local global plain h = absurd global
-  reference_found p (tree.Named tree.Null) local global plain h = record { kind = local; is = refl }
+  reference_found p (tree.Named constants.Null) local global plain h = record { kind = local; is = refl }
   reference_found p (tree.Variable x) local global plain h = reference_stands p x h.0 local global h.1 h.2
   reference_found p e local global plain h = absurd h
 
@@ -166,12 +177,12 @@ module _ (code : Listing) (known : Known) (line place : ℕ) (tail : List Task) 
   number_found e h = inl (record { kind = inl refl; term = term_of e; is = refl; ty = h.ty })
 
   field_found : (e : Expr) → FieldFits known e → OperandStands known (operand_code known (FieldID, tree.Value e)) (FieldID, Given (tree.Value e))
-  field_found (tree.Named tree.Null) h = record { kind = tt; is = refl }
+  field_found (tree.Named constants.Null) h = record { kind = tt; is = refl }
   field_found (tree.Variable x) h = subst (λ o. OperandStands known (operand_of o) (FieldID, Given (tree.Value (tree.Variable x)))) (sym h.1) (x, refl, refl, h.1)
   field_found e h = absurd h
 
   method_found : (e : Expr) → MethodFits known e → OperandStands known (operand_code known (MethodID, tree.Value e)) (MethodID, Given (tree.Value e))
-  method_found (tree.Named tree.Null) h = record { kind = tt; is = refl }
+  method_found (tree.Named constants.Null) h = record { kind = tt; is = refl }
   method_found (tree.Variable x) h = subst (λ o. OperandStands known (operand_of o) (MethodID, Given (tree.Value (tree.Variable x)))) (sym h.1) (x, refl, refl, h.1)
   method_found e h = absurd h
 
@@ -191,7 +202,7 @@ module _ (code : Listing) (known : Known) (line place : ℕ) (tail : List Task) 
       subst (λ o. OperandStands known (passed_variable o) (Passed, PassedName x)) (sym there) (x, tt, refl, (Global, tt, there))
 
   passed_found : (e : Expr) → PassedFits known e → OperandStands known (passed_code known e) (Passed, passed_operand e)
-  passed_found (tree.Named tree.Null) h = record { kind = tt; is = refl }
+  passed_found (tree.Named constants.Null) h = record { kind = tt; is = refl }
   passed_found (tree.Variable x) h = passed_name x h.0 h.1 h.2
   passed_found e h = inl (record { kind = inr refl; term = term_of e; is = refl; ty = h.ty })
 
@@ -208,7 +219,7 @@ module _ (code : Listing) (known : Known) (line place : ℕ) (tail : List Task) 
       (record { access = access; kind = refl; name = x; is = refl; type = is.0; writable = is.1; there = there })
   buffer_found access e h = absurd h
 
-  address_found : (x : Identifier) → (h : IsVariable known x ty.Flag) → OperandStands known (address_operand (lookup x known)) (IsCopy, Given (tree.AddressOf x))
+  address_found : (x : Identifier) → (h : IsVariable known x types.Flag) → OperandStands known (address_operand (lookup x known)) (IsCopy, Given (tree.AddressOf x))
   address_found x h = subst (λ o. OperandStands known (address_operand o) (IsCopy, Given (tree.AddressOf x))) (sym h.1) (record { kind = refl; name = x; is = refl; there = h.1 })
 
   argument_found : (p : ParameterKind) (a : Argument) → ArgumentFits known p a → OperandStands known (operand_code known (p, a)) (p, operand (p, a))
@@ -239,7 +250,7 @@ module _ (code : Listing) (known : Known) (line place : ℕ) (tail : List Task) 
 
   -- its code is what is to be worked out
   passed_same : (e : Expr) → passed_rest known line e ≡ operand_rest known line (passed_operand e)
-  passed_same (tree.Named tree.Null) = refl
+  passed_same (tree.Named constants.Null) = refl
   passed_same (tree.Variable x) = refl
   passed_same e = refl
 
@@ -258,7 +269,7 @@ module _ (code : Listing) (known : Known) (line place : ℕ) (tail : List Task) 
 
   -- no number of it has its value yet
   passed_untouched : (e : Expr) (operands : List Operand) → PassedFits known e → AreUntouched operands → AreUntouched (passed_operand e ∷ operands)
-  passed_untouched (tree.Named tree.Null) operands h more = more
+  passed_untouched (tree.Named constants.Null) operands h more = more
   passed_untouched (tree.Variable x) operands h more = more
   passed_untouched e operands h more = (h.untouched, more)
 
@@ -278,7 +289,7 @@ module _ (code : Listing) (known : Known) (line place : ℕ) (tail : List Task) 
 
   -- its texts are those of its arguments
   passed_text : (e : Expr) → [] ≡ operand_text (passed_operand e)
-  passed_text (tree.Named tree.Null) = refl
+  passed_text (tree.Named constants.Null) = refl
   passed_text (tree.Variable x) = refl
   passed_text e = refl
 
@@ -366,7 +377,7 @@ module _ (code : Listing) (known : Known) (line place : ℕ) (tail : List Task) 
 
   result_comes : (p i : ℕ) (gives : ResultKind) (target : Target) (x : Identifier) (s : ExprType) → target_name target ≡ Some x → ResultFits s gives → ResultComes p i gives target x s
   result_comes p i GivesInt target x s name e = subst (ResultComes p i GivesInt target x) (sym e) (λ goes stands. (Jint, refl, result_goes p ScalarKind (record { ty = Jint; index = i }) target x refl name goes stands))
-  result_comes p i GivesFlag target x s name e = subst (ResultComes p i GivesFlag target x) (sym e) (λ goes stands. (ty.Flag, refl, result_goes p ScalarKind (record { ty = ty.Flag; index = i }) target x refl name goes stands))
+  result_comes p i GivesFlag target x s name e = subst (ResultComes p i GivesFlag target x) (sym e) (λ goes stands. (types.Flag, refl, result_goes p ScalarKind (record { ty = types.Flag; index = i }) target x refl name goes stands))
   result_comes p i NewLocal target x s name e = subst (ResultComes p i NewLocal target x) (sym e) (λ goes stands. (refl, result_goes p ReferenceKind (record { ty = Ref; index = i }) target x refl name goes stands))
   result_comes p i NewGlobal target x s name e = subst (ResultComes p i NewGlobal target x) (sym e) (λ goes stands. (tt, static_goes p i Global target x tt name goes stands))
   result_comes p i NewWeak target x s name e = subst (ResultComes p i NewWeak target x) (sym e) (λ goes stands. (tt, static_goes p i Weak target x tt name goes stands))
@@ -400,7 +411,7 @@ StmtBegins code s =
 -- the code of both branches of an `if` after its test
 branch_stands : (code : Listing) (line : ℕ) (t : Term) (stack : List ℕ) (then' else' : Block) (l : Layout) (slots_else : _) (place : ℕ) (tail : List Task)
     → HasAt code.instrs place (term_code l.known line t ++ paths_code (block_code l then') (block_code (record { known = l.known; slots = slots_else }) else' ++ instr.Jump 0 ∷ []))
-    → IsUnderWay l.known ty.Truth t stack → BlockFits l then' → BlockFits (record { known = l.known; slots = slots_else }) else' → IsLaidOut l.known l.slots → IsLaidOut l.known slots_else
+    → IsUnderWay l.known types.Truth t stack → BlockFits l then' → BlockFits (record { known = l.known; slots = slots_else }) else' → IsLaidOut l.known l.slots → IsLaidOut l.known slots_else
     → HasRoomFor code.slots (block_layout l then').slots → HasRoomFor code.slots (block_layout (record { known = l.known; slots = slots_else }) else').slots
     → TasksStand code l.known (place + length (term_code l.known line t ++ paths_code (block_code l then') (block_code (record { known = l.known; slots = slots_else }) else' ++ instr.Jump 0 ∷ []))) [] tail
     → TasksStand code l.known place stack (Branch line t then' else' ∷ tail)
@@ -429,7 +440,7 @@ branch_stands code line t stack then' else' l slots_else place tail at test fits
 -- a function gives a `jint` where a variable of that type could take what it gives
 jint_given : (gives : ResultKind) → ResultFits Jint gives → gives ≡ GivesInt
 jint_given GivesInt e = refl
-jint_given GivesFlag e = absurd (let c : Jint ≡ ty.Flag = e in cc)
+jint_given GivesFlag e = absurd (let c : Jint ≡ types.Flag = e in cc)
 jint_given NewLocal e = absurd (let c : Jint ≡ Ref = e in cc)
 jint_given NewGlobal e = absurd (let c : Jint ≡ Global = e in cc)
 jint_given NewWeak e = absurd (let c : Jint ≡ Weak = e in cc)
@@ -444,7 +455,7 @@ if_stands : (code : Listing) (line : ℕ) (test : Test) (then' else' : Block) (l
     → HasRoomFor code.slots (block_layout l then').slots → HasRoomFor code.slots (block_layout (record { known = l.known; slots = slots_else }) else').slots
     → TasksStand code l.known (place + length (if_code l.known line test (block_code l then') (block_code (record { known = l.known; slots = slots_else }) else'))) [] tail
     → TasksStand code l.known place [] (if_task line test then' else' ∷ tail)
-if_stands code line (TestExpr e) then' else' l slots_else place tail at test fits fits' laid laid' room room' further = branch_stands code line (term_of e) [] then' else' l slots_else place tail at (number_begins l.known (term_of e) ty.Truth test) fits fits' laid laid' room room' further
+if_stands code line (TestExpr e) then' else' l slots_else place tail at test fits fits' laid laid' room room' further = branch_stands code line (term_of e) [] then' else' l slots_else place tail at (number_begins l.known (term_of e) types.Truth test) fits fits' laid laid' room room' further
 if_stands code line (TestCall c) then' else' l slots_else place tail at test fits fits' laid laid' room room' further =
     let T = named_call_code l.known line destination.Test (function_named c.function) c.arguments in
     let W = paths_code (block_code l then') (block_code (record { known = l.known; slots = slots_else }) else' ++ instr.Jump 0 ∷ []) in
@@ -472,7 +483,7 @@ loop_stands code line test body l place tail at fits laid room further =
     record {
       slots = l.slots;
       start = place;
-      under_way = number_begins l.known (term_of test) ty.Truth fits.0;
+      under_way = number_begins l.known (term_of test) types.Truth fits.0;
       fits = fits.0;
       test_code = T;
       test_is = refl;
@@ -525,7 +536,7 @@ element_set_stands code line x i e l place tail at fits laid room further =
     }
 
 returned_stands : (code : Listing) (line : ℕ) (t : Term) (l : Layout) (place : ℕ) (tail : List Task) → HasAt code.instrs place (return_code l.known line t) → ReturnFits l.known t → TasksStand code l.known place [] (ReturnValue line t ∷ tail)
-returned_stands code line (term.Named tree.Null) l place tail at fits = inr (inl (refl, at.0))
+returned_stands code line (term.Named constants.Null) l place tail at fits = inr (inl (refl, at.0))
 returned_stands code line (Read x) l place tail at (s, found, inl e) =
     let there : lookup x l.known ≡ Some (record { ty = Ref; index = s.index }) = found ∙ ap (λ (r : ExprType). Some (record { ty = r; index = s.index })) e in
     let one = subst (HasAt code.instrs place) (ap (of_slot returned_code) there) at in
@@ -538,13 +549,13 @@ returned_stands code line t l place tail at fits = inl (number_begins l.known t 
 
 -- a new variable is of its slot's kind
 declared_goes : (t : VariableType) (x : Identifier) (l : Layout) → GoesTo l.known (new_slot (variable_type t) l) (Declared (kind_of t) x)
-declared_goes tree.UInt32 x l = refl
-declared_goes tree.JIntVariable x l = refl
-declared_goes tree.JSize x l = refl
-declared_goes tree.JBoolean x l = refl
-declared_goes (tree.ReferenceVariable type) x l = refl
-declared_goes tree.JFieldId x l = refl
-declared_goes tree.JMethodId x l = refl
+declared_goes variables.Uint32 x l = refl
+declared_goes variables.Jint x l = refl
+declared_goes variables.Jsize x l = refl
+declared_goes variables.Jboolean x l = refl
+declared_goes (variables.Reference type) x l = refl
+declared_goes variables.JfieldId x l = refl
+declared_goes variables.JmethodId x l = refl
 
 pub stmt_begins : (code : Listing) (s : Stmt) → StmtBegins code s
 stmt_begins code (tree.Declare line t x r) l place tail at fits laid room further =

@@ -4,13 +4,17 @@ use Rattle.std.specs.Cmp.{first_so, second_so}
 use Rattle.std.specs.List.{list_all}
 use Rattle.std.proofs.lemmas.List.Folds.{list_all-append}
 use Rattle.base.specs.Bytes.{Identifier}
-use Rattle.base.specs.Element.{JChar}
+use Rattle.base.specs.declared.element.ElementType.TheVariants.{Char as JChar}
 use Rattle.syntax.specs.Limits.{height, highest, numbers_in_range, statement_height, block_height, is_end, well_formed, block_well_formed}
 use Rattle.syntax.specs.Parts.{statements_of, statements_within, call_of_right_side, own_call, right_side_expressions, own_expressions, names_declared}
 use Rattle.syntax.specs.Tree as tree
-use Rattle.syntax.specs.Tree.{ResultType, RightSide, FromExpr, FromCall, TestExpr, TestCall, Stmt, Block, End, Next}
-use Rattle.type_rules.specs.ExprTypes.{Truth, Buffer, Array}
-use Rattle.jni.specs.JniFunction.{JniFunction, prototype}
+use Rattle.syntax.specs.declared.declared_type.VariableType.TheVariants as variables
+use Rattle.syntax.specs.declared.declared_type.VariableType.{VariableType}
+use Rattle.syntax.specs.declared.unit.ResultType.{ResultType}
+use Rattle.syntax.specs.Tree.{RightSide, FromExpr, FromCall, TestExpr, TestCall, Stmt, Block, End, Next}
+use Rattle.type_rules.specs.declared.ty.ExprType.TheVariants.{Truth, Buffer, Array}
+use Rattle.jni.specs.declared.function.JniFunction.{JniFunction}
+use Rattle.jni.specs.JniFunction.{prototype}
 use Rattle.type_rules.specs.TypeRules.{is_droppable, is_push, may_be_dropped, variable_type, with_declared, places_within, places_of}
 use Rattle.code_meaning.specs.Layout.{Slot, Known, Layout, new_slot, closed, layout_after, block_layout}
 use Rattle.code_meaning.specs.Fits.{StmtFits, BlockFits}
@@ -112,14 +116,14 @@ no_truth_first : (x : Identifier) (slot : Slot) (known : Known) → (slot.ty ≡
 no_truth_first x slot known new h y s at e =
     first_or_after x y slot s known ⊥ (λ same is. new (ap (λ (t : Slot). t.ty) is ∙ e)) (λ other found. h y s found e) at
 
-variable_no_truth : (t : tree.VariableType) → variable_type t ≡ Truth → ⊥
-variable_no_truth tree.UInt32 e = cc
-variable_no_truth tree.JIntVariable e = cc
-variable_no_truth tree.JSize e = cc
-variable_no_truth tree.JBoolean e = cc
-variable_no_truth tree.JFieldId e = cc
-variable_no_truth tree.JMethodId e = cc
-variable_no_truth (tree.ReferenceVariable r) e = cc
+variable_no_truth : (t : VariableType) → variable_type t ≡ Truth → ⊥
+variable_no_truth variables.Uint32 e = cc
+variable_no_truth variables.Jint e = cc
+variable_no_truth variables.Jsize e = cc
+variable_no_truth variables.Jboolean e = cc
+variable_no_truth variables.JfieldId e = cc
+variable_no_truth variables.JmethodId e = cc
+variable_no_truth (variables.Reference r) e = cc
 
 no_truth_after : (s : Stmt) (l : Layout) → HasNoTruth l.known → HasNoTruth (layout_after l s).known
 no_truth_after (tree.Declare line t x r) l h = no_truth_first x (new_slot (variable_type t) l) l.known (variable_no_truth t) h

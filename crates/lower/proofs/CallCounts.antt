@@ -1,7 +1,9 @@
 -- How many arguments an accepted call has.
 use Rattle.std.proofs.Common.{◌≡◌, ℕ, ◌≤◌, true, length, arith}
-use Rattle.jni.specs.Access.{ArrayView, CharsCopy, CharsView, ElementsCopy}
-use Rattle.jni.specs.JniFunction.{JniFunction, FindClass, ReleaseBuffer, prototype, parameters_for, takes_count}
+use Rattle.jni.specs.declared.access.Access.TheVariants.{ArrayView, CharsCopy, CharsView, ElementsCopy}
+use Rattle.jni.specs.declared.function.JniFunction.{JniFunction}
+use Rattle.jni.specs.declared.function.JniFunction.TheVariants.{FindClass, ReleaseBuffer}
+use Rattle.jni.specs.JniFunction.{prototype, parameters_for, takes_count}
 use Rattle.type_rules.proofs.CallParameters.{parameters_count, count_is_few}
 
 few_parameters : (f : JniFunction) → length (prototype f).parameters ≤ 4

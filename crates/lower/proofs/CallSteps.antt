@@ -8,13 +8,20 @@ use Rattle.std.specs.Option.{option_map}
 use Rattle.std.specs.Int.{w32}
 use Rattle.std.proofs.lemmas.Option.{same_Some}
 use Rattle.base.specs.Bytes.{Identifier, lookup}
-use Rattle.base.specs.Element.{ElementType}
+use Rattle.base.specs.declared.element.ElementType.{ElementType}
 use Rattle.syntax.specs.Tree as tree
+use Rattle.syntax.specs.declared.expr.Constant.TheVariants as constants
 use Rattle.syntax.specs.Tree.{Expr}
-use Rattle.jni.specs.JniFunction.{JniFunction, prototype, parameters_for}
-use Rattle.jni.specs.Prototype.{ParameterKind, LocalVariable, StaticVariable, FieldID, MethodID, Passed, ArrayVariable, BufferVariable, Mode, IsCopy, ResultKind, GivesInt, GivesFlag, WeakVariable}
-use Rattle.type_rules.specs.ExprTypes.{ExprType, Jint, Ref, Global, Weak, FieldId, MethodId, Buffer, Array, is_jint}
-use Rattle.type_rules.specs.ExprTypes as ty
+use Rattle.jni.specs.declared.function.JniFunction.{JniFunction}
+use Rattle.jni.specs.JniFunction.{prototype, parameters_for}
+use Rattle.jni.specs.declared.kinds.ParameterKind.{ParameterKind}
+use Rattle.jni.specs.declared.kinds.ParameterKind.TheVariants.{LocalVariable, StaticVariable, FieldID, MethodID, Passed, ArrayVariable, BufferVariable, Mode, IsCopy, WeakVariable}
+use Rattle.jni.specs.declared.kinds.ResultKind.{ResultKind}
+use Rattle.jni.specs.declared.kinds.ResultKind.TheVariants.{GivesInt, GivesFlag}
+use Rattle.type_rules.specs.declared.ty.ExprType.{ExprType}
+use Rattle.type_rules.specs.declared.ty.ExprType.TheVariants.{Jint, Ref, Global, Weak, FieldId, MethodId, Buffer, Array}
+use Rattle.type_rules.specs.ExprTypes.{is_jint}
+use Rattle.type_rules.specs.declared.ty.ExprType.TheVariants as types
 use Rattle.type_rules.specs.TypeGroups.{IsNumberType}
 use Rattle.code.specs.declared.instr.Operand.{Operand as Where}
 use Rattle.code.specs.declared.instr.Operand.TheVariants as operand
@@ -290,7 +297,7 @@ module _ (code : Listing) (known : Known) (place : ℕ) (stack : List ℕ) (slot
 
   is_number_type : (gives : ResultKind) (s : ExprType) → number_type gives ≡ Some s → IsNumberType s
   is_number_type GivesInt s e = subst IsNumberType (let same : Jint ≡ s = cc in same) tt
-  is_number_type GivesFlag s e = subst IsNumberType (let same : ty.Flag ≡ s = cc in same) tt
+  is_number_type GivesFlag s e = subst IsNumberType (let same : types.Flag ≡ s = cc in same) tt
   is_number_type gives s e = absurd (cc)
 
   -- a static is shown, whatever its type
@@ -424,14 +431,14 @@ module _ (code : Listing) (known : Known) (place : ℕ) (stack : List ℕ) (slot
         text = ap operand_text is ∙ text ∙ ap text_given (sym same);
       }
 
-  null_found : (p : ParameterKind) (given : Operand) → given ≡ Given (tree.Value (tree.Named tree.Null)) → TakesNull p → IsFound operand.Null p given
-  null_found FieldID given is kind = found_as operand.Null FieldID given (Given (tree.Value (tree.Named tree.Null))) (FieldActual None) is refl (inr (inl refl)) refl refl refl
-  null_found MethodID given is kind = found_as operand.Null MethodID given (Given (tree.Value (tree.Named tree.Null))) (MethodActual None) is refl (inr (inr (inl refl))) refl refl refl
-  null_found IsCopy given is kind = found_as operand.Null IsCopy given (Given (tree.Value (tree.Named tree.Null))) NothingActual is refl (inr (inr (inr refl))) refl refl refl
+  null_found : (p : ParameterKind) (given : Operand) → given ≡ Given (tree.Value (tree.Named constants.Null)) → TakesNull p → IsFound operand.Null p given
+  null_found FieldID given is kind = found_as operand.Null FieldID given (Given (tree.Value (tree.Named constants.Null))) (FieldActual None) is refl (inr (inl refl)) refl refl refl
+  null_found MethodID given is kind = found_as operand.Null MethodID given (Given (tree.Value (tree.Named constants.Null))) (MethodActual None) is refl (inr (inr (inl refl))) refl refl refl
+  null_found IsCopy given is kind = found_as operand.Null IsCopy given (Given (tree.Value (tree.Named constants.Null))) NothingActual is refl (inr (inr (inr refl))) refl refl refl
   null_found LocalVariable given is kind = absurd kind
   null_found StaticVariable given is kind = absurd kind
   null_found WeakVariable given is kind = absurd kind
-  null_found p given is kind = found_as operand.Null p given (Given (tree.Value (tree.Named tree.Null))) (ReferenceActual [] Empty) is (looked_up p (tree.Named tree.Null) kind) (inl ([], refl)) kind refl refl
+  null_found p given is kind = found_as operand.Null p given (Given (tree.Value (tree.Named constants.Null))) (ReferenceActual [] Empty) is (looked_up p (tree.Named constants.Null) kind) (inl ([], refl)) kind refl refl
 
   -- the argument of a parameter of a known kind
   looked_up_at : (p q : ParameterKind) (e : Expr) → p ≡ q → look_up_expression visible.sight p e ≡ look_up_expression visible.sight q e

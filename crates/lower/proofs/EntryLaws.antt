@@ -6,8 +6,11 @@ use Rattle.std.specs.Str.{bytes_eq}
 use Rattle.std.proofs.lemmas.List.{length-replicate}
 use Rattle.std.proofs.lemmas.Option.{slice_get_within}
 use Rattle.base.specs.Bytes.{Identifier, lookup}
-use Rattle.syntax.specs.Tree.{Parameter, ParameterType, IntParameter, ReferenceParameter, Function}
-use Rattle.type_rules.specs.ExprTypes.{ExprType, Jint, Ref, Global, Weak}
+use Rattle.syntax.specs.declared.declared_type.ParameterType.{ParameterType}
+use Rattle.syntax.specs.declared.declared_type.ParameterType.TheVariants.{Jint as IntParameter, Reference as ReferenceParameter}
+use Rattle.syntax.specs.Tree.{Parameter, Function}
+use Rattle.type_rules.specs.declared.ty.ExprType.{ExprType}
+use Rattle.type_rules.specs.declared.ty.ExprType.TheVariants.{Jint, Ref, Global, Weak}
 use Rattle.semantics.specs.Object.{ObjectValue, Number, Refers, Reference}
 use Rattle.semantics.specs.World.{Invocation}
 use Rattle.semantics.specs.Activation.{entered, parameter_variables}

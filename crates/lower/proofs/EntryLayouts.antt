@@ -2,8 +2,13 @@
 use Rattle.type_rules.specs.TypeRules.{static_type}
 use Rattle.std.proofs.Common.{◌≡◌, ◌≢◌, ℕ, ◌<◌, ◌≤◌, ◌⊎◌, inl, inr, List, [], ◌∷◌, length, Some, None, refl, sym, ap, ◌∙◌, subst, arith}
 use Rattle.base.specs.Bytes.{Identifier, lookup}
-use Rattle.syntax.specs.Tree.{ParameterType, IntParameter, ReferenceParameter, Parameter, Function, Static, StaticType, ReferenceStatic, WeakStatic}
-use Rattle.type_rules.specs.ExprTypes.{ExprType, Jint, Ref, Global, Weak}
+use Rattle.syntax.specs.declared.declared_type.ParameterType.{ParameterType}
+use Rattle.syntax.specs.declared.declared_type.ParameterType.TheVariants.{Jint as IntParameter, Reference as ReferenceParameter}
+use Rattle.syntax.specs.declared.declared_type.StaticType.{StaticType}
+use Rattle.syntax.specs.declared.declared_type.StaticType.TheVariants.{Reference as ReferenceStatic, Weak as WeakStatic}
+use Rattle.syntax.specs.Tree.{Parameter, Function, Static}
+use Rattle.type_rules.specs.declared.ty.ExprType.{ExprType}
+use Rattle.type_rules.specs.declared.ty.ExprType.TheVariants.{Jint, Ref, Global, Weak}
 use Rattle.code.specs.declared.slots.SlotCounts.{SlotCounts}
 use Rattle.code_meaning.specs.Layout.{Slot, Known, with_static, parameter_slot, parameter_slots, numbers_after, references_after, numbers_of, references_of, entry_names, entry_layout}
 use Rattle.code_meaning.specs.Fits.{IndexWithin, AreApart, IsOwn, IsLaidOut, AreStatics, IsStaticType}

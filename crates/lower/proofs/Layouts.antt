@@ -1,10 +1,13 @@
 -- Slots that are taken stay taken, and each known name has its own.
 use Rattle.std.proofs.Common.{◌≡◌, ℕ, ◌<◌, ◌≤◌, true, false, Some, refl, sym, ap, ◌∙◌, subst, arith}
 use Rattle.base.specs.Bytes.{Identifier, lookup}
-use Rattle.base.specs.Element.{JChar}
+use Rattle.base.specs.declared.element.ElementType.TheVariants.{Char as JChar}
 use Rattle.syntax.specs.Tree as tree
+use Rattle.syntax.specs.declared.declared_type.VariableType.TheVariants as variables
+use Rattle.syntax.specs.declared.declared_type.VariableType.{VariableType}
 use Rattle.syntax.specs.Tree.{Stmt, Block, End, Next}
-use Rattle.type_rules.specs.ExprTypes.{ExprType, Word, Jint, Flag, Truth, Ref, Global, Weak, FieldId, MethodId, Buffer, Array}
+use Rattle.type_rules.specs.declared.ty.ExprType.{ExprType}
+use Rattle.type_rules.specs.declared.ty.ExprType.TheVariants.{Word, Jint, Flag, Truth, Ref, Global, Weak, FieldId, MethodId, Buffer, Array}
 use Rattle.type_rules.specs.TypeRules.{variable_type}
 use Rattle.code.specs.declared.slots.SlotCounts.{SlotCounts}
 use Rattle.code.specs.Depth.{Listing}
@@ -217,16 +220,16 @@ laid_declared s l x size laid = record {
 
 -- ---- after a statement
 
-scalar_size : (t : tree.VariableType) → SizeFits (variable_type t)
-scalar_size tree.UInt32 = tt
-scalar_size tree.JIntVariable = tt
-scalar_size tree.JSize = tt
-scalar_size tree.JBoolean = tt
-scalar_size tree.JFieldId = tt
-scalar_size tree.JMethodId = tt
-scalar_size (tree.ReferenceVariable r) = tt
+scalar_size : (t : VariableType) → SizeFits (variable_type t)
+scalar_size variables.Uint32 = tt
+scalar_size variables.Jint = tt
+scalar_size variables.Jsize = tt
+scalar_size variables.Jboolean = tt
+scalar_size variables.JfieldId = tt
+scalar_size variables.JmethodId = tt
+scalar_size (variables.Reference r) = tt
 
-pub variable_size : (t : tree.VariableType) → SizeFits (variable_type t)
+pub variable_size : (t : VariableType) → SizeFits (variable_type t)
 variable_size t = scalar_size t
 
 pub laid_after : (s : Stmt) (l : Layout) → StmtFits l s → IsLaidOut l.known l.slots → IsLaidOut (layout_after l s).known (layout_after l s).slots

@@ -6,12 +6,22 @@ use Rattle.std.proofs.lemmas.List.Sums.{sum_by-cons}
 use Rattle.base.specs.Bytes.{Identifier, lookup}
 use Rattle.syntax.specs.Parts.{null_tested, names_declared, statements_of, statements_within}
 use Rattle.syntax.specs.Tree as tree
-use Rattle.syntax.specs.Tree.{ResultType, Void, IntResult, ReferenceResult, LogicalNot, Complement, ToWord, ToInt, BinaryOp, LogicalOr, LogicalAnd, Equal, NotEqual, Expr, Argument, Call, RightSide, FromExpr, FromCall, Test, TestExpr, TestCall, Stmt, Block, End, Next}
-use Rattle.base.specs.Element.{JChar}
+use Rattle.syntax.specs.declared.expr.Constant.{Constant}
+use Rattle.syntax.specs.declared.expr.Constant.TheVariants as constants
+use Rattle.syntax.specs.declared.unit.ResultType.{ResultType}
+use Rattle.syntax.specs.declared.unit.ResultType.TheVariants.{Void, Jint as IntResult, Reference as ReferenceResult}
+use Rattle.syntax.specs.declared.expr.PrefixOp.TheVariants.{LogicalNot, Complement, ToWord, ToInt}
+use Rattle.syntax.specs.declared.expr.BinaryOp.{BinaryOp}
+use Rattle.syntax.specs.declared.expr.BinaryOp.TheVariants.{LogicalOr, LogicalAnd, Equal, NotEqual}
+use Rattle.syntax.specs.Tree.{Expr, Argument, Call, RightSide, FromExpr, FromCall, Test, TestExpr, TestCall, Stmt, Block, End, Next}
+use Rattle.base.specs.declared.element.ElementType.TheVariants.{Char as JChar}
 use Rattle.jni.specs.JniFunction.{function_named, parameters_for}
-use Rattle.jni.specs.Prototype.{ParameterKind, IntNumber, Passed}
-use Rattle.type_rules.specs.ExprTypes.{ExprType, Jint, Ref, Global, Weak, FieldId, MethodId, Buffer, Array, constant_type, type_in, type_of, is_jint, is_ref, is_null, name_type}
-use Rattle.type_rules.specs.ExprTypes as ty
+use Rattle.jni.specs.declared.kinds.ParameterKind.{ParameterKind}
+use Rattle.jni.specs.declared.kinds.ParameterKind.TheVariants.{IntNumber, Passed}
+use Rattle.type_rules.specs.declared.ty.ExprType.{ExprType}
+use Rattle.type_rules.specs.declared.ty.ExprType.TheVariants.{Jint, Ref, Global, Weak, FieldId, MethodId, Buffer, Array}
+use Rattle.type_rules.specs.ExprTypes.{constant_type, type_in, type_of, is_jint, is_ref, is_null, name_type}
+use Rattle.type_rules.specs.declared.ty.ExprType.TheVariants as types
 use Rattle.type_rules.specs.TypeRules.{variable_type, return_fits, places_within, places_of}
 use Rattle.code.specs.declared.instr.Target.{Target}
 use Rattle.code.specs.declared.instr.Target.TheVariants as destination
@@ -124,7 +134,7 @@ number_length false s i = refl
 -- the names of `jint`s are these
 module _ (ints : List Identifier) where
   passed_length : (known : Known) (line : ℕ) (e : Expr) → IntsAgree ints known → PassedFits known e → length (passed_rest known line e) ≡ passed_steps ints e
-  passed_length known line (tree.Named tree.Null) agree h = refl
+  passed_length known line (tree.Named constants.Null) agree h = refl
   passed_length known line (tree.Variable x) agree h =
       ap (λ o. length (of_slot number_code o)) h.1 ∙ number_length (is_jint (Some h.0.ty)) h.0.ty h.0.index ∙ ap (λ b. if b then 1 else 0) (sym (agree x h.0 h.1))
   passed_length known line e agree h = expr_length known line e Jint h
@@ -157,16 +167,16 @@ module _ (ints : List Identifier) where
       ∙ sym (ap (λ o. arguments_steps ints o c.arguments + 1) h.named)
 
 number_set : (known : Known) (line : ℕ) (slot : Slot) (e : Expr) (s : ExprType) → NumberFits known (term_of e) s → length (value_code known line slot e) ≡ value_steps e
-number_set known line slot (tree.Named tree.Null) s h = elim h.ty [ ]
+number_set known line slot (tree.Named constants.Null) s h = elim h.ty [ ]
 number_set known line slot e s h = after_one (expr_code known line e) (instr.Store slot.index) (expr_steps e) (expr_length known line e s h)
 
-null_set : (known : Known) (line : ℕ) (slot : Slot) (e : Expr) → length (store_of (nullable_of slot.ty slot.index)) ≡ 1 → e ≡ tree.Named tree.Null → length (value_code known line slot e) ≡ value_steps e
+null_set : (known : Known) (line : ℕ) (slot : Slot) (e : Expr) → length (store_of (nullable_of slot.ty slot.index)) ≡ 1 → e ≡ tree.Named constants.Null → length (value_code known line slot e) ≡ value_steps e
 null_set known line slot e one is = subst (λ (d : Expr). length (value_code known line slot d) ≡ value_steps d) (sym is) one
 
 value_length : (known : Known) (line : ℕ) (s : ExprType) (i : ℕ) (e : Expr) → ValueFits known s e → length (value_code known line (record { ty = s; index = i }) e) ≡ value_steps e
-value_length known line ty.Word i e h = number_set known line (record { ty = ty.Word; index = i }) e ty.Word h
+value_length known line types.Word i e h = number_set known line (record { ty = types.Word; index = i }) e types.Word h
 value_length known line Jint i e h = number_set known line (record { ty = Jint; index = i }) e Jint h
-value_length known line ty.Flag i e h = number_set known line (record { ty = ty.Flag; index = i }) e ty.Flag h
+value_length known line types.Flag i e h = number_set known line (record { ty = types.Flag; index = i }) e types.Flag h
 value_length known line Ref i e h = null_set known line (record { ty = Ref; index = i }) e refl h
 value_length known line Global i e h = null_set known line (record { ty = Global; index = i }) e refl h
 value_length known line Weak i e h = null_set known line (record { ty = Weak; index = i }) e refl h
@@ -181,9 +191,9 @@ right_length ints known line s (FromCall c) agree h = call_length ints known lin
 
 -- ---- returns
 
-no_jint : (c : tree.Constant) → constant_type c ≡ Some Jint → ⊥
-no_jint tree.True h = cc
-no_jint tree.False h = cc
+no_jint : (c : Constant) → constant_type c ≡ Some Jint → ⊥
+no_jint constants.True h = cc
+no_jint constants.False h = cc
 no_jint c h = cc
 
 -- an operator's result is a number, and is returned as one
@@ -210,7 +220,7 @@ number_returned known line (tree.Binary op a b) h fits =
 number_returned known line (tree.Paren e) h fits = number_returned known line e h fits
 
 reference_returned : (known : Known) (line : ℕ) (e : Expr) → (is_null e || is_ref (name_type (scope_of known) e)) ≡ true → length (return_code known line (term_of e)) ≡ 1
-reference_returned known line (tree.Named tree.Null) h = refl
+reference_returned known line (tree.Named constants.Null) h = refl
 reference_returned known line (tree.Variable x) h =
     let at = slot_of_name x known Ref (ref_is (type_in (scope_of known) x) h) in
     ap (λ o. length (of_slot returned_code o)) at.1
@@ -224,7 +234,7 @@ return_length known line (ReferenceResult r) e h fits = reference_returned known
 -- ---- statements
 
 test_length : (ints : List Identifier) (known : Known) (line : ℕ) (test : Test) → IntsAgree ints known → TestFits known test → length (test_code known line test) + 1 ≡ test_steps ints test
-test_length ints known line (TestExpr e) agree h = let inside = expr_length known line e ty.Truth h in omega arith
+test_length ints known line (TestExpr e) agree h = let inside = expr_length known line e types.Truth h in omega arith
 test_length ints known line (TestCall c) agree h = ap (λ n. n + 1) (call_length ints known line destination.Test c agree h.fits)
 
 if_length : (ints : List Identifier) (known : Known) (line : ℕ) (test : Test) (then' else' : List Instr) (m n : ℕ) → IntsAgree ints known → TestFits known test → length then' ≡ m → length else' ≡ n
@@ -268,7 +278,7 @@ module _ (ints : List Identifier) (returns : ResultType) where
         if_length ints l.known line test (block_code l then') (block_code (closed l (block_layout l then')) else') (block_steps ints returns then') (block_steps ints returns else') agree fits.0 first second
     stmt_length (tree.While line test body) l taken agree declared fits kept =
         let inside = block_length body l taken agree declared.1 fits.1 (inside_kept returns (scope_of l.known) taken (tree.While line test body) kept) in
-        loop_length (expr_code l.known line test) (block_code l body) (expr_steps test) (block_steps ints returns body) (expr_length l.known line test ty.Truth fits.0) inside
+        loop_length (expr_code l.known line test) (block_code l body) (expr_steps test) (block_steps ints returns body) (expr_length l.known line test types.Truth fits.0) inside
     stmt_length (tree.Return line) l taken agree declared fits kept = refl
     stmt_length (tree.ReturnValue line e) l taken agree declared fits kept = return_length l.known line returns e (own_kept returns (scope_of l.known) taken (tree.ReturnValue line e) kept).fits fits
 

@@ -3,11 +3,12 @@ use Rattle.std.proofs.Common.{◌≡◌, true, false, List, [], ◌∷◌, ◌++
 use Rattle.std.specs.Str.{bytes_eq}
 use Rattle.std.proofs.lemmas.Bool.{or_parts}
 use Rattle.base.specs.Bytes.{Identifier, lookup}
-use Rattle.base.specs.Element.{JChar}
+use Rattle.base.specs.declared.element.ElementType.TheVariants.{Char as JChar}
 use Rattle.syntax.specs.Parts.{statements_within, names_declared}
 use Rattle.syntax.specs.Tree as tree
-use Rattle.syntax.specs.Tree.{ResultType, Stmt, Block, End, Next}
-use Rattle.type_rules.specs.ExprTypes.{Buffer, Array}
+use Rattle.syntax.specs.declared.unit.ResultType.{ResultType}
+use Rattle.syntax.specs.Tree.{Stmt, Block, End, Next}
+use Rattle.type_rules.specs.declared.ty.ExprType.TheVariants.{Buffer, Array}
 use Rattle.type_rules.specs.TypeRules.{variable_type, has_name}
 use Rattle.type_rules.proofs.NameLists.{both_none}
 use Rattle.code_meaning.specs.Layout.{Slot, Known, Layout, new_slot, layout_after}

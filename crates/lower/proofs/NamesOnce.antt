@@ -10,11 +10,17 @@ use Rattle.std.proofs.lemmas.List.Elements.{filter_map-append}
 use Rattle.std.proofs.lemmas.List.Folds.{list_any-append}
 use Rattle.std.proofs.lemmas.Slice.Eq.{bytes_eq-Decides}
 use Rattle.base.specs.Bytes.{Identifier, lookup}
-use Rattle.base.specs.Element.{JChar}
+use Rattle.base.specs.declared.element.ElementType.TheVariants.{Char as JChar}
 use Rattle.syntax.specs.Parts.{statements_of, statements_within, declared_name, names_declared, parameter_names}
 use Rattle.syntax.specs.Tree as tree
-use Rattle.syntax.specs.Tree.{ResultType, ParameterType, IntParameter, ReferenceParameter, Parameter, Function, Stmt, Block, End, Next}
-use Rattle.type_rules.specs.ExprTypes.{ExprType, Ref, Global, Weak, Buffer, Array, Scope, is_jint}
+use Rattle.syntax.specs.declared.declared_type.VariableType.TheVariants as variables
+use Rattle.syntax.specs.declared.declared_type.ParameterType.{ParameterType}
+use Rattle.syntax.specs.declared.declared_type.ParameterType.TheVariants.{Jint as IntParameter, Reference as ReferenceParameter}
+use Rattle.syntax.specs.declared.unit.ResultType.{ResultType}
+use Rattle.syntax.specs.Tree.{Parameter, Function, Stmt, Block, End, Next}
+use Rattle.type_rules.specs.declared.ty.ExprType.{ExprType}
+use Rattle.type_rules.specs.declared.ty.ExprType.TheVariants.{Ref, Global, Weak, Buffer, Array}
+use Rattle.type_rules.specs.ExprTypes.{Scope, is_jint}
 use Rattle.type_rules.specs.TypeRules.{variable_type, has_name, has_repeated, Place, HeadForm, parameter_type, with_declared, places_within, places_of, function_places}
 use Rattle.type_rules.proofs.PlaceLists.{AreUnbroken, not_twice, first_unbroken}
 use Rattle.type_rules.proofs.KeptPlaces.{own_kept, inside_kept, block_kept, paths_kept}
@@ -87,8 +93,8 @@ module _ (returns : ResultType) where
 -- a name that isn't declared is no `jint` that is
 ints_lack : (statements : List Stmt) (x : Identifier) → has_name (names_declared statements) x ≡ false → has_name (filter_map int_declared statements) x ≡ false
 ints_lack [] x h = refl
-ints_lack (tree.Declare line tree.JIntVariable y r ∷ rest) x h = or_from (bytes_eq x y) (has_name (filter_map int_declared rest) x) (or_parts (bytes_eq x y) (has_name (names_declared rest) x) h).0 (ints_lack rest x (or_parts (bytes_eq x y) (has_name (names_declared rest) x) h).1)
-ints_lack (tree.Declare line tree.JSize y r ∷ rest) x h = or_from (bytes_eq x y) (has_name (filter_map int_declared rest) x) (or_parts (bytes_eq x y) (has_name (names_declared rest) x) h).0 (ints_lack rest x (or_parts (bytes_eq x y) (has_name (names_declared rest) x) h).1)
+ints_lack (tree.Declare line variables.Jint y r ∷ rest) x h = or_from (bytes_eq x y) (has_name (filter_map int_declared rest) x) (or_parts (bytes_eq x y) (has_name (names_declared rest) x) h).0 (ints_lack rest x (or_parts (bytes_eq x y) (has_name (names_declared rest) x) h).1)
+ints_lack (tree.Declare line variables.Jsize y r ∷ rest) x h = or_from (bytes_eq x y) (has_name (filter_map int_declared rest) x) (or_parts (bytes_eq x y) (has_name (names_declared rest) x) h).0 (ints_lack rest x (or_parts (bytes_eq x y) (has_name (names_declared rest) x) h).1)
 ints_lack (tree.Declare line t y r ∷ rest) x h = ints_lack rest x (or_parts (bytes_eq x y) (has_name (names_declared rest) x) h).1
 ints_lack (tree.DeclareBuffer line t y r ∷ rest) x h = ints_lack rest x (or_parts (bytes_eq x y) (has_name (names_declared rest) x) h).1
 ints_lack (tree.DeclareChars line y r ∷ rest) x h = ints_lack rest x (or_parts (bytes_eq x y) (has_name (names_declared rest) x) h).1
@@ -137,9 +143,9 @@ moved before rest x statements h = subst (λ (ints : List Identifier). StmtsAgre
 
 declared_agree : (statements : List Stmt) (before taken : List Identifier) → AreAmongTaken before taken → AreFresh taken (names_declared statements) → StmtsAgree (before ++ filter_map int_declared statements) statements
 declared_agree [] before taken among fresh = tt
-declared_agree (tree.Declare line tree.JIntVariable x r ∷ rest) before taken among fresh =
+declared_agree (tree.Declare line variables.Jint x r ∷ rest) before taken among fresh =
     (int_has before (filter_map int_declared rest) x, moved before (filter_map int_declared rest) x rest (declared_agree rest (before ++ x ∷ []) (taken ++ x ∷ []) (more_before before taken x among) fresh.1))
-declared_agree (tree.Declare line tree.JSize x r ∷ rest) before taken among fresh =
+declared_agree (tree.Declare line variables.Jsize x r ∷ rest) before taken among fresh =
     (int_has before (filter_map int_declared rest) x, moved before (filter_map int_declared rest) x rest (declared_agree rest (before ++ x ∷ []) (taken ++ x ∷ []) (more_before before taken x among) fresh.1))
 declared_agree (tree.Declare line t x r ∷ rest) before taken among fresh = (other_lack before taken rest x among fresh.0 fresh.1, declared_agree rest before (taken ++ x ∷ []) (more_taken before taken x among) fresh.1)
 declared_agree (tree.DeclareBuffer line t x r ∷ rest) before taken among fresh = (other_lack before taken rest x among fresh.0 fresh.1, declared_agree rest before (taken ++ x ∷ []) (more_taken before taken x among) fresh.1)

@@ -4,7 +4,8 @@ use Rattle.std.specs.List.{list_any}
 use Rattle.std.proofs.lemmas.Bool.{or_right, or_left}
 use Rattle.syntax.specs.Tree as tree
 use Rattle.syntax.specs.Tree.{Call, Test, TestExpr, TestCall, Stmt, Block, End, Next}
-use Rattle.jni.specs.JniFunction.{JniFunction, function_named}
+use Rattle.jni.specs.declared.function.JniFunction.{JniFunction}
+use Rattle.jni.specs.JniFunction.{function_named}
 use Rattle.semantics.specs.Task.{Task, Tested, invocation, if_task, task_of, tasks_of}
 use Rattle.code_meaning.specs.Stands.{stmt_returns, block_returns, task_returns}
 

@@ -5,16 +5,27 @@ use Rattle.std.specs.List.{list_all, AllZip}
 use Rattle.std.specs.Option.{is_none}
 use Rattle.std.proofs.lemmas.Bool.{not-false}
 use Rattle.base.specs.Bytes.{Identifier, lookup}
-use Rattle.base.specs.Element.{ElementType}
+use Rattle.base.specs.declared.element.ElementType.{ElementType}
 use Rattle.base.specs.Options.{some_passes}
 use Rattle.syntax.specs.Limits.{height, highest, numbers_in_range}
 use Rattle.syntax.specs.Parts.{call_of_right_side, argument_expressions, call_expressions, right_side_expressions, test_expressions}
 use Rattle.syntax.specs.Tree as tree
-use Rattle.syntax.specs.Tree.{ResultType, Void, IntResult, ReferenceResult, Expr, Argument, Call, RightSide, FromExpr, FromCall, Test, TestExpr, TestCall}
-use Rattle.jni.specs.Access.{Access, ElementsCopy, ArrayView, CharsCopy, CharsView}
-use Rattle.jni.specs.JniFunction.{JniFunction, PushLocalFrame, function_named, prototype, parameters_for, takes_count}
-use Rattle.jni.specs.Prototype.{ParameterKind, Nullable, NonNull, ClassObject, AnyArray, ObjectArray, StringObject, NumberArray, LocalVariable, StaticVariable, FieldID, MethodID, Passed, IntNumber, TextBytes, ArrayVariable, BufferVariable, Mode, IsCopy, ResultKind, NewLocal, NewGlobal, GivesFlag, GivesInt, GivesField, GivesMethod, GivesBuffer, GivesNothing, AnyReference, WeakVariable, NewWeak}
-use Rattle.type_rules.specs.ExprTypes.{ExprType, Word, Jint, Flag, Truth, Ref, Global, Weak, FieldId, MethodId, Buffer, Array, type_in, type_of, is_jint, is_flag, is_truth, is_index, has_elements, is_null, is_ref, is_field, is_method, is_reference, is_array_of, is_buffer_for, name_type, text_fits, address_fits, argument_fits, arguments_fit, call_arguments_fit, is_any_reference}
+use Rattle.syntax.specs.declared.expr.Constant.TheVariants as constants
+use Rattle.syntax.specs.declared.unit.ResultType.{ResultType}
+use Rattle.syntax.specs.declared.unit.ResultType.TheVariants.{Void, Jint as IntResult, Reference as ReferenceResult}
+use Rattle.syntax.specs.Tree.{Expr, Argument, Call, RightSide, FromExpr, FromCall, Test, TestExpr, TestCall}
+use Rattle.jni.specs.declared.access.Access.{Access}
+use Rattle.jni.specs.declared.access.Access.TheVariants.{ElementsCopy, ArrayView, CharsCopy, CharsView}
+use Rattle.jni.specs.declared.function.JniFunction.{JniFunction}
+use Rattle.jni.specs.declared.function.JniFunction.TheVariants.{PushLocalFrame}
+use Rattle.jni.specs.JniFunction.{function_named, prototype, parameters_for, takes_count}
+use Rattle.jni.specs.declared.kinds.ParameterKind.{ParameterKind}
+use Rattle.jni.specs.declared.kinds.ParameterKind.TheVariants.{Nullable, NonNull, ClassObject, AnyArray, ObjectArray, StringObject, NumberArray, LocalVariable, StaticVariable, FieldID, MethodID, Passed, IntNumber, TextBytes, ArrayVariable, BufferVariable, Mode, IsCopy, AnyReference, WeakVariable}
+use Rattle.jni.specs.declared.kinds.ResultKind.{ResultKind}
+use Rattle.jni.specs.declared.kinds.ResultKind.TheVariants.{NewLocal, NewGlobal, GivesFlag, GivesInt, GivesField, GivesMethod, GivesBuffer, GivesNothing, NewWeak}
+use Rattle.type_rules.specs.declared.ty.ExprType.{ExprType}
+use Rattle.type_rules.specs.declared.ty.ExprType.TheVariants.{Word, Jint, Flag, Truth, Ref, Global, Weak, FieldId, MethodId, Buffer, Array}
+use Rattle.type_rules.specs.ExprTypes.{type_in, type_of, is_jint, is_flag, is_truth, is_index, has_elements, is_null, is_ref, is_field, is_method, is_reference, is_array_of, is_buffer_for, name_type, text_fits, address_fits, argument_fits, arguments_fit, call_arguments_fit, is_any_reference}
 use Rattle.type_rules.specs.TypeRules.{result_fits, is_push, call_fits, may_be_tested, value_sets, right_side_sets, buffer_begins, test_fits, return_fits, has_wrong_count, has_wrong_mode, is_mode, is_mode_parameter, modes_fit, copies_reference}
 use Rattle.type_rules.specs.TypeGroups.{IsIndexType}
 use Rattle.semantics.specs.Term as term
@@ -113,7 +124,7 @@ pub record CallHolds (known : Known) (call : Option Call) : Type 0 where
 
 module _ (known : Known) where
   reference_fits : (e : Expr) → (is_null e || is_reference (name_type (scope_of known) e)) ≡ true → ReferenceFits known e
-  reference_fits (tree.Named tree.Null) h = tt
+  reference_fits (tree.Named constants.Null) h = tt
   reference_fits (tree.Variable x) h =
       let r = reference_is (type_in (scope_of known) x) h in
       let at = slot_of_name x known r.0 r.1 in
@@ -121,7 +132,7 @@ module _ (known : Known) where
   reference_fits e h = absurd (cc)
 
   any_reference_fits : (e : Expr) → (is_null e || is_any_reference (name_type (scope_of known) e)) ≡ true → AnyReferenceFits known e
-  any_reference_fits (tree.Named tree.Null) h = tt
+  any_reference_fits (tree.Named constants.Null) h = tt
   any_reference_fits (tree.Variable x) h =
       let r = any_reference_is (type_in (scope_of known) x) h in
       let at = slot_of_name x known r.0 r.1 in
@@ -153,12 +164,12 @@ module _ (known : Known) where
   name_fits s e h = absurd (cc)
 
   field_fits : (e : Expr) → (is_null e || is_field (name_type (scope_of known) e)) ≡ true → FieldFits known e
-  field_fits (tree.Named tree.Null) h = tt
+  field_fits (tree.Named constants.Null) h = tt
   field_fits (tree.Variable x) h = slot_of_name x known FieldId (field_is (type_in (scope_of known) x) h)
   field_fits e h = absurd (cc)
 
   method_fits : (e : Expr) → (is_null e || is_method (name_type (scope_of known) e)) ≡ true → MethodFits known e
-  method_fits (tree.Named tree.Null) h = tt
+  method_fits (tree.Named constants.Null) h = tt
   method_fits (tree.Variable x) h = slot_of_name x known MethodId (method_is (type_in (scope_of known) x) h)
   method_fits e h = absurd (cc)
 
@@ -195,7 +206,7 @@ module _ (known : Known) where
 
   module _ (no_truth : HasNoTruth known) where
     passed_fits : (e : Expr) → IsFine e → (is_jint (type_of (scope_of known) e) || is_null e || is_reference (name_type (scope_of known) e)) ≡ true → PassedFits known e
-    passed_fits (tree.Named tree.Null) fine h = tt
+    passed_fits (tree.Named constants.Null) fine h = tt
     passed_fits (tree.Variable x) fine h =
         let r = passed_is (type_in (scope_of known) x) h in
         let at = slot_of_name x known r.0 r.1 in
@@ -349,12 +360,12 @@ module _ (known : Known) where
         record { fits = fits.0; result = subst (ResultFits Jint) (sym gives) refl }
 
     return_number : (t : Term) → NumberFits known t Jint → ReturnFits known t
-    return_number (term.Named tree.Null) h = tt
+    return_number (term.Named constants.Null) h = tt
     return_number (Read x) h = let there = read_variable h.ty in (record { ty = Jint; index = there.0 }, there.1, inr refl)
     return_number t h = h
 
     return_reference : (e : Expr) → (is_null e || is_ref (name_type (scope_of known) e)) ≡ true → ReturnFits known (term_of e)
-    return_reference (tree.Named tree.Null) h = tt
+    return_reference (tree.Named constants.Null) h = tt
     return_reference (tree.Variable x) h =
         let at = slot_of_name x known Ref (ref_is (type_in (scope_of known) x) h) in
         (record { ty = Ref; index = at.0 }, at.1, inl refl)

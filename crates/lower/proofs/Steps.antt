@@ -7,8 +7,9 @@ use Rattle.std.proofs.Math.Facts.{to_z-of_z}
 use Rattle.std.proofs.lemmas.List.{append-nil}
 use Rattle.std.proofs.lemmas.Bool.{lt-ltb, le-leb}
 use Rattle.base.specs.Bytes.{Identifier}
-use Rattle.type_rules.specs.ExprTypes.{ExprType, Jint, Ref, Global, Weak, FieldId, MethodId, Buffer, Array}
-use Rattle.type_rules.specs.ExprTypes as ty
+use Rattle.type_rules.specs.declared.ty.ExprType.{ExprType}
+use Rattle.type_rules.specs.declared.ty.ExprType.TheVariants.{Jint, Ref, Global, Weak, FieldId, MethodId, Buffer, Array}
+use Rattle.type_rules.specs.declared.ty.ExprType.TheVariants as types
 use Rattle.code.specs.declared.instr.NullableVariable.{NullableVariable}
 use Rattle.code.specs.declared.instr.NullableVariable.TheVariants as nullable
 use Rattle.code.specs.declared.instr.Instr.{Instr}
@@ -156,7 +157,7 @@ module _ (code : Listing) (known : Known) (place : ℕ) (stack : List ℕ) (slot
 
   -- a variable that can be NULL is declared as no number
   no_scalar : (s : ExprType) (i : ℕ) (variable : NullableVariable) → nullable_of s i ≡ Some variable → kind_of_type s ≡ Some ScalarKind → ⊥
-  no_scalar ty.Word i variable e h = cc
+  no_scalar types.Word i variable e h = cc
   no_scalar s i variable e h = cc
 
   can_be_null : (target : Target) (s : Slot) (variable : NullableVariable) → nullable_of s.ty s.index ≡ Some variable → GoesTo known s target → CanBeNull code known place stack slots visible target

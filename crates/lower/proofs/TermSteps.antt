@@ -10,16 +10,22 @@ use Rattle.std.proofs.Math.Facts.{Fits-and, Fits-or, Fits-xor, Fits-of_lt, Fits-
 use Rattle.std.proofs.lemmas.List.{append-nil}
 use Rattle.std.proofs.lemmas.Bool.{ltb-true, ltb-false}
 use Rattle.std.proofs.lemmas.Bool.Decides.{Decides-eqb, Decides-int_eq, same_from_decides}
-use Rattle.syntax.specs.Tree.{PrefixOp, LogicalNot, Complement, ToWord, ToInt, BinaryOp, LogicalOr, LogicalAnd, BitOr, BitXor, BitAnd, Equal, NotEqual, Less, LessEqual, Greater, GreaterEqual, ShiftLeft, ShiftRight, Add, Subtract, Multiply, Divide, Remainder}
+use Rattle.syntax.specs.declared.expr.PrefixOp.{PrefixOp}
+use Rattle.syntax.specs.declared.expr.PrefixOp.TheVariants.{LogicalNot, Complement, ToWord, ToInt}
+use Rattle.syntax.specs.declared.expr.BinaryOp.{BinaryOp}
+use Rattle.syntax.specs.declared.expr.BinaryOp.TheVariants.{LogicalOr, LogicalAnd, BitOr, BitXor, BitAnd, Equal, NotEqual, Less, LessEqual, Greater, GreaterEqual, ShiftLeft, ShiftRight, Add, Subtract, Multiply, Divide, Remainder}
 use Rattle.base.specs.Bytes.{Identifier, lookup}
 use Rattle.semantics.specs.Sight.{in_range}
 use Rattle.semantics.specs.Variable as variable
 use Rattle.semantics.specs.Variable.{StaticReference}
 use Rattle.code_meaning.proofs.StaticPlaces.{there_at}
-use Rattle.base.specs.Element.{ElementType, JInt}
+use Rattle.base.specs.declared.element.ElementType.{ElementType}
+use Rattle.base.specs.declared.element.ElementType.TheVariants.{Int as JInt}
 use Rattle.base.proofs.Numbers.{positive}
-use Rattle.type_rules.specs.ExprTypes.{ExprType, Jint, Ref, Global, FieldId, MethodId, Buffer, Array, OperatorGroup, Logic, Equality, Order, OnWords, group, is_jint}
-use Rattle.type_rules.specs.ExprTypes as ty
+use Rattle.type_rules.specs.declared.ty.ExprType.{ExprType}
+use Rattle.type_rules.specs.declared.ty.ExprType.TheVariants.{Jint, Ref, Global, FieldId, MethodId, Buffer, Array}
+use Rattle.type_rules.specs.ExprTypes.{OperatorGroup, Logic, Equality, Order, OnWords, group, is_jint}
+use Rattle.type_rules.specs.declared.ty.ExprType.TheVariants as types
 use Rattle.type_rules.specs.TypeGroups.{IsIndexType, IsNumberType, OperatorFits}
 use Rattle.code.specs.declared.instr.Operator.TheVariants as operator
 use Rattle.code.specs.declared.instr.TrappingOperator.TheVariants as trapping
@@ -33,7 +39,8 @@ use Rattle.code.specs.declared.instr.PlainTrap.{PlainTrap}
 use Rattle.code.specs.declared.instr.PlainTrap.TheVariants as trap
 use Rattle.code.specs.Effect.{plain_of, truth_word, operate}
 use Rattle.code.proofs.Words.{negative_index}
-use Rattle.semantics.specs.Value.{Value, Word, Int, Flag, Truth, OutOfRange, Gives, Traps, Stuck, outcome_map, convert}
+use Rattle.semantics.specs.declared.trap.Trap.TheVariants.{OutOfRange}
+use Rattle.semantics.specs.Value.{Value, Word, Int, Flag, Truth, Gives, Traps, Stuck, outcome_map, convert}
 use Rattle.semantics.specs.Term as term
 use Rattle.semantics.specs.Term.{Term, Done, Read, IsNull, Prefix, And, Or, Binary, Reduction, done, with_part, reduce}
 use Rattle.code_meaning.specs.Layout.{Slot, Known}
@@ -253,7 +260,7 @@ module _ (known : Known) (line : ℕ) (slots : Slots) (visible : Visible) where
     begins = λ u h. h;
   }
 
-  in_and : (a b : Term) → IsOpen a → IsUntouched b → TermHasType known b ty.Truth → Inside (λ u. And u b) a ty.Truth ty.Truth
+  in_and : (a b : Term) → IsOpen a → IsUntouched b → TermHasType known b types.Truth → Inside (λ u. And u b) a types.Truth types.Truth
   in_and a b o u h = record {
     tail = skip_code true (length (term_code known line b)) ∷ term_code known line b;
     base = [];
@@ -264,7 +271,7 @@ module _ (known : Known) (line : ℕ) (slots : Slots) (visible : Visible) where
     begins = λ w g. (g, u);
   }
 
-  in_or : (a b : Term) → IsOpen a → IsUntouched b → TermHasType known b ty.Truth → Inside (λ u. Or u b) a ty.Truth ty.Truth
+  in_or : (a b : Term) → IsOpen a → IsUntouched b → TermHasType known b types.Truth → Inside (λ u. Or u b) a types.Truth types.Truth
   in_or a b o u h = record {
     tail = skip_code false (length (term_code known line b)) ∷ term_code known line b;
     base = [];
@@ -337,13 +344,13 @@ module _ (known : Known) (line : ℕ) (slots : Slots) (visible : Visible) where
     });
   }
 
-  and_step : (b : Term) {v : Value} → ValueHasType v ty.Truth → TermHasType known b ty.Truth → IsUntouched b → StepsTerm (And (Done v) b) ty.Truth
-  and_step b (value.truth {b = true}) k u = goes_right (And (Done (Truth true)) b) b ty.Truth (instr.JumpIfFalseOrPop (length (term_code known line b))) refl refl (λ stack. refl) u k
-  and_step b (value.truth {b = false}) k u = skips_right (And (Done (Truth false)) b) b (Truth false) ty.Truth (instr.JumpIfFalseOrPop (length (term_code known line b))) refl refl (λ stack. refl) value.truth
+  and_step : (b : Term) {v : Value} → ValueHasType v types.Truth → TermHasType known b types.Truth → IsUntouched b → StepsTerm (And (Done v) b) types.Truth
+  and_step b (value.truth {b = true}) k u = goes_right (And (Done (Truth true)) b) b types.Truth (instr.JumpIfFalseOrPop (length (term_code known line b))) refl refl (λ stack. refl) u k
+  and_step b (value.truth {b = false}) k u = skips_right (And (Done (Truth false)) b) b (Truth false) types.Truth (instr.JumpIfFalseOrPop (length (term_code known line b))) refl refl (λ stack. refl) value.truth
 
-  or_step : (b : Term) {v : Value} → ValueHasType v ty.Truth → TermHasType known b ty.Truth → IsUntouched b → StepsTerm (Or (Done v) b) ty.Truth
-  or_step b (value.truth {b = true}) k u = skips_right (Or (Done (Truth true)) b) b (Truth true) ty.Truth (instr.JumpIfTrueOrPop (length (term_code known line b))) refl refl (λ stack. refl) value.truth
-  or_step b (value.truth {b = false}) k u = goes_right (Or (Done (Truth false)) b) b ty.Truth (instr.JumpIfTrueOrPop (length (term_code known line b))) refl refl (λ stack. refl) u k
+  or_step : (b : Term) {v : Value} → ValueHasType v types.Truth → TermHasType known b types.Truth → IsUntouched b → StepsTerm (Or (Done v) b) types.Truth
+  or_step b (value.truth {b = true}) k u = skips_right (Or (Done (Truth true)) b) b (Truth true) types.Truth (instr.JumpIfTrueOrPop (length (term_code known line b))) refl refl (λ stack. refl) value.truth
+  or_step b (value.truth {b = false}) k u = goes_right (Or (Done (Truth false)) b) b types.Truth (instr.JumpIfTrueOrPop (length (term_code known line b))) refl refl (λ stack. refl) u k
 
   -- ---- operators on values
 
@@ -364,24 +371,24 @@ module _ (known : Known) (line : ℕ) (slots : Slots) (visible : Visible) where
 
   -- ---- operators on two values
 
-  divide : (a b : ℕ) → a < 2 ^ 32 → (z : Bool) → (b == 0) ≡ z → StepsTerm (Binary Divide (Done (Word a)) (Done (Word b))) ty.Word
+  divide : (a b : ℕ) → a < 2 ^ 32 → (z : Bool) → (b == 0) ≡ z → StepsTerm (Binary Divide (Done (Word a)) (Done (Word b))) types.Word
   divide a b h true k = gives_trap (instr.OperateOrTrap trapping.Divide line) trap.DivisionByZero refl (rw k refl) (λ stack. rw k refl)
   divide a b h false k =
       let small = div-le_self a b in
       gives_value (Word (a / b)) (instr.OperateOrTrap trapping.Divide line) refl (rw k refl) (λ stack. rw k refl) (value.word (omega arith))
 
-  remainder : (a b : ℕ) → b < 2 ^ 32 → (z : Bool) → (b == 0) ≡ z → StepsTerm (Binary Remainder (Done (Word a)) (Done (Word b))) ty.Word
+  remainder : (a b : ℕ) → b < 2 ^ 32 → (z : Bool) → (b == 0) ≡ z → StepsTerm (Binary Remainder (Done (Word a)) (Done (Word b))) types.Word
   remainder a b h true k = gives_trap (instr.OperateOrTrap trapping.Remainder line) trap.DivisionByZero refl (rw k refl) (λ stack. rw k refl)
   remainder a b h false k =
       let some : 0 < b = positive b k in
       let small = mod-lt a some in
       gives_value (Word (a % b)) (instr.OperateOrTrap trapping.Remainder line) refl (rw k refl) (λ stack. rw k refl) (value.word (omega arith))
 
-  shift_left : (a b : ℕ) (z : Bool) → nat_lt b 32 ≡ z → StepsTerm (Binary ShiftLeft (Done (Word a)) (Done (Word b))) ty.Word
+  shift_left : (a b : ℕ) (z : Bool) → nat_lt b 32 ≡ z → StepsTerm (Binary ShiftLeft (Done (Word a)) (Done (Word b))) types.Word
   shift_left a b true k = gives_value (Word (a * 2 ^ b % 2 ^ 32)) (instr.OperateOrTrap trapping.ShiftLeft line) refl (rw k refl) (λ stack. rw k refl) (value.word (mod-lt (a * 2 ^ b) (lit< tt)))
   shift_left a b false k = gives_trap (instr.OperateOrTrap trapping.ShiftLeft line) trap.ShiftTooFar refl (rw k refl) (λ stack. rw k refl)
 
-  shift_right : (a b : ℕ) → a < 2 ^ 32 → (z : Bool) → nat_lt b 32 ≡ z → StepsTerm (Binary ShiftRight (Done (Word a)) (Done (Word b))) ty.Word
+  shift_right : (a b : ℕ) → a < 2 ^ 32 → (z : Bool) → nat_lt b 32 ≡ z → StepsTerm (Binary ShiftRight (Done (Word a)) (Done (Word b))) types.Word
   shift_right a b h true k =
       let small = div-le_self a (2 ^ b) in
       gives_value (Word (a / 2 ^ b)) (instr.OperateOrTrap trapping.ShiftRight line) refl (rw k refl) (λ stack. rw k refl) (value.word (omega arith))
@@ -389,8 +396,8 @@ module _ (known : Known) (line : ℕ) (slots : Slots) (visible : Visible) where
 
   -- the type of what an operator on values gives
   abbrev result_of : OperatorGroup → ExprType
-  result_of OnWords = ty.Word
-  result_of g = ty.Truth
+  result_of OnWords = types.Word
+  result_of g = types.Truth
 
   result_is : (g : OperatorGroup) (r s : ExprType) → OperatorFits g r s → s ≡ result_of g
   result_is Logic r s f = absurd f
@@ -398,7 +405,7 @@ module _ (known : Known) (line : ℕ) (slots : Slots) (visible : Visible) where
   result_is Order r s f = f.1
   result_is OnWords r s f = f.1
 
-  words_step : (op : BinaryOp) (a b : ℕ) (s : ExprType) → a < 2 ^ 32 → b < 2 ^ 32 → OperatorFits (group op) ty.Word s → StepsTerm (Binary op (Done (Word a)) (Done (Word b))) (result_of (group op))
+  words_step : (op : BinaryOp) (a b : ℕ) (s : ExprType) → a < 2 ^ 32 → b < 2 ^ 32 → OperatorFits (group op) types.Word s → StepsTerm (Binary op (Done (Word a)) (Done (Word b))) (result_of (group op))
   words_step LogicalOr a b s h k f = absurd f
   words_step LogicalAnd a b s h k f = absurd f
   words_step BitOr a b s h k f = gives_value (Word (operate operator.Or a b)) (instr.Operate operator.Or) refl refl (λ stack. refl) (value.word (Fits-lt-pow (Fits-or {w = w32} (Fits-of_lt h) (Fits-of_lt k))))
@@ -433,22 +440,22 @@ module _ (known : Known) (line : ℕ) (slots : Slots) (visible : Visible) where
   ints_step LessEqual a b s h k f = gives_value (Truth (int_le a b)) (instr.Operate operator.SignedLessEqual) refl refl (λ stack. compared (instr.Operate operator.SignedLessEqual) a b _ (int_le a b) stack (rw (to_z-of_z h, to_z-of_z k) refl) refl) value.truth
   ints_step Greater a b s h k f = gives_value (Truth (int_lt b a)) (instr.Operate operator.SignedGreater) refl refl (λ stack. compared (instr.Operate operator.SignedGreater) a b _ (int_lt b a) stack (rw (to_z-of_z h, to_z-of_z k) refl) refl) value.truth
   ints_step GreaterEqual a b s h k f = gives_value (Truth (int_le b a)) (instr.Operate operator.SignedGreaterEqual) refl refl (λ stack. compared (instr.Operate operator.SignedGreaterEqual) a b _ (int_le b a) stack (rw (to_z-of_z h, to_z-of_z k) refl) refl) value.truth
-  ints_step op a b s h k f = absurd (let c : Jint ≡ ty.Word = f.0 in cc)
+  ints_step op a b s h k f = absurd (let c : Jint ≡ types.Word = f.0 in cc)
 
-  equal_flags : (a b : Bool) → StepsTerm (Binary Equal (Done (Flag a)) (Done (Flag b))) ty.Truth
+  equal_flags : (a b : Bool) → StepsTerm (Binary Equal (Done (Flag a)) (Done (Flag b))) types.Truth
   equal_flags true true = gives_value (Truth true) (instr.Operate operator.Equal) refl refl (λ stack. refl) value.truth
   equal_flags true false = gives_value (Truth false) (instr.Operate operator.Equal) refl refl (λ stack. refl) value.truth
   equal_flags false true = gives_value (Truth false) (instr.Operate operator.Equal) refl refl (λ stack. refl) value.truth
   equal_flags false false = gives_value (Truth true) (instr.Operate operator.Equal) refl refl (λ stack. refl) value.truth
 
-  unequal_flags : (a b : Bool) → StepsTerm (Binary NotEqual (Done (Flag a)) (Done (Flag b))) ty.Truth
+  unequal_flags : (a b : Bool) → StepsTerm (Binary NotEqual (Done (Flag a)) (Done (Flag b))) types.Truth
   unequal_flags true true = gives_value (Truth false) (instr.Operate operator.NotEqual) refl refl (λ stack. refl) value.truth
   unequal_flags true false = gives_value (Truth true) (instr.Operate operator.NotEqual) refl refl (λ stack. refl) value.truth
   unequal_flags false true = gives_value (Truth true) (instr.Operate operator.NotEqual) refl refl (λ stack. refl) value.truth
   unequal_flags false false = gives_value (Truth false) (instr.Operate operator.NotEqual) refl refl (λ stack. refl) value.truth
 
   -- flags are compared for equality alone
-  flags_step : (op : BinaryOp) (a b : Bool) (s : ExprType) → OperatorFits (group op) ty.Flag s → StepsTerm (Binary op (Done (Flag a)) (Done (Flag b))) (result_of (group op))
+  flags_step : (op : BinaryOp) (a b : Bool) (s : ExprType) → OperatorFits (group op) types.Flag s → StepsTerm (Binary op (Done (Flag a)) (Done (Flag b))) (result_of (group op))
   flags_step LogicalOr a b s f = absurd f
   flags_step LogicalAnd a b s f = absurd f
   flags_step Equal a b s f = equal_flags a b
@@ -457,13 +464,13 @@ module _ (known : Known) (line : ℕ) (slots : Slots) (visible : Visible) where
   flags_step LessEqual a b s f = absurd f.0
   flags_step Greater a b s f = absurd f.0
   flags_step GreaterEqual a b s f = absurd f.0
-  flags_step op a b s f = absurd (let c : ty.Flag ≡ ty.Word = f.0 in cc)
+  flags_step op a b s f = absurd (let c : types.Flag ≡ types.Word = f.0 in cc)
 
-  no_truths : (g : OperatorGroup) (s : ExprType) → OperatorFits g ty.Truth s → ⊥
+  no_truths : (g : OperatorGroup) (s : ExprType) → OperatorFits g types.Truth s → ⊥
   no_truths Logic s f = f
   no_truths Equality s f = f.0
   no_truths Order s f = f.0
-  no_truths OnWords s f = let c : ty.Truth ≡ ty.Word = f.0 in absurd (cc)
+  no_truths OnWords s f = let c : types.Truth ≡ types.Word = f.0 in absurd (cc)
 
   operator_step : (op : BinaryOp) {v w : Value} {r : ExprType} (s : ExprType) → OperatorFits (group op) r s → ValueHasType v r → ValueHasType w r → StepsTerm (Binary op (Done v) (Done w)) (result_of (group op))
   operator_step op s f (value.word {n = a} h) (value.word {n = b} k) = words_step op a b s h k f
@@ -511,7 +518,7 @@ module _ (known : Known) (line : ℕ) (slots : Slots) (visible : Visible) where
   other_truth true = refl
   other_truth false = refl
 
-  null_step : (equal : Bool) (x : Identifier) (slot : Slot) → lookup x known ≡ Some slot → ShowsNull x slot.ty slot.index → StepsTerm (IsNull equal x) ty.Truth
+  null_step : (equal : Bool) (x : Identifier) (slot : Slot) → lookup x known ≡ Some slot → ShowsNull x slot.ty slot.index → StepsTerm (IsNull equal x) types.Truth
   null_step true x slot at n =
       gives_value (Truth n.null) (instr.TestNull n.variable true) (ap (null_code true) at ∙ ap (test_of true) n.same) (ap (λ o. done (outcome_map Truth o)) n.is)
       (λ stack. (n.null, n.holds, refl, ap (λ (w : ℕ). w ∷ stack) (same_truth n.null))) value.truth
@@ -605,9 +612,9 @@ module _ (known : Known) (line : ℕ) (slots : Slots) (visible : Visible) where
 
   -- a slot of a number type shows a number
   pub shows_number : (x : Identifier) (s : Slot) (kind : ExprType) → IsNumberType kind → ShowsSlot visible x slots s kind → ShowsNumber visible x slots.numbers s
-  shows_number x s ty.Word kind h = h
+  shows_number x s types.Word kind h = h
   shows_number x s Jint kind h = h
-  shows_number x s ty.Flag kind h = h
+  shows_number x s types.Flag kind h = h
   shows_number x s other kind h = absurd kind
 
   pub steps_term : AllShown → SeesBuffers visible slots.buffers → {t : Term} {s : ExprType} → IsOpen t → TermHasType known t s → IsBegun t → StepsTerm t s
@@ -623,17 +630,17 @@ module _ (known : Known) (line : ℕ) (slots : Slots) (visible : Visible) where
   steps_term shown sees o (rule.element {x = x} {t = t} {r = r} at has index h) b = inside (term.Element x) t r Jint (in_element x t r Jint tt (λ u k. rule.element at has index k)) h (steps_term shown sees tt h b)
   steps_term shown sees o (rule.null_test {equal = equal} {x = x} {n = n} at null) b = null_step equal x n at (shows_null x n n.ty null (shown x n at))
   steps_term shown sees o (rule.logical_not (rule.done h)) b = prefix_step (rule.logical_not (rule.done h))
-  steps_term shown sees o (rule.logical_not {t = t} h) b = inside (Prefix LogicalNot) t ty.Truth ty.Truth (in_prefix LogicalNot t ty.Truth ty.Truth tt (λ u k. rule.logical_not k)) h (steps_term shown sees tt h b)
+  steps_term shown sees o (rule.logical_not {t = t} h) b = inside (Prefix LogicalNot) t types.Truth types.Truth (in_prefix LogicalNot t types.Truth types.Truth tt (λ u k. rule.logical_not k)) h (steps_term shown sees tt h b)
   steps_term shown sees o (rule.complement (rule.done h)) b = prefix_step (rule.complement (rule.done h))
-  steps_term shown sees o (rule.complement {t = t} h) b = inside (Prefix Complement) t ty.Word ty.Word (in_prefix Complement t ty.Word ty.Word tt (λ u k. rule.complement k)) h (steps_term shown sees tt h b)
+  steps_term shown sees o (rule.complement {t = t} h) b = inside (Prefix Complement) t types.Word types.Word (in_prefix Complement t types.Word types.Word tt (λ u k. rule.complement k)) h (steps_term shown sees tt h b)
   steps_term shown sees o (rule.to_word i (rule.done h)) b = prefix_step (rule.to_word i (rule.done h))
-  steps_term shown sees o (rule.to_word {t = t} {r = r} i h) b = inside (Prefix ToWord) t r ty.Word (in_prefix ToWord t r ty.Word tt (λ u k. rule.to_word i k)) h (steps_term shown sees tt h b)
+  steps_term shown sees o (rule.to_word {t = t} {r = r} i h) b = inside (Prefix ToWord) t r types.Word (in_prefix ToWord t r types.Word tt (λ u k. rule.to_word i k)) h (steps_term shown sees tt h b)
   steps_term shown sees o (rule.to_int i (rule.done h)) b = prefix_step (rule.to_int i (rule.done h))
   steps_term shown sees o (rule.to_int {t = t} {r = r} i h) b = inside (Prefix ToInt) t r Jint (in_prefix ToInt t r Jint tt (λ u k. rule.to_int i k)) h (steps_term shown sees tt h b)
   steps_term shown sees o (rule.both {b = c} (rule.done h) k) b = and_step c h k b.1
-  steps_term shown sees o (rule.both {a = a} {b = c} h k) b = inside (λ u. And u c) a ty.Truth ty.Truth (in_and a c tt b.1 k) h (steps_term shown sees tt h b.0)
+  steps_term shown sees o (rule.both {a = a} {b = c} h k) b = inside (λ u. And u c) a types.Truth types.Truth (in_and a c tt b.1 k) h (steps_term shown sees tt h b.0)
   steps_term shown sees o (rule.either {b = c} (rule.done h) k) b = or_step c h k b.1
-  steps_term shown sees o (rule.either {a = a} {b = c} h k) b = inside (λ u. Or u c) a ty.Truth ty.Truth (in_or a c tt b.1 k) h (steps_term shown sees tt h b.0)
+  steps_term shown sees o (rule.either {a = a} {b = c} h k) b = inside (λ u. Or u c) a types.Truth types.Truth (in_or a c tt b.1 k) h (steps_term shown sees tt h b.0)
   steps_term shown sees o (rule.operator {op = op} {r = r} {s = s} f (rule.done {v = v} h) (rule.done {v = w} k)) b = values_step op v w r s f h k
   steps_term shown sees o (rule.operator {op = op} {b = c} {r = r} {s = s} f (rule.done {v = v} h) k) b = inside (Binary op (Done v)) c r s (in_right op v c r s tt f h) k (steps_term shown sees tt k b)
   steps_term shown sees o (rule.operator {op = op} {a = a} {b = c} {r = r} {s = s} f h k) b = inside (λ u. Binary op u c) a r s (in_left op a c r s tt b.1 f k) h (steps_term shown sees tt h b.0)

@@ -3,17 +3,25 @@ use Rattle.code.specs.declared.instr.Operand.{Operand as Where}
 use Rattle.code.specs.declared.instr.Operand.TheVariants as operand
 use Rattle.std.specs.List.{AllZip}
 use Rattle.std.specs.Prelude.{zip, map}
-use Rattle.jni.specs.JniFunction.{JniFunction, function_named, parameters_for}
-use Rattle.jni.specs.Prototype.{ParameterKind, IntNumber, Mode, Passed}
+use Rattle.jni.specs.declared.function.JniFunction.{JniFunction}
+use Rattle.jni.specs.JniFunction.{function_named, parameters_for}
+use Rattle.jni.specs.declared.kinds.ParameterKind.{ParameterKind}
+use Rattle.jni.specs.declared.kinds.ParameterKind.TheVariants.{IntNumber, Mode, Passed}
 use Rattle.std.proofs.Common.{◌≡◌, ℕ, suc, ◌+◌, ◌<◌, ◌≤◌, ◌⊎◌, inl, inr, Bool, true, false, List, [], ◌∷◌, ◌++◌, length, Option, Some, refl, sym, ap, ◌∙◌, subst, arith, None, ◌-◌}
 use Rattle.std.proofs.lemmas.Bool.{lt-ltb, le-leb}
 use Rattle.base.specs.Bytes.{Identifier, lookup}
 use Rattle.syntax.specs.Tree as tree
-use Rattle.syntax.specs.Tree.{PrefixOp, LogicalNot, Complement, ToWord, ToInt, BinaryOp, LogicalOr, LogicalAnd, BitOr, BitXor, BitAnd, Equal, NotEqual, Less, LessEqual, Greater, GreaterEqual, ShiftLeft, ShiftRight, Add, Subtract, Multiply, Divide, Remainder, Expr, Argument, RightSide, FromExpr, FromCall, Test, TestExpr, TestCall, Stmt, Block, End, Next, Call}
-use Rattle.type_rules.specs.ExprTypes.{ExprType, Jint, Ref, Global, Weak, FieldId, MethodId, Buffer, Array}
-use Rattle.type_rules.specs.ExprTypes as ty
+use Rattle.syntax.specs.declared.expr.Constant.TheVariants as constants
+use Rattle.syntax.specs.declared.expr.PrefixOp.{PrefixOp}
+use Rattle.syntax.specs.declared.expr.PrefixOp.TheVariants.{LogicalNot, Complement, ToWord, ToInt}
+use Rattle.syntax.specs.declared.expr.BinaryOp.{BinaryOp}
+use Rattle.syntax.specs.declared.expr.BinaryOp.TheVariants.{LogicalOr, LogicalAnd, BitOr, BitXor, BitAnd, Equal, NotEqual, Less, LessEqual, Greater, GreaterEqual, ShiftLeft, ShiftRight, Add, Subtract, Multiply, Divide, Remainder}
+use Rattle.syntax.specs.Tree.{Expr, Argument, RightSide, FromExpr, FromCall, Test, TestExpr, TestCall, Stmt, Block, End, Next, Call}
+use Rattle.type_rules.specs.declared.ty.ExprType.{ExprType}
+use Rattle.type_rules.specs.declared.ty.ExprType.TheVariants.{Jint, Ref, Global, Weak, FieldId, MethodId, Buffer, Array}
+use Rattle.type_rules.specs.declared.ty.ExprType.TheVariants as types
 use Rattle.type_rules.specs.TypeRules.{variable_type}
-use Rattle.base.specs.Element.{JChar}
+use Rattle.base.specs.declared.element.ElementType.TheVariants.{Char as JChar}
 use Rattle.code.specs.declared.instr.Target.{Target}
 use Rattle.code.specs.declared.instr.Target.TheVariants as destination
 use Rattle.code.specs.declared.instr.Instr.{Instr}
@@ -187,7 +195,7 @@ passed_slot s i d (inr (inl e)) few = subst (λ (r : ExprType). IsPiece (number_
 passed_slot s i d (inr (inr e)) few = subst (λ (r : ExprType). IsPiece (number_code r i) d (d + one_word (passed_variable (Some (record { ty = r; index = i }))))) (sym e) (empty_piece d 0 refl)
 
 passed_piece : (known : Known) (line : ℕ) (e : Expr) (d : ℕ) → PassedFits known e → d ≤ 31 → IsPiece (passed_rest known line e) d (d + one_word (passed_code known e))
-passed_piece known line (tree.Named tree.Null) d h few = empty_piece d 0 refl
+passed_piece known line (tree.Named constants.Null) d h few = empty_piece d 0 refl
 passed_piece known line (tree.Variable x) d h few = subst (λ o. IsPiece (of_slot number_code o) d (d + one_word (passed_variable o))) (sym h.1) (passed_slot h.0.ty h.0.index d h.2 few)
 passed_piece known line e d h few = one_more (expr_code known line e) d (number_piece known line (term_of e) Jint d h few)
 
@@ -232,10 +240,10 @@ call_piece known line target c m fits gives =
     (call_instr line target fits.function operands (arguments_texts c.arguments) (0 + words_taken operands) m none gives))
 
 value_piece : (known : Known) (line : ℕ) (kind : ExprType) (i : ℕ) (e : Expr) → ValueFits known kind e → IsPiece (value_code known line (record { ty = kind; index = i }) e) 0 0
-value_piece known line ty.Word i e fits = subst (λ c. IsPiece c 0 0) (sym (value_is known line (record { ty = ty.Word; index = i }) e ty.Word fits)) (taken_piece known line (term_of e) ty.Word (instr.Store i) fits (piece_one (instr.Store i) 1 0 refl tt))
+value_piece known line types.Word i e fits = subst (λ c. IsPiece c 0 0) (sym (value_is known line (record { ty = types.Word; index = i }) e types.Word fits)) (taken_piece known line (term_of e) types.Word (instr.Store i) fits (piece_one (instr.Store i) 1 0 refl tt))
 value_piece known line Jint i e fits = subst (λ c. IsPiece c 0 0) (sym (value_is known line (record { ty = Jint; index = i }) e Jint fits)) (taken_piece known line (term_of e) Jint (instr.Store i) fits (piece_one (instr.Store i) 1 0 refl tt))
-value_piece known line ty.Flag i e fits = subst (λ c. IsPiece c 0 0) (sym (value_is known line (record { ty = ty.Flag; index = i }) e ty.Flag fits)) (taken_piece known line (term_of e) ty.Flag (instr.Store i) fits (piece_one (instr.Store i) 1 0 refl tt))
-value_piece known line ty.Truth i e fits = absurd fits
+value_piece known line types.Flag i e fits = subst (λ c. IsPiece c 0 0) (sym (value_is known line (record { ty = types.Flag; index = i }) e types.Flag fits)) (taken_piece known line (term_of e) types.Flag (instr.Store i) fits (piece_one (instr.Store i) 1 0 refl tt))
+value_piece known line types.Truth i e fits = absurd fits
 value_piece known line Ref i e fits = subst (λ (d : Expr). IsPiece (value_code known line (record { ty = Ref; index = i }) d) 0 0) (sym fits) (piece_one (instr.StoreNull _) 0 0 refl tt)
 value_piece known line Global i e fits = subst (λ (d : Expr). IsPiece (value_code known line (record { ty = Global; index = i }) d) 0 0) (sym fits) (piece_one (instr.StoreNull _) 0 0 refl tt)
 value_piece known line Weak i e fits = subst (λ (d : Expr). IsPiece (value_code known line (record { ty = Weak; index = i }) d) 0 0) (sym fits) (piece_one (instr.StoreNull _) 0 0 refl tt)
@@ -257,7 +265,7 @@ right_piece known line s (FromCall c) fits = call_piece known line (result_targe
     into_variable s i = refl
 
 return_piece : (known : Known) (line : ℕ) (t : Term) → ReturnFits known t → IsPiece (return_code known line t) 0 0
-return_piece known line (term.Named tree.Null) fits = piece_one (instr.ReturnReference _) 0 0 refl tt
+return_piece known line (term.Named constants.Null) fits = piece_one (instr.ReturnReference _) 0 0 refl tt
 return_piece known line (Read x) (s, found, inl e) =
     subst (λ c. IsPiece c 0 0) (sym (ap (of_slot returned_code) (found ∙ ap (λ (r : ExprType). Some (record { ty = r; index = s.index })) e))) (piece_one (instr.ReturnReference _) 0 0 refl tt)
 return_piece known line (Read x) (s, found, inr e) =
@@ -266,7 +274,7 @@ return_piece known line (Read x) (s, found, inr e) =
 return_piece known line t fits = taken_piece known line t Jint instr.ReturnJint fits (piece_one instr.ReturnJint 1 0 refl tt)
 
 test_piece : (known : Known) (line : ℕ) (test : Test) → TestFits known test → IsPiece (test_code known line test) 0 1
-test_piece known line (TestExpr e) fits = number_piece known line (term_of e) ty.Truth 0 fits (omega arith)
+test_piece known line (TestExpr e) fits = number_piece known line (term_of e) types.Truth 0 fits (omega arith)
 test_piece known line (TestCall c) fits = call_piece known line destination.Test c 1 fits.fits refl
 
 if_piece : (known : Known) (line : ℕ) (test : Test) (then' else' : List Instr) → TestFits known test → IsPiece then' 0 0 → IsPiece else' 0 0 → IsPiece (if_code known line test then' else') 0 0
@@ -292,7 +300,7 @@ mutual
   stmt_piece (tree.If line test then') l fits = if_piece l.known line test (block_code l then') [] fits.0 (block_piece then' l fits.1) (piece_none 0)
   stmt_piece (tree.IfElse line test then' else') l fits =
       if_piece l.known line test (block_code l then') (block_code (closed l (block_layout l then')) else') fits.0 (block_piece then' l fits.1) (block_piece else' (closed l (block_layout l then')) fits.2)
-  stmt_piece (tree.While line test body) l fits = piece_loop (expr_code l.known line test) (block_code l body) (number_piece l.known line (term_of test) ty.Truth 0 fits.0 (omega arith)) (block_piece body l fits.1)
+  stmt_piece (tree.While line test body) l fits = piece_loop (expr_code l.known line test) (block_code l body) (number_piece l.known line (term_of test) types.Truth 0 fits.0 (omega arith)) (block_piece body l fits.1)
   stmt_piece (tree.Return line) l fits = piece_one instr.Return 0 0 refl tt
   stmt_piece (tree.ReturnValue line e) l fits = return_piece l.known line (term_of e) fits
 

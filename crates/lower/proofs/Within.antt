@@ -6,18 +6,29 @@ use Rattle.std.proofs.lemmas.List.Folds.{list_all-append}
 use Rattle.std.proofs.lemmas.Bool.{lt-ltb, le-leb}
 use Rattle.base.specs.Bytes.{Identifier, lookup}
 use Rattle.syntax.specs.Tree as tree
-use Rattle.syntax.specs.Tree.{BinaryOp, LogicalOr, LogicalAnd, BitOr, BitXor, BitAnd, Equal, NotEqual, Less, LessEqual, Greater, GreaterEqual, ShiftLeft, ShiftRight, Add, Subtract, Multiply, Divide, Remainder, PrefixOp, LogicalNot, Complement, ToWord, ToInt, Expr, Argument, RightSide, FromExpr, FromCall, Test, TestExpr, TestCall, Stmt, Block, End, Next, Call}
-use Rattle.type_rules.specs.ExprTypes.{ExprType, Jint, Ref, Global, Weak, FieldId, MethodId, Buffer, Array, is_jint}
-use Rattle.type_rules.specs.ExprTypes as ty
+use Rattle.syntax.specs.declared.expr.Constant.TheVariants as constants
+use Rattle.syntax.specs.declared.expr.PrefixOp.{PrefixOp}
+use Rattle.syntax.specs.declared.expr.PrefixOp.TheVariants.{LogicalNot, Complement, ToWord, ToInt}
+use Rattle.syntax.specs.declared.expr.BinaryOp.{BinaryOp}
+use Rattle.syntax.specs.declared.expr.BinaryOp.TheVariants.{LogicalOr, LogicalAnd, BitOr, BitXor, BitAnd, Equal, NotEqual, Less, LessEqual, Greater, GreaterEqual, ShiftLeft, ShiftRight, Add, Subtract, Multiply, Divide, Remainder}
+use Rattle.syntax.specs.Tree.{Expr, Argument, RightSide, FromExpr, FromCall, Test, TestExpr, TestCall, Stmt, Block, End, Next, Call}
+use Rattle.type_rules.specs.declared.ty.ExprType.{ExprType}
+use Rattle.type_rules.specs.declared.ty.ExprType.TheVariants.{Jint, Ref, Global, Weak, FieldId, MethodId, Buffer, Array}
+use Rattle.type_rules.specs.ExprTypes.{is_jint}
+use Rattle.type_rules.specs.declared.ty.ExprType.TheVariants as types
 use Rattle.type_rules.specs.TypeRules.{variable_type}
 use Rattle.type_rules.specs.TypeGroups.{IsNumberType}
-use Rattle.base.specs.Element.{ElementType, JChar}
+use Rattle.base.specs.declared.element.ElementType.{ElementType}
+use Rattle.base.specs.declared.element.ElementType.TheVariants.{Char as JChar}
 use Rattle.code.specs.declared.instr.Operand.TheVariants as operand
 use Rattle.code.specs.declared.instr.Target.{Target}
 use Rattle.code.specs.declared.instr.Target.TheVariants as destination
-use Rattle.jni.specs.Access.{Access}
+use Rattle.jni.specs.declared.access.Access.{Access}
 use Rattle.jni.specs.JniFunction.{function_named, prototype, parameters_for}
-use Rattle.jni.specs.Prototype.{ParameterKind, LocalVariable, StaticVariable, FieldID, MethodID, Passed, IntNumber, TextBytes, ArrayVariable, BufferVariable, Mode, IsCopy, ResultKind, NewLocal, NewGlobal, GivesFlag, GivesInt, GivesField, GivesMethod, GivesBuffer, GivesNothing, AnyReference, WeakVariable, NewWeak}
+use Rattle.jni.specs.declared.kinds.ParameterKind.{ParameterKind}
+use Rattle.jni.specs.declared.kinds.ParameterKind.TheVariants.{LocalVariable, StaticVariable, FieldID, MethodID, Passed, IntNumber, TextBytes, ArrayVariable, BufferVariable, Mode, IsCopy, AnyReference, WeakVariable}
+use Rattle.jni.specs.declared.kinds.ResultKind.{ResultKind}
+use Rattle.jni.specs.declared.kinds.ResultKind.TheVariants.{NewLocal, NewGlobal, GivesFlag, GivesInt, GivesField, GivesMethod, GivesBuffer, GivesNothing, NewWeak}
 use Rattle.code.specs.declared.instr.Instr.{Instr}
 use Rattle.code.specs.declared.instr.Instr.TheVariants as instr
 use Rattle.code.specs.declared.slots.SlotCounts.{SlotCounts}
@@ -48,9 +59,9 @@ module _ (slots : SlotCounts) where
   cons_within i b h k = rw (h, k) refl
 
   number_there : (s : ExprType) (i : ℕ) → IsNumberType s → IndexWithin slots s i → i < slots.numbers
-  number_there ty.Word i n h = h
+  number_there types.Word i n h = h
   number_there Jint i n h = h
-  number_there ty.Flag i n h = h
+  number_there types.Flag i n h = h
   number_there s i n h = absurd n
 
   load_within : (i : ℕ) → i < slots.numbers → AllWithin (instr.Load i ∷ [])
@@ -130,10 +141,10 @@ module _ (slots : SlotCounts) where
   -- ---- statements
 
   slot_within : (s : ExprType) (i : ℕ) → IndexWithin slots s i → operand_within slots (variable_operand s i) ≡ true
-  slot_within ty.Word i h = refl
+  slot_within types.Word i h = refl
   slot_within Jint i h = refl
-  slot_within ty.Flag i h = refl
-  slot_within ty.Truth i h = refl
+  slot_within types.Flag i h = refl
+  slot_within types.Truth i h = refl
   slot_within Ref i h = lt-ltb i slots.references h
   slot_within Global i h = lt-ltb i slots.statics h
   slot_within Weak i h = lt-ltb i slots.statics h
@@ -155,22 +166,22 @@ module _ (slots : SlotCounts) where
   passed_name_within known x s all found = ap (λ (o : Option Slot). operand_within slots (passed_variable o)) found ∙ passed_slot_within (is_jint (Some s.ty)) s.ty s.index (all x s found)
 
   passed_within : (known : Known) (e : Expr) → AllThere known → PassedFits known e → operand_within slots (passed_code known e) ≡ true
-  passed_within known (tree.Named tree.Null) all h = refl
+  passed_within known (tree.Named constants.Null) all h = refl
   passed_within known (tree.Variable x) all h = passed_name_within known x h.0 all h.1
   passed_within known e all h = refl
 
   reference_within : (known : Known) (p : ParameterKind) (e : Expr) → IsReferenceKind p → AllThere known → ReferenceFits known e → operand_within slots (operand_code known (p, tree.Value e)) ≡ true
   reference_within known IntNumber e kind all h = absurd kind
   reference_within known Mode e kind all h = absurd kind
-  reference_within known Passed (tree.Named tree.Null) kind all h = refl
+  reference_within known Passed (tree.Named constants.Null) kind all h = refl
   reference_within known Passed (tree.Variable x) kind all h = passed_name_within known x h.0 all h.1
   reference_within known Passed e kind all h = absurd h
-  reference_within known p (tree.Named tree.Null) kind all h = refl
+  reference_within known p (tree.Named constants.Null) kind all h = refl
   reference_within known p (tree.Variable x) kind all h = name_within known x h.0 all h.1
   reference_within known p e kind all h = absurd h
 
   any_within : (known : Known) (e : Expr) → AllThere known → AnyReferenceFits known e → operand_within slots (operand_code known (AnyReference, tree.Value e)) ≡ true
-  any_within known (tree.Named tree.Null) all h = refl
+  any_within known (tree.Named constants.Null) all h = refl
   any_within known (tree.Variable x) all h = name_within known x h.0 all h.1
   any_within known e all h = absurd h
 
@@ -183,12 +194,12 @@ module _ (slots : SlotCounts) where
   named_within known p s e kind all h = absurd h
 
   field_within : (known : Known) (e : Expr) → AllThere known → FieldFits known e → operand_within slots (operand_code known (FieldID, tree.Value e)) ≡ true
-  field_within known (tree.Named tree.Null) all h = refl
+  field_within known (tree.Named constants.Null) all h = refl
   field_within known (tree.Variable x) all h = name_within known x (record { ty = FieldId; index = h.0 }) all h.1
   field_within known e all h = absurd h
 
   method_within : (known : Known) (e : Expr) → AllThere known → MethodFits known e → operand_within slots (operand_code known (MethodID, tree.Value e)) ≡ true
-  method_within known (tree.Named tree.Null) all h = refl
+  method_within known (tree.Named constants.Null) all h = refl
   method_within known (tree.Variable x) all h = name_within known x (record { ty = MethodId; index = h.0 }) all h.1
   method_within known e all h = absurd h
 
@@ -211,7 +222,7 @@ module _ (slots : SlotCounts) where
   operand_fits known (BufferVariable access) (tree.Value e) all h = buffer_within known access e all h
   operand_fits known Mode (tree.Value e) all h = refl
   operand_fits known IsCopy (tree.Value e) all h = ap (λ (d : Expr). operand_within slots (operand_code known (IsCopy, tree.Value d))) h
-  operand_fits known IsCopy (tree.AddressOf x) all h = ap (λ (o : Option Slot). operand_within slots (address_operand o)) h.1 ∙ lt-ltb h.0 slots.numbers (all x (record { ty = ty.Flag; index = h.0 }) h.1)
+  operand_fits known IsCopy (tree.AddressOf x) all h = ap (λ (o : Option Slot). operand_within slots (address_operand o)) h.1 ∙ lt-ltb h.0 slots.numbers (all x (record { ty = types.Flag; index = h.0 }) h.1)
   operand_fits known LocalVariable (tree.Value e) all h = named_within known LocalVariable Ref e tt all h
   operand_fits known StaticVariable (tree.Value e) all h = named_within known StaticVariable Global e tt all h
   operand_fits known WeakVariable (tree.Value e) all h = named_within known WeakVariable Weak e tt all h
@@ -225,7 +236,7 @@ module _ (slots : SlotCounts) where
   number_within s i (inr (inr e)) h = subst (λ (r : ExprType). AllWithin (number_code r i)) (sym e) refl
 
   passed_code_within : (known : Known) (line : ℕ) (e : Expr) → AllThere known → PassedFits known e → AllWithin (passed_rest known line e)
-  passed_code_within known line (tree.Named tree.Null) all h = refl
+  passed_code_within known line (tree.Named constants.Null) all h = refl
   passed_code_within known line (tree.Variable x) all h = subst AllWithin (sym (ap (of_slot number_code) h.1)) (number_within h.0.ty h.0.index h.2 (all x h.0 h.1))
   passed_code_within known line e all h = term_within known line all h.ty
 
@@ -256,10 +267,10 @@ module _ (slots : SlotCounts) where
       subst (λ o. AllWithin (named_call_code known line target o c.arguments)) (sym h.named) (both_within (arguments_code known line (zip parameters c.arguments)) _ (arguments_within known line parameters c.arguments all h.arguments) call)
 
   value_within : (known : Known) (line : ℕ) (kind : ExprType) (i : ℕ) (e : Expr) → AllThere known → IndexWithin slots kind i → ValueFits known kind e → AllWithin (value_code known line (record { ty = kind; index = i }) e)
-  value_within known line ty.Word i e all there fits = subst AllWithin (sym (value_is known line (record { ty = ty.Word; index = i }) e ty.Word fits)) (taken_within known line (term_of e) ty.Word (instr.Store i) all fits (lt-ltb i slots.numbers there))
+  value_within known line types.Word i e all there fits = subst AllWithin (sym (value_is known line (record { ty = types.Word; index = i }) e types.Word fits)) (taken_within known line (term_of e) types.Word (instr.Store i) all fits (lt-ltb i slots.numbers there))
   value_within known line Jint i e all there fits = subst AllWithin (sym (value_is known line (record { ty = Jint; index = i }) e Jint fits)) (taken_within known line (term_of e) Jint (instr.Store i) all fits (lt-ltb i slots.numbers there))
-  value_within known line ty.Flag i e all there fits = subst AllWithin (sym (value_is known line (record { ty = ty.Flag; index = i }) e ty.Flag fits)) (taken_within known line (term_of e) ty.Flag (instr.Store i) all fits (lt-ltb i slots.numbers there))
-  value_within known line ty.Truth i e all there fits = absurd fits
+  value_within known line types.Flag i e all there fits = subst AllWithin (sym (value_is known line (record { ty = types.Flag; index = i }) e types.Flag fits)) (taken_within known line (term_of e) types.Flag (instr.Store i) all fits (lt-ltb i slots.numbers there))
+  value_within known line types.Truth i e all there fits = absurd fits
   value_within known line Ref i e all there fits = subst (λ (d : Expr). AllWithin (value_code known line (record { ty = Ref; index = i }) d)) (sym fits) (rw (lt-ltb i slots.references there) refl)
   value_within known line Global i e all there fits = subst (λ (d : Expr). AllWithin (value_code known line (record { ty = Global; index = i }) d)) (sym fits) (rw (lt-ltb i slots.statics there) refl)
   value_within known line Weak i e all there fits = subst (λ (d : Expr). AllWithin (value_code known line (record { ty = Weak; index = i }) d)) (sym fits) (rw (lt-ltb i slots.statics there) refl)
@@ -287,7 +298,7 @@ module _ (slots : SlotCounts) where
   right_within known line s (FromCall c) all there fits = call_within known line (result_target s.ty s.index) c (target_there (prototype fits.fits.function).result s.ty s.index fits.result there) all fits.fits
 
   return_within : (known : Known) (line : ℕ) (t : Term) → AllThere known → ReturnFits known t → AllWithin (return_code known line t)
-  return_within known line (term.Named tree.Null) all fits = refl
+  return_within known line (term.Named constants.Null) all fits = refl
   return_within known line (Read x) all (s, found, inl e) =
       let there : lookup x known ≡ Some (record { ty = Ref; index = s.index }) = found ∙ ap (λ (r : ExprType). Some (record { ty = r; index = s.index })) e in
       subst AllWithin (sym (ap (of_slot returned_code) there)) (rw (lt-ltb s.index slots.references (all x (record { ty = Ref; index = s.index }) there)) refl)

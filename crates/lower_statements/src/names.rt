@@ -5,7 +5,6 @@ ghost use Rattle.std.specs.Option.{option_map};
 ghost use Rattle.base.specs.Bytes.{lookup};
 ghost use Rattle.syntax.specs.Views.{static_tree, function_tree, parameter_tree};
 ghost use Rattle.code_meaning.specs.Layout.{new_slot, with_static, parameter_slots, numbers_of, references_of, slots_after, with_name, entry_layout};
-ghost use Rattle.type_rules.specs.TypeViews.{type_value};
 ghost use Rattle.lower_statements.specs.Names.{slot_view};
 
 use crate::emitting::counted;
@@ -118,7 +117,7 @@ impl<'a> Names<'a> {
 
     /// The slot of a name that is declared next.
     pub fn new_slot(&self, ty: ExprType) -> Slot
-        ensures { slot_view result ≡ new_slot (type_value ty) self.now }
+        ensures { slot_view result ≡ new_slot ty self.now }
     {
         let index = match ty {
             ExprType::Ref => self.slots.references,
@@ -136,7 +135,7 @@ impl<'a> Names<'a> {
 
     /// Declares a name. More slots than can be counted are no memory.
     pub fn declare(&mut self, name: &'a Name, ty: ExprType) -> Result<(), AllocError>
-        ensures { OnOk result (self.new ≡ with_name name.now (type_value ty) self.old) }
+        ensures { OnOk result (self.new ≡ with_name name.now ty self.old) }
     {
         let slots = slots_after(self.slots, ty)?;
         let slot = self.new_slot(ty);
@@ -179,7 +178,7 @@ fn more(count: u32, by: u32) -> Result<u32, AllocError>
 
 /// The slots with those of one variable more.
 fn slots_after(slots: SlotCounts, ty: ExprType) -> Result<SlotCounts, AllocError>
-    ensures { IfOk result (λ s. s ≡ slots_after (type_value ty) slots) }
+    ensures { IfOk result (λ s. s ≡ slots_after ty slots) }
 {
     let mut after = slots;
     match ty {

@@ -5,8 +5,6 @@ ghost use Rattle.base.specs.Bytes.{lookup};
 ghost use Rattle.syntax.specs.Shapes.{ref_tree};
 ghost use Rattle.syntax.specs.Views.{argument_tree, call_tree, right_side_tree, test_tree, form_tree, block_tree};
 ghost use Rattle.jni.specs.JniFunction.{function_named};
-ghost use Rattle.jni.specs.Table.{function_value, parameter_value};
-ghost use Rattle.type_rules.specs.TypeViews.{type_value};
 ghost use Rattle.semantics.specs.Arguments.{mode_of};
 ghost use Rattle.semantics.specs.Term.{term_of};
 ghost use Rattle.code_meaning.specs.Layout.{closed, layout_after, block_layout, with_name, new_slot};
@@ -242,8 +240,8 @@ fn emit_declaration<'a>(
     right: &RightSide,
 ) -> Result<(), AllocError>
     ensures code { OnOk result (code.new.items ≡ code.old.items
-        ++ right_code names.old.known line (new_slot (type_value ty) names.old) (right_side_tree right.now)) }
-    ensures names { OnOk result (names.new ≡ with_name name.now (type_value ty) names.old) }
+        ++ right_code names.old.known line (new_slot ty names.old) (right_side_tree right.now)) }
+    ensures names { OnOk result (names.new ≡ with_name name.now ty names.old) }
 {
     emit_right(code, names, line, names.new_slot(ty), right)?;
     names.declare(name, ty)
@@ -258,7 +256,7 @@ fn emit_array<'a>(
     len: u32,
 ) -> Result<(), AllocError>
     ensures code { OnOk result (code.new.items ≡ code.old.items ++ Instr.ClearArray (record { start = names.old.slots.numbers; len = len }) ∷ []) }
-    ensures names { OnOk result (names.new ≡ with_name name.now (type_value (ExprType.Array element len)) names.old) }
+    ensures names { OnOk result (names.new ≡ with_name name.now (ExprType.Array element len) names.old) }
 {
     let start = names.slots().numbers;
     emit(code, Instr::ClearArray(LocalArray { start, len }))?;
@@ -309,7 +307,7 @@ fn emit_right(
 /// Where a call's result for the variable of a slot goes.
 #[tactic(auto, using(code_meaning::proofs::ElementWords::element_same))]
 fn result_target(slot: Slot) -> Target
-    ensures { result ≡ result_target (type_value slot.ty) slot.index }
+    ensures { result ≡ result_target slot.ty slot.index }
 {
     match slot.ty {
         ExprType::Ref => Target::Local(slot.index),
@@ -424,7 +422,7 @@ fn emit_prepared(
         ++ Instr.Call (record {
           line = line;
           target = target;
-          function = function_value function;
+          function = function;
           operands = operands.items;
           texts = arguments_texts (map argument_tree arguments.now);
         }) ∷ []) }
@@ -467,7 +465,7 @@ fn emit_argument(
     parameter: ParameterKind,
     argument: &Argument,
 ) -> Result<(), AllocError>
-    ensures { OnOk result (code.new.items ≡ code.old.items ++ argument_code names.now.known line (parameter_value parameter, argument_tree argument.now)) }
+    ensures { OnOk result (code.new.items ≡ code.old.items ++ argument_code names.now.known line (parameter, argument_tree argument.now)) }
 {
     match (parameter, argument) {
         (ParameterKind::IntNumber, Argument::Value(number)) => {
@@ -550,7 +548,7 @@ fn operands_of(
 
 /// Where an argument is found.
 fn operand_of(names: &Names<'_>, parameter: ParameterKind, argument: &Argument) -> Operand
-    ensures { result ≡ operand_code names.now.known (parameter_value parameter, argument_tree argument.now) }
+    ensures { result ≡ operand_code names.now.known (parameter, argument_tree argument.now) }
 {
     match (parameter, argument) {
         (ParameterKind::IntNumber, Argument::Value(_)) => Operand::Number,
@@ -604,7 +602,7 @@ fn release_mode(mode: ExprRef<'_>) -> ReleaseMode
 
 /// A variable that isn't a number.
 fn variable_operand(ty: ExprType, index: u32) -> Operand
-    ensures { result ≡ variable_operand (type_value ty) index }
+    ensures { result ≡ variable_operand ty index }
 {
     match ty {
         ExprType::Ref => Operand::Local(index),

@@ -5,11 +5,9 @@ ghost use Rattle.base.specs.Bytes.{lookup};
 ghost use Rattle.syntax.specs.Parts.{null_tested};
 ghost use Rattle.syntax.specs.Shapes.{ref_tree};
 ghost use Rattle.syntax.specs.Tree.{Binary};
-ghost use Rattle.syntax.specs.Views.{constant_tree, prefix_tree, binary_tree};
 ghost use Rattle.semantics.specs.Term as term;
 ghost use Rattle.semantics.specs.Term.{term_of};
 ghost use Rattle.code_meaning.specs.Coding.{nullable_of, element_code, null_code, of_slot, load_code, constant_code, prefix_code, operator_code, is_signed, skip_code, logical_code, term_code, expr_code};
-ghost use Rattle.type_rules.specs.TypeViews.{type_value};
 
 use crate::emitting::{counted, emit, replace};
 use crate::names::{Names, Slot};
@@ -60,7 +58,7 @@ fn emit_variable(code: &mut Vec<Instr>, names: &Names<'_>, name: &Name) -> Resul
 
 /// A named constant. NULL is no number, and modes are none that are worked out.
 fn emit_constant(code: &mut Vec<Instr>, constant: Constant) -> Result<(), AllocError>
-    ensures { OnOk result (code.new.items ≡ code.old.items ++ constant_code (constant_tree constant)) }
+    ensures { OnOk result (code.new.items ≡ code.old.items ++ constant_code constant) }
 {
     match constant {
         Constant::True => emit(code, Instr::Push(1)),
@@ -108,9 +106,9 @@ fn emit_binary(
     left: ExprRef<'_>,
     right: ExprRef<'_>,
 ) -> Result<(), AllocError>
-    requires { null_tested (Binary (binary_tree operator) (ref_tree left) (ref_tree right)) ≡ None }
+    requires { null_tested (Binary operator (ref_tree left) (ref_tree right)) ≡ None }
     ensures { OnOk result (code.new.items ≡ code.old.items
-        ++ expr_code names.now.known line (Binary (binary_tree operator) (ref_tree left.entry) (ref_tree right.entry))) }
+        ++ expr_code names.now.known line (Binary operator (ref_tree left.entry) (ref_tree right.entry))) }
 {
     match operator {
         BinaryOp::LogicalAnd => emit_logical(code, names, line, true, left, right),
@@ -145,7 +143,7 @@ fn emit_operator(
     right: ExprRef<'_>,
 ) -> Result<(), AllocError>
     ensures { OnOk result (code.new.items ≡ code.old.items
-        ++ term_code names.now.known line (term.Binary (binary_tree operator) (term_of (ref_tree left.entry))
+        ++ term_code names.now.known line (term.Binary operator (term_of (ref_tree left.entry))
         (term_of (ref_tree right.entry)))) }
 {
     emit_expr(code, names, line, left)?;
@@ -162,7 +160,7 @@ fn emit_operation(
     left: ExprRef<'_>,
 ) -> Result<(), AllocError>
     ensures { OnOk result (code.new.items ≡ code.old.items
-        ++ operator_code line (is_signed names.now.known (term_of (ref_tree left.entry))) (binary_tree operator) ∷ []) }
+        ++ operator_code line (is_signed names.now.known (term_of (ref_tree left.entry))) operator ∷ []) }
 {
     let signed = is_signed(names, left);
     emit(code, operator_instr(line, signed, operator))
@@ -229,7 +227,7 @@ fn emit_null_test(
 
 /// The variable of a slot, if it can be NULL.
 pub fn nullable(slot: Slot) -> Option<NullableVariable>
-    ensures { result ≡ nullable_of (type_value slot.ty) slot.index }
+    ensures { result ≡ nullable_of slot.ty slot.index }
 {
     match slot.ty {
         ExprType::Ref => Some(NullableVariable::Local(slot.index)),
@@ -258,7 +256,7 @@ fn is_signed(names: &Names<'_>, operand: ExprRef<'_>) -> bool
 }
 
 fn prefix_instr(operator: PrefixOp) -> Instr
-    ensures { result ≡ prefix_code (prefix_tree operator) }
+    ensures { result ≡ prefix_code operator }
 {
     match operator {
         PrefixOp::LogicalNot => Instr::Not,
@@ -269,7 +267,7 @@ fn prefix_instr(operator: PrefixOp) -> Instr
 
 /// A comparison is one of `jint`s where its operands are.
 fn operator_instr(line: u32, signed: bool, operator: BinaryOp) -> Instr
-    ensures { result ≡ operator_code line signed (binary_tree operator) }
+    ensures { result ≡ operator_code line signed operator }
 {
     match operator {
         BinaryOp::Divide => Instr::OperateOrTrap(TrappingOperator::Divide, line),

@@ -4,15 +4,23 @@ use Rattle.std.specs.Prelude.{unwrap_or}
 use Rattle.std.specs.List.{AllZip}
 use Rattle.code.specs.declared.instr.Operand.TheVariants as operand
 use Rattle.heap.specs.Heap.{values_at}
-use Rattle.jni.specs.Access.{Access, ElementsCopy, ArrayView, CharsCopy, CharsView}
-use Rattle.jni.specs.JniFunction.{GetBuffer, ReleaseBuffer, JniFunction, parameters_for}
-use Rattle.jni.specs.Prototype.{owner, BufferVariable, IsCopy, Mode, NumberArray, StringObject, ParameterKind, NonNull, GivesNothing}
-use Rattle.semantics.specs.Arguments.{ReleaseMode, FreeUncopied, mode_given, variable_given, object_given}
+use Rattle.jni.specs.declared.access.Access.{Access}
+use Rattle.jni.specs.declared.access.Access.TheVariants.{ElementsCopy, ArrayView, CharsCopy, CharsView}
+use Rattle.jni.specs.declared.function.JniFunction.{JniFunction}
+use Rattle.jni.specs.declared.function.JniFunction.TheVariants.{GetBuffer, ReleaseBuffer}
+use Rattle.jni.specs.JniFunction.{parameters_for}
+use Rattle.jni.specs.declared.kinds.ParameterKind.{ParameterKind}
+use Rattle.jni.specs.declared.kinds.ParameterKind.TheVariants.{BufferVariable, IsCopy, Mode, NumberArray, StringObject, NonNull}
+use Rattle.jni.specs.declared.kinds.ResultKind.TheVariants.{GivesNothing}
+use Rattle.jni.specs.Prototype.{owner}
+use Rattle.jni.specs.declared.mode.ReleaseMode.{ReleaseMode}
+use Rattle.jni.specs.declared.mode.ReleaseMode.TheVariants.{FreeUncopied}
+use Rattle.semantics.specs.Arguments.{mode_given, variable_given, object_given}
 use Rattle.semantics.specs.AnswerTable as table
 use Rattle.semantics.specs.AnswerTable.{call_answer}
 use Rattle.semantics.specs.Heap.{values_of}
 use Rattle.code_meaning.specs.Does.{OperandFits}
-use Rattle.base.specs.Element.{ElementType}
+use Rattle.base.specs.declared.element.ElementType.{ElementType}
 use Rattle.base.specs.Bytes.{lookup}
 use Rattle.semantics.specs.Variable.{Elements, NoBuffer, Copy, View}
 use Rattle.semantics.specs.Variable as source

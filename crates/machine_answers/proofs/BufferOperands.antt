@@ -6,7 +6,8 @@ use Rattle.std.specs.List.{AllByRecursion, AllZip}
 use Rattle.std.proofs.Math.Facts.{to_z-of_z}
 use Rattle.std.proofs.lemmas.Bool.Decides.{nat_tests}
 use Rattle.base.specs.Bytes.{Identifier, lookup}
-use Rattle.base.specs.Element.{ElementType, JInt, JShort, JByte, JChar}
+use Rattle.base.specs.declared.element.ElementType.{ElementType}
+use Rattle.base.specs.declared.element.ElementType.TheVariants.{Int as JInt, Short as JShort, Byte as JByte, Char as JChar}
 use Rattle.syntax.specs.Tree.{SourceUnit}
 use Rattle.class_rules.specs.Class.{Classes}
 use Rattle.code.specs.declared.instr.Operand.{Operand}
@@ -15,8 +16,10 @@ use Rattle.jni.specs.declared.mode.ReleaseMode.{ReleaseMode as ModeOfCode}
 use Rattle.code_meaning.specs.Coding.{mode_code}
 use Rattle.code_meaning.specs.Does.{OperandFits}
 use Rattle.heap.specs.Heap.{Space}
-use Rattle.jni.specs.Access.{Access, ElementsCopy}
-use Rattle.jni.specs.Prototype.{ParameterKind, BufferVariable, Mode}
+use Rattle.jni.specs.declared.access.Access.{Access}
+use Rattle.jni.specs.declared.access.Access.TheVariants.{ElementsCopy}
+use Rattle.jni.specs.declared.kinds.ParameterKind.{ParameterKind}
+use Rattle.jni.specs.declared.kinds.ParameterKind.TheVariants.{BufferVariable, Mode}
 use Rattle.semantics.specs.Arguments.{Actual, mode_given, mode_in_actual, variable_given, variable_in_actual}
 use Rattle.semantics.specs.Variable.{Variables}
 use Rattle.semantics_typing.specs.Objects.{AreInRange}

@@ -5,7 +5,7 @@ use Rattle.std.specs.Int.{w32}
 use Rattle.std.specs.List.{AllZip, list_any}
 use Rattle.std.specs.Option.{option_map_or}
 use Rattle.std.proofs.lemmas.Bool.Decides.{eqb_tells}
-use Rattle.base.specs.Element.{ElementType}
+use Rattle.base.specs.declared.element.ElementType.{ElementType}
 use Rattle.syntax.specs.Tree.{SourceUnit}
 use Rattle.class_rules.specs.BuiltIns.{class_class, has_own_making, number_array, string_class}
 use Rattle.class_rules.specs.Class.{Class, Classes, class_at, class_kind, is_plain, superclass}
@@ -14,7 +14,8 @@ use Rattle.classes.specs.declared.class.FieldHandle.{FieldHandle}
 use Rattle.code.specs.declared.instr.Operand.{Operand}
 use Rattle.code.specs.declared.instr.Operand.TheVariants as operand
 use Rattle.heap.specs.Heap.{Space, IsLaidOut, name_at}
-use Rattle.jni.specs.Prototype.{ParameterKind, Passed, ClassObject, FieldID, IntNumber, NumberArray}
+use Rattle.jni.specs.declared.kinds.ParameterKind.{ParameterKind}
+use Rattle.jni.specs.declared.kinds.ParameterKind.TheVariants.{Passed, ClassObject, FieldID, IntNumber, NumberArray}
 use Rattle.semantics.specs.Arguments.{Actual, ReferenceActual, FieldActual, MethodActual, TextActual, VariableActual, ModeActual, NothingActual, reference_given, NumberActual}
 use Rattle.semantics.specs.Object.{Reference}
 use Rattle.code_meaning.specs.Does.{ActualFits, OperandFits}

@@ -12,7 +12,8 @@ use Rattle.code.specs.Call.{Call}
 use Rattle.code.specs.declared.instr.Operand.{Operand}
 use Rattle.code.specs.declared.instr.Operand.TheVariants as operand
 use Rattle.heap.specs.Heap.{Space, IsAddress}
-use Rattle.jni.specs.JniFunction.{JniFunction, is_allowed_pending, parameters_for, prototype}
+use Rattle.jni.specs.declared.function.JniFunction.{JniFunction}
+use Rattle.jni.specs.JniFunction.{is_allowed_pending, parameters_for, prototype}
 use Rattle.semantics.specs.Arguments.{Actual, field_given}
 use Rattle.semantics.specs.CallSight.{ArgumentSight, sight_of_call}
 use Rattle.semantics.specs.Checks.{first_trap, go_together}
@@ -20,7 +21,8 @@ use Rattle.semantics.specs.CallStep.{trap_of_call}
 use Rattle.semantics.specs.Object.{Reference}
 use Rattle.semantics.specs.Task.{Target}
 use Rattle.semantics.specs.Thread.{Shared, Thread}
-use Rattle.semantics.specs.Value.{Trap, NullReference, ExceptionPending, WrongObject, DeletedReference, NoCapacity}
+use Rattle.semantics.specs.declared.trap.Trap.{Trap}
+use Rattle.semantics.specs.declared.trap.Trap.TheVariants.{NullReference, ExceptionPending, WrongObject, DeletedReference, NoCapacity}
 use Rattle.semantics.specs.Variable.{StaticReference}
 use Rattle.semantics.specs.World.{World}
 use Rattle.code_meaning.specs.Lowered.{Lowered}

@@ -8,7 +8,7 @@ use Rattle.base.proofs.Lists.{set_same}
 use Rattle.heap.specs.Heap.{Block, Space, name_at, values_at}
 use Rattle.heap.specs.declared.value.Value.{Value}
 use Rattle.heap.specs.declared.value.Value.TheVariants.{Number as Word, Null, Block as Address}
-use Rattle.jni.specs.Prototype.{GivesNothing}
+use Rattle.jni.specs.declared.kinds.ResultKind.TheVariants.{GivesNothing}
 use Rattle.semantics.specs.Answer as source
 use Rattle.semantics.specs.Heap.{Heap, class_of, number_in, object_at, reference_in, value_at, value_or_zero, values_of, with_value_at}
 use Rattle.semantics.specs.Object.{Object, ObjectValue, Number, Refers}

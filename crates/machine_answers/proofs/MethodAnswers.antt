@@ -3,8 +3,10 @@ use Rattle.std.proofs.Common.{◌≡◌, Bool, true, ◌&&◌, drop, map, Option
 use Rattle.std.specs.Prelude.{◌==◌}
 use Rattle.std.proofs.lemmas.Bool.{and_parts}
 use Rattle.std.proofs.lemmas.List.{drop-map}
-use Rattle.syntax.specs.Tree.{ResultType}
-use Rattle.jni.specs.JniFunction.{JniFunction, CallStaticVoidMethod, CallStaticIntMethod, CallStaticObjectMethod, calls_method, prototype}
+use Rattle.syntax.specs.declared.unit.ResultType.{ResultType}
+use Rattle.jni.specs.declared.function.JniFunction.{JniFunction}
+use Rattle.jni.specs.declared.function.JniFunction.TheVariants.{CallStaticVoidMethod, CallStaticIntMethod, CallStaticObjectMethod}
+use Rattle.jni.specs.JniFunction.{calls_method, prototype}
 use Rattle.semantics.specs.Arguments.{Actual, method_given, object_given}
 use Rattle.semantics.specs.CallStep.{target_element}
 use Rattle.semantics.specs.Answer.{Calls as Calling}

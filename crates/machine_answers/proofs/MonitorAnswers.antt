@@ -4,8 +4,9 @@ use Rattle.std.specs.Prelude.{◌&&◌, unwrap_or}
 use Rattle.class_rules.specs.ClassIds.{class_id}
 use Rattle.class_rules.specs.BuiltIns.{illegal_monitor_state}
 use Rattle.heap.specs.Heap.{name_at}
-use Rattle.jni.specs.JniFunction.{MonitorEnter, MonitorExit}
-use Rattle.jni.specs.Prototype.{NonNull, GivesInt}
+use Rattle.jni.specs.declared.function.JniFunction.TheVariants.{MonitorEnter, MonitorExit}
+use Rattle.jni.specs.declared.kinds.ParameterKind.TheVariants.{NonNull}
+use Rattle.jni.specs.declared.kinds.ResultKind.TheVariants.{GivesInt}
 use Rattle.semantics.specs.Arguments.{object_given}
 use Rattle.semantics.specs.Answer as source
 use Rattle.semantics.specs.CallStep.{is_owned_by_other, trap_of_call}

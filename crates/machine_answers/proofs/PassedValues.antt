@@ -9,8 +9,11 @@ use Rattle.code.specs.declared.instr.Operand.{Operand}
 use Rattle.code.specs.declared.instr.Operand.TheVariants as operand
 use Rattle.heap.specs.Heap.{Space}
 use Rattle.heap.specs.declared.value.Value.{Value}
-use Rattle.jni.specs.JniFunction.{JniFunction, CallStaticVoidMethod, CallStaticIntMethod, CallStaticObjectMethod, calls_method, parameters_for}
-use Rattle.jni.specs.Prototype.{ParameterKind, ClassObject, MethodID, Passed}
+use Rattle.jni.specs.declared.function.JniFunction.{JniFunction}
+use Rattle.jni.specs.declared.function.JniFunction.TheVariants.{CallStaticVoidMethod, CallStaticIntMethod, CallStaticObjectMethod}
+use Rattle.jni.specs.JniFunction.{calls_method, parameters_for}
+use Rattle.jni.specs.declared.kinds.ParameterKind.{ParameterKind}
+use Rattle.jni.specs.declared.kinds.ParameterKind.TheVariants.{ClassObject, MethodID, Passed}
 use Rattle.semantics.specs.Arguments.{Actual, NumberActual, passed_value}
 use Rattle.semantics.specs.Object.{Refers, Reference}
 use Rattle.semantics.specs.Variable.{StaticReference, as_reference, as_static}

@@ -4,15 +4,18 @@ use Rattle.std.specs.Prelude.{if◌then◌else◌, nat_le}
 use Rattle.std.specs.List.{AllZip}
 use Rattle.std.specs.Option.{option_map_or}
 use Rattle.std.proofs.lemmas.Bool.{leb-true}
-use Rattle.base.specs.Element.{ElementType}
+use Rattle.base.specs.declared.element.ElementType.{ElementType}
 use Rattle.class_rules.specs.ClassIds.{class_id}
 use Rattle.class_rules.specs.BuiltIns.{number_array}
 use Rattle.code.specs.declared.instr.LocalArray.{LocalArray as ArraySlots}
 use Rattle.code.specs.declared.instr.Operand.{Operand}
 use Rattle.code.specs.declared.instr.Operand.TheVariants as operand
 use Rattle.heap.specs.Heap.{name_at, values_at}
-use Rattle.jni.specs.JniFunction.{JniFunction, parameters_for}
-use Rattle.jni.specs.Prototype.{ParameterKind, ArrayVariable, IntNumber, NumberArray, GivesNothing}
+use Rattle.jni.specs.declared.function.JniFunction.{JniFunction}
+use Rattle.jni.specs.JniFunction.{parameters_for}
+use Rattle.jni.specs.declared.kinds.ParameterKind.{ParameterKind}
+use Rattle.jni.specs.declared.kinds.ParameterKind.TheVariants.{ArrayVariable, IntNumber, NumberArray}
+use Rattle.jni.specs.declared.kinds.ResultKind.TheVariants.{GivesNothing}
 use Rattle.semantics.specs.Answer as source
 use Rattle.semantics.specs.Answer.{Region}
 use Rattle.semantics.specs.AnswerTable.{region_with, region_within}
@@ -20,7 +23,7 @@ use Rattle.semantics.specs.Arguments.{name_or_zero}
 use Rattle.semantics.specs.CallEffects.{local_array}
 use Rattle.semantics.specs.Heap.{numbers_of, values_of}
 use Rattle.semantics.specs.Object.{Number, Object}
-use Rattle.semantics.specs.Value as trap
+use Rattle.semantics.specs.declared.trap.Trap.TheVariants as traps
 use Rattle.semantics.specs.declared.trap.Trap.TheVariants.{OutOfRange}
 use Rattle.semantics_typing.specs.Objects.{element_type_of}
 use Rattle.code_meaning.specs.Does.{OperandFits}
@@ -89,7 +92,7 @@ module _ (both : TwoCalls) where
       raises = stands both none (raised both exception low high)
 
       by_room : (i j : ℕ) (b : Bool) → nat_le j array.len ≡ b → i + j ≤ length (values_at store.heap a)
-          → Stands both (if b then answer (part i j) else replies.Halts OutOfRange) GivesNothing (if b then go (part_seen i j) else source.Halts trap.OutOfRange)
+          → Stands both (if b then answer (part i j) else replies.Halts OutOfRange) GivesNothing (if b then go (part_seen i j) else source.Halts traps.OutOfRange)
       by_room i j true few within = each i j (leb-true j array.len few) within
       by_room i j false few within = row.halts
 

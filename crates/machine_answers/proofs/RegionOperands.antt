@@ -6,7 +6,7 @@ use Rattle.std.specs.List.{AllZip}
 use Rattle.std.proofs.lemmas.List.{drop-map, take-map}
 use Rattle.std.proofs.lemmas.Option.{slice_get-get_or, slice_get_within}
 use Rattle.base.specs.Bytes.{Identifier, lookup}
-use Rattle.base.specs.Element.{ElementType}
+use Rattle.base.specs.declared.element.ElementType.{ElementType}
 use Rattle.class_rules.specs.BuiltIns.{number_array}
 use Rattle.class_rules.specs.Class.{Classes, NumberField}
 use Rattle.class_rules.specs.Grown.{IsGrown}
@@ -17,7 +17,8 @@ use Rattle.code_meaning.specs.Does.{ActualFits, OperandFits}
 use Rattle.heap.specs.Heap.{Space}
 use Rattle.heap.specs.declared.value.Value.{Value}
 use Rattle.heap.specs.declared.value.Value.TheVariants.{Number as Word, Null, Block as Address}
-use Rattle.jni.specs.Prototype.{ParameterKind, ArrayVariable}
+use Rattle.jni.specs.declared.kinds.ParameterKind.{ParameterKind}
+use Rattle.jni.specs.declared.kinds.ParameterKind.TheVariants.{ArrayVariable}
 use Rattle.semantics.specs.Arguments.{Actual, variable_given, variable_in_actual}
 use Rattle.semantics.specs.Heap.{Heap, number_in, numbers_of, values_of}
 use Rattle.semantics.specs.Object.{ObjectValue, Number, Refers}

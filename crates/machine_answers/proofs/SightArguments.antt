@@ -9,9 +9,12 @@ use Rattle.class_rules.specs.Fields.{FieldId}
 use Rattle.classes.specs.declared.class.FieldHandle.{FieldHandle}
 use Rattle.code.specs.declared.instr.Operand.{Operand}
 use Rattle.code.specs.declared.instr.Operand.TheVariants as operand
-use Rattle.jni.specs.Prototype.{ParameterKind, IntNumber, Passed}
-use Rattle.jni.specs.Prototype as jni
-use Rattle.semantics.specs.Arguments.{Actual, ReferenceActual, FieldActual, MethodActual, ReleaseMode, CopyBackAndFree, CopyBack, FreeUncopied, field_in_actual, number_in_actual, name_or_zero, reference_in_actual, text_in_actual}
+use Rattle.jni.specs.declared.kinds.ParameterKind.{ParameterKind}
+use Rattle.jni.specs.declared.kinds.ParameterKind.TheVariants.{IntNumber, Passed}
+use Rattle.jni.specs.declared.kinds.ParameterKind.TheVariants as kinds
+use Rattle.jni.specs.declared.mode.ReleaseMode.{ReleaseMode}
+use Rattle.jni.specs.declared.mode.ReleaseMode.TheVariants.{CopyBackAndFree, CopyBack, FreeUncopied}
+use Rattle.semantics.specs.Arguments.{Actual, ReferenceActual, FieldActual, MethodActual, field_in_actual, number_in_actual, name_or_zero, reference_in_actual, text_in_actual}
 use Rattle.semantics.specs.CallSight.{is_deleted, ArgumentSight}
 use Rattle.semantics.specs.CallSight as source
 use Rattle.semantics.specs.Heap.{Heap}
@@ -98,14 +101,14 @@ takes_number p (inr e) = ap (λ (q : ParameterKind). takes_word (Some q) operand
 
 -- a parameter of references is one
 is_kind : (p : ParameterKind) → IsReferenceKind p → is_reference_kind (Some p) ≡ true
-is_kind jni.FieldID h = absurd h
-is_kind jni.MethodID h = absurd h
-is_kind jni.IsCopy h = absurd h
+is_kind kinds.FieldID h = absurd h
+is_kind kinds.MethodID h = absurd h
+is_kind kinds.IsCopy h = absurd h
 is_kind p h = refl
 
 -- what is asked of it may be NULL
 kind_null : (p : ParameterKind) → IsReferenceKind p → null_seen true (Some p) ≡ true
-kind_null jni.IsCopy h = absurd h
+kind_null kinds.IsCopy h = absurd h
 kind_null p h = refl
 
 null_stays : (b : Bool) (p : ParameterKind) → IsReferenceKind p → null_seen b (Some p) ≡ b
@@ -158,7 +161,7 @@ module _ (scene : Scene) (heap : Heap) (agrees : HeapAgrees scene.space heap) (p
       (ap (λ (q : ParameterKind). null_seen (is_none (field_at scene.fields (operand.FieldId i))) (Some q)) fits ∙ field_null (is_none (field_at scene.fields (operand.FieldId i))) ∙ no_field_null scene.classes (field_at scene.fields (operand.FieldId i)) h.field h.agrees) refl refl
       ∙ sym (ap (λ (b : Actual). source.argument_seen heap (Some b)) h.is)
     where
-      field_null : (b : Bool) → null_seen b (Some jni.FieldID) ≡ b
+      field_null : (b : Bool) → null_seen b (Some kinds.FieldID) ≡ b
       field_null true = refl
       field_null false = refl
   sight_is (operand.MethodId i) a fits kind h =
@@ -167,7 +170,7 @@ module _ (scene : Scene) (heap : Heap) (agrees : HeapAgrees scene.space heap) (p
       (ap (λ (q : ParameterKind). null_seen (is_none (method_at scene.fields (operand.MethodId i))) (Some q)) fits ∙ method_null (is_none (method_at scene.fields (operand.MethodId i))) ∙ no_method_null scene.unit scene.classes (method_at scene.fields (operand.MethodId i)) h.method h.agrees) refl refl
       ∙ sym (ap (λ (b : Actual). source.argument_seen heap (Some b)) h.is)
     where
-      method_null : (b : Bool) → null_seen b (Some jni.MethodID) ≡ b
+      method_null : (b : Bool) → null_seen b (Some kinds.MethodID) ≡ b
       method_null true = refl
       method_null false = refl
   sight_is (operand.Local i) a fits kind h =
@@ -201,7 +204,7 @@ module _ (scene : Scene) (heap : Heap) (agrees : HeapAgrees scene.space heap) (p
       null_only (Some n) h = absurd h
   sight_is operand.Null a fits kind (inr (inl h)) =
       let is : a ≡ FieldActual None = h.is ∙ ap FieldActual (null_only h.field h.agrees) in
-      let of_field : p ≡ jni.FieldID = subst (ActualFits p) is kind in
+      let of_field : p ≡ kinds.FieldID = subst (ActualFits p) is kind in
       ap (λ (b : Actual). shown operand.Null b) is
       ∙ same_sight refl refl refl refl refl refl (ap (λ (q : ParameterKind). null_seen true (Some q)) of_field) refl (ap (λ (q : ParameterKind). is_reference_kind (Some q)) of_field)
       ∙ sym (ap (λ (b : Actual). source.argument_seen heap (Some b)) is)
@@ -211,7 +214,7 @@ module _ (scene : Scene) (heap : Heap) (agrees : HeapAgrees scene.space heap) (p
       null_only (Some f) h = absurd h
   sight_is operand.Null a fits kind (inr (inr (inl h))) =
       let is : a ≡ MethodActual None = h.is ∙ ap MethodActual (null_only h.method h.agrees) in
-      let of_method : p ≡ jni.MethodID = subst (ActualFits p) is kind in
+      let of_method : p ≡ kinds.MethodID = subst (ActualFits p) is kind in
       ap (λ (b : Actual). shown operand.Null b) is
       ∙ same_sight refl refl refl refl refl refl (ap (λ (q : ParameterKind). null_seen true (Some q)) of_method) refl (ap (λ (q : ParameterKind). is_reference_kind (Some q)) of_method)
       ∙ sym (ap (λ (b : Actual). source.argument_seen heap (Some b)) is)
@@ -220,7 +223,7 @@ module _ (scene : Scene) (heap : Heap) (agrees : HeapAgrees scene.space heap) (p
       null_only None h = refl
       null_only (Some m) h = absurd h
   sight_is operand.Null a fits kind (inr (inr (inr h))) =
-      let of_copy : p ≡ jni.IsCopy = subst (ActualFits p) h kind in
+      let of_copy : p ≡ kinds.IsCopy = subst (ActualFits p) h kind in
       ap (λ (b : Actual). shown operand.Null b) h
       ∙ same_sight refl refl refl refl refl refl (ap (λ (q : ParameterKind). null_seen true (Some q)) of_copy) refl (ap (λ (q : ParameterKind). is_reference_kind (Some q)) of_copy)
       ∙ sym (ap (λ (b : Actual). source.argument_seen heap (Some b)) h)

@@ -7,7 +7,7 @@ use Rattle.std.proofs.Math.Facts.{to_z-of_z}
 use Rattle.heap.specs.Heap.{Block, Space, name_at}
 use Rattle.heap.specs.declared.value.Value.{Value}
 use Rattle.heap.specs.declared.value.Value.TheVariants.{Number as Word, Null, Block as Address}
-use Rattle.jni.specs.Prototype.{ParameterKind}
+use Rattle.jni.specs.declared.kinds.ParameterKind.{ParameterKind}
 use Rattle.semantics.specs.Arguments.{name_or_zero}
 use Rattle.semantics.specs.CallSight as source
 use Rattle.semantics.specs.Heap.{Heap, object_at}

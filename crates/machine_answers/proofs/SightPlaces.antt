@@ -6,7 +6,8 @@ use Rattle.std.specs.List.{AllZip}
 use Rattle.std.proofs.Math.Facts.{to_z-of_z}
 use Rattle.code.specs.declared.instr.Operand.{Operand}
 use Rattle.code.specs.declared.instr.Operand.TheVariants as operand
-use Rattle.jni.specs.Prototype.{ParameterKind, IntNumber, Passed, TextBytes}
+use Rattle.jni.specs.declared.kinds.ParameterKind.{ParameterKind}
+use Rattle.jni.specs.declared.kinds.ParameterKind.TheVariants.{IntNumber, Passed, TextBytes}
 use Rattle.semantics.specs.Arguments.{Actual, ReferenceActual, FieldActual, MethodActual, NumberActual, TextActual, VariableActual, ModeActual, NothingActual, number_in_actual, text_in_actual}
 use Rattle.semantics.specs.Value.{Int}
 use Rattle.code_meaning.specs.Does.{ActualFits, IsVariableKind, text_given, texts_given, word_given, words_given}

@@ -4,12 +4,15 @@ use Rattle.std.specs.Prelude.{◌⊎◌, is_some, IsSome, if◌then◌else◌, p
 use Rattle.std.specs.List.{AllZip}
 use Rattle.std.specs.Option.{option_map}
 use Rattle.base.specs.Bytes.{lookup}
-use Rattle.base.specs.Element.{ElementType}
+use Rattle.base.specs.declared.element.ElementType.{ElementType}
 use Rattle.code.specs.Call.{Call}
 use Rattle.code.specs.declared.instr.Operand.{Operand}
 use Rattle.code.specs.declared.instr.Operand.TheVariants as operand
-use Rattle.jni.specs.JniFunction.{JniFunction, DeleteGlobalRef, DeleteWeakGlobalRef, parameters_for, prototype}
-use Rattle.jni.specs.Prototype.{ParameterKind, ArrayVariable, StaticVariable, WeakVariable}
+use Rattle.jni.specs.declared.function.JniFunction.{JniFunction}
+use Rattle.jni.specs.declared.function.JniFunction.TheVariants.{DeleteGlobalRef, DeleteWeakGlobalRef}
+use Rattle.jni.specs.JniFunction.{parameters_for, prototype}
+use Rattle.jni.specs.declared.kinds.ParameterKind.{ParameterKind}
+use Rattle.jni.specs.declared.kinds.ParameterKind.TheVariants.{ArrayVariable, StaticVariable, WeakVariable}
 use Rattle.semantics.specs.Arguments.{Actual, name_or_zero, number_in_actual, reference_in_actual, variable_given, variable_in_actual}
 use Rattle.semantics.specs.CallEffects.{local_array}
 use Rattle.semantics.specs.CallSight as source

@@ -3,9 +3,12 @@ use Rattle.std.proofs.Common.{◌≡◌, ℕ, zero, suc, ◌+◌, ◌-◌, ◌++
 use Rattle.std.specs.Prelude.{◌==◌, ◌&&◌, ◌||◌, if◌then◌else◌, nat_le, zip}
 use Rattle.std.specs.List.{list_any}
 use Rattle.std.specs.Option.{option_map, option_map_or}
-use Rattle.base.specs.Element.{ElementType}
+use Rattle.base.specs.declared.element.ElementType.{ElementType}
 use Rattle.base.specs.Limits.{most_activations}
-use Rattle.syntax.specs.Tree.{Function, IntParameter, Parameter, ParameterType, ReferenceParameter, ResultType}
+use Rattle.syntax.specs.declared.declared_type.ParameterType.{ParameterType}
+use Rattle.syntax.specs.declared.declared_type.ParameterType.TheVariants.{Jint as IntParameter, Reference as ReferenceParameter}
+use Rattle.syntax.specs.declared.unit.ResultType.{ResultType}
+use Rattle.syntax.specs.Tree.{Function, Parameter}
 use Rattle.class_rules.specs.BuiltIns.{has_own_making, throwable_class}
 use Rattle.class_rules.specs.Class.{Classes, FieldType, NumberField, ReferenceField, assignable, class_kind, is_plain}
 use Rattle.class_rules.specs.Fields.{FieldId}
@@ -14,9 +17,14 @@ use Rattle.code.specs.Call.{Call}
 use Rattle.code.specs.declared.instr.Operand.{Operand}
 use Rattle.code.specs.declared.instr.Operand.TheVariants as operand
 use Rattle.heap.specs.Heap.{Block, Space, block_at}
-use Rattle.jni.specs.Access.{ElementsCopy, ArrayView, CharsCopy, CharsView}
-use Rattle.jni.specs.JniFunction.{JniFunction, AllocObject, CallStaticIntMethod, CallStaticObjectMethod, CallStaticVoidMethod, GetBuffer, GetStaticField, GetStaticObjectField, NewObjectArray, PopLocalFrame, SetObjectField, SetStaticField, SetStaticObjectField, ThrowNew, calls_method, is_allowed_pending, parameters_for, prototype}
-use Rattle.jni.specs.Prototype.{ParameterKind, Nullable, AnyReference, LocalVariable, StaticVariable, WeakVariable, Passed, ClassObject, NumberArray, AnyArray, ObjectArray, StringObject, MethodID, ResultKind, NewLocal}
+use Rattle.jni.specs.declared.access.Access.TheVariants.{ElementsCopy, ArrayView, CharsCopy, CharsView}
+use Rattle.jni.specs.declared.function.JniFunction.{JniFunction}
+use Rattle.jni.specs.declared.function.JniFunction.TheVariants.{AllocObject, CallStaticIntMethod, CallStaticObjectMethod, CallStaticVoidMethod, GetBuffer, GetStaticField, GetStaticObjectField, NewObjectArray, PopLocalFrame, SetObjectField, SetStaticField, SetStaticObjectField, ThrowNew}
+use Rattle.jni.specs.JniFunction.{calls_method, is_allowed_pending, parameters_for, prototype}
+use Rattle.jni.specs.declared.kinds.ParameterKind.{ParameterKind}
+use Rattle.jni.specs.declared.kinds.ParameterKind.TheVariants.{Nullable, AnyReference, LocalVariable, StaticVariable, WeakVariable, Passed, ClassObject, NumberArray, AnyArray, ObjectArray, StringObject, MethodID}
+use Rattle.jni.specs.declared.kinds.ResultKind.{ResultKind}
+use Rattle.jni.specs.declared.kinds.ResultKind.TheVariants.{NewLocal}
 use Rattle.semantics.specs.Arguments.{name_or_zero}
 use Rattle.semantics.specs.CallSight.{ArgumentSight, CallSight, name_of_first}
 use Rattle.semantics.specs.Checks.{is_int, is_reference_result, is_void, first_trap}
@@ -26,7 +34,8 @@ use Rattle.semantics.specs.Method.{MethodId}
 use Rattle.semantics.specs.Thread.{Monitor}
 use Rattle.semantics.specs.Variable.{StaticReference}
 use Rattle.monitors.specs.declared.monitors.Monitor.{Monitor as Owned}
-use Rattle.semantics.specs.Value.{Trap, CallsTooDeep, NullReference, ExceptionPending, WrongObject, DeletedReference, NoCapacity}
+use Rattle.semantics.specs.declared.trap.Trap.{Trap}
+use Rattle.semantics.specs.declared.trap.Trap.TheVariants.{CallsTooDeep, NullReference, ExceptionPending, WrongObject, DeletedReference, NoCapacity}
 use Rattle.semantics.proofs.CheckLaws.{lacks_without, together_without}
 use Rattle.tables.specs.Locals.{LocalTable, has_room}
 use Rattle.machine_scenes.specs.declared.handle.MethodHandle.{MethodHandle}

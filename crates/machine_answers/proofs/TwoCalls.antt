@@ -8,8 +8,10 @@ use Rattle.class_rules.specs.BuiltIns.{class_class, no_such_method_error}
 use Rattle.class_rules.specs.Grown.{HasMethodError}
 use Rattle.code.specs.Call.{Call}
 use Rattle.heap.specs.Heap.{name_at}
-use Rattle.jni.specs.JniFunction.{JniFunction, parameters_for, prototype}
-use Rattle.jni.specs.Prototype.{ParameterKind, ClassObject}
+use Rattle.jni.specs.declared.function.JniFunction.{JniFunction}
+use Rattle.jni.specs.JniFunction.{parameters_for, prototype}
+use Rattle.jni.specs.declared.kinds.ParameterKind.{ParameterKind}
+use Rattle.jni.specs.declared.kinds.ParameterKind.TheVariants.{ClassObject}
 use Rattle.semantics.specs.Arguments.{Actual, reference_given, object_given, name_or_zero}
 use Rattle.semantics.specs.AnswerTable.{call_answer}
 use Rattle.semantics.specs.CallSight.{sight_of_call}

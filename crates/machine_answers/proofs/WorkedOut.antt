@@ -1,6 +1,6 @@
 -- What is worked out of a call of each function, by what is in memory.
 use Rattle.std.specs.Prelude.{◌==◌, ◌≡◌, ℕ, List, [], slice_get, unwrap_or, is_some, Option, Some, None}
-use Rattle.base.specs.Element.{ElementType}
+use Rattle.base.specs.declared.element.ElementType.{ElementType}
 use Rattle.class_rules.specs.ClassIds.{class_id}
 use Rattle.class_rules.specs.BuiltIns.{array_index_out_of_bounds, string_index_out_of_bounds, number_array}
 use Rattle.class_rules.specs.Class.{array_class_of, assignable, class_named, superclass}
@@ -12,7 +12,8 @@ use Rattle.code_meaning.specs.Coding.{element_of}
 use Rattle.heap.specs.Heap.{Space}
 use Rattle.heap.specs.declared.value.Value.{Value}
 use Rattle.heap.specs.declared.value.Value.TheVariants as value
-use Rattle.jni.specs.JniFunction.{GetBuffer, ReleaseBuffer, JniFunction, FindClass, GetSuperclass, GetObjectClass, IsInstanceOf, IsAssignableFrom, AllocObject, NewLocalRef, NewGlobalRef, NewWeakGlobalRef, DeleteLocalRef, DeleteGlobalRef, DeleteWeakGlobalRef, IsSameObject, EnsureLocalCapacity, PushLocalFrame, PopLocalFrame, GetFieldID, GetStaticFieldID, GetField, SetField, GetStaticField, SetStaticField, GetObjectField, SetObjectField, GetStaticObjectField, SetStaticObjectField, GetArrayLength, GetStringLength, NewArray, NewObjectArray, GetObjectArrayElement, SetObjectArrayElement, NewStringUTF, Throw, ThrowNew, ExceptionOccurred, ExceptionCheck, ExceptionClear, FatalError, MonitorEnter, MonitorExit, GetArrayRegion, SetArrayRegion, GetStringRegion, GetStaticMethodID, CallStaticVoidMethod, CallStaticIntMethod, CallStaticObjectMethod}
+use Rattle.jni.specs.declared.function.JniFunction.{JniFunction}
+use Rattle.jni.specs.declared.function.JniFunction.TheVariants.{GetBuffer, ReleaseBuffer, FindClass, GetSuperclass, GetObjectClass, IsInstanceOf, IsAssignableFrom, AllocObject, NewLocalRef, NewGlobalRef, NewWeakGlobalRef, DeleteLocalRef, DeleteGlobalRef, DeleteWeakGlobalRef, IsSameObject, EnsureLocalCapacity, PushLocalFrame, PopLocalFrame, GetFieldID, GetStaticFieldID, GetField, SetField, GetStaticField, SetStaticField, GetObjectField, SetObjectField, GetStaticObjectField, SetStaticObjectField, GetArrayLength, GetStringLength, NewArray, NewObjectArray, GetObjectArrayElement, SetObjectArrayElement, NewStringUTF, Throw, ThrowNew, ExceptionOccurred, ExceptionCheck, ExceptionClear, FatalError, MonitorEnter, MonitorExit, GetArrayRegion, SetArrayRegion, GetStringRegion, GetStaticMethodID, CallStaticVoidMethod, CallStaticIntMethod, CallStaticObjectMethod}
 use Rattle.semantics.specs.Method.{find_method}
 use Rattle.monitors.specs.declared.monitors.Monitor.{Monitor}
 use Rattle.monitors.specs.Monitors.{entering, leaving, monitor_of}

@@ -4,7 +4,9 @@ use Rattle.syntax.specs.Tree.{SourceUnit}
 use Rattle.syntax.specs.Views.{unit_tree}
 use Rattle.code.specs.Call.{Call}
 use Rattle.code_meaning.specs.Lowered.{Lowered}
-use Rattle.jni.specs.JniFunction.{JniFunction, DeleteLocalRef, calls_method, prototype}
+use Rattle.jni.specs.declared.function.JniFunction.{JniFunction}
+use Rattle.jni.specs.declared.function.JniFunction.TheVariants.{DeleteLocalRef}
+use Rattle.jni.specs.JniFunction.{calls_method, prototype}
 use Rattle.semantics.specs.AnswerTable.{call_answer}
 use Rattle.semantics.specs.Arguments.{Actual}
 use Rattle.semantics.specs.CallSight.{sight_of_call}

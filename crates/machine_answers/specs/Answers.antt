@@ -12,7 +12,8 @@ use Rattle.class_rules.specs.Fields.{FieldId}
 use Rattle.classes.specs.declared.class.FieldHandle.{FieldHandle}
 use Rattle.heap.specs.Heap.{Space, name_at, values_at}
 use Rattle.heap.specs.declared.value.Value.{Value}
-use Rattle.jni.specs.Prototype.{ResultKind, NewLocal, NewGlobal, GivesFlag, GivesInt, GivesField, GivesMethod, GivesNothing, NewWeak}
+use Rattle.jni.specs.declared.kinds.ResultKind.{ResultKind}
+use Rattle.jni.specs.declared.kinds.ResultKind.TheVariants.{NewLocal, NewGlobal, GivesFlag, GivesInt, GivesField, GivesMethod, GivesNothing, NewWeak}
 use Rattle.semantics.specs.Answer as source
 use Rattle.semantics.specs.Answer.{Region, effect_of}
 use Rattle.semantics.specs.AnswerTable.{monitor_entered, monitor_left, released}
@@ -24,7 +25,8 @@ use Rattle.semantics.specs.Object.{Object, ObjectValue, Number, Reference}
 use Rattle.semantics.specs.Thread.{BuffersInUse, Monitor, Shared, Thread, monitor_of}
 use Rattle.semantics.specs.Value.{Int, Flag}
 use Rattle.semantics.specs.Variable.{StaticReference, Live, Weakly, Cleared}
-use Rattle.semantics.specs.Arguments.{Actual, ReleaseMode, variable_given}
+use Rattle.jni.specs.declared.mode.ReleaseMode.{ReleaseMode}
+use Rattle.semantics.specs.Arguments.{Actual, variable_given}
 use Rattle.code.specs.declared.instr.LocalArray.{LocalArray}
 use Rattle.code.specs.declared.instr.Operand.{Operand}
 use Rattle.code.specs.declared.instr.Operand.TheVariants as operand
@@ -48,7 +50,6 @@ use Rattle.machine_scenes.specs.Given.{operand_of}
 use Rattle.machine_scenes.specs.HeapAgrees.{ReferenceAgrees, ValueAgrees}
 use Rattle.machine_scenes.specs.Locals.{IsKeyOf}
 use Rattle.machine_scenes.specs.NewObjects.{Describes, IsMakeable, text_in}
-use Rattle.semantics.specs.EventViews.{trap_view}
 
 -- What a function of this kind of result gives in memory is what it gives in the source; NULL where it failed.
 pub data GivenAgrees (unit : SourceUnit) (classes : Classes) (space : Space) : ResultKind → Given → CallResult → Type 0 where
@@ -247,4 +248,4 @@ pub data IsAnswer (classes : Classes) (brought : Brought) (space : Space) (local
   deletes_weak : {i : ℕ} (variable : ℕ) → HoldsWeakly s (variable_given brought.args variable) i
       → IsAnswer classes brought space locals s t (answer.DeletesWeak i) GivesNothing (source.DeletesWeak variable)
   calls : {kind : ResultKind} (method : MethodId) → IsAnswer classes brought space locals s t answer.Calls kind (source.Calls method)
-  halts : {trap : Trap} {kind : ResultKind} → IsAnswer classes brought space locals s t (answer.Halts trap) kind (source.Halts (trap_view trap))
+  halts : {trap : Trap} {kind : ResultKind} → IsAnswer classes brought space locals s t (answer.Halts trap) kind (source.Halts trap)

@@ -9,8 +9,10 @@ use Rattle.class_rules.specs.Grown.{HasMethodError}
 use Rattle.code.specs.Call.{Call}
 use Rattle.code.specs.declared.instr.Operand.TheVariants as operand
 use Rattle.heap.specs.Heap.{Space}
-use Rattle.jni.specs.Access.{Access}
-use Rattle.jni.specs.JniFunction.{JniFunction, DeleteGlobalRef, DeleteLocalRef, DeleteWeakGlobalRef, GetStaticMethodID, ReleaseBuffer, parameters_for}
+use Rattle.jni.specs.declared.access.Access.{Access}
+use Rattle.jni.specs.declared.function.JniFunction.{JniFunction}
+use Rattle.jni.specs.declared.function.JniFunction.TheVariants.{DeleteGlobalRef, DeleteLocalRef, DeleteWeakGlobalRef, GetStaticMethodID, ReleaseBuffer}
+use Rattle.jni.specs.JniFunction.{parameters_for}
 use Rattle.region_rules.specs.RegionRules.{is_critical_call}
 use Rattle.semantics.specs.Arguments.{Actual, object_given, reference_given, variable_given}
 use Rattle.semantics.specs.CallEffects.{level_of}

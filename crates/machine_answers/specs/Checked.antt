@@ -1,8 +1,11 @@
 -- What is checked of a call before it does anything, by what is in memory.
 use Rattle.std.specs.Prelude.{◌≡◌, ℕ, if◌then◌else◌, drop, slice_get, Bool, true, false, not, ◌&&◌, ◌||◌, ◌==◌, List, [], ◌∷◌, ◌++◌, is_some, Option, Some, None}
 use Rattle.std.specs.List.{list_any}
-use Rattle.base.specs.Element.{ElementType}
-use Rattle.syntax.specs.Tree.{Function, FunctionItem, IntParameter, Item, Parameter, ParameterType, ReferenceParameter, ResultType, SourceUnit}
+use Rattle.base.specs.declared.element.ElementType.{ElementType}
+use Rattle.syntax.specs.declared.declared_type.ParameterType.{ParameterType}
+use Rattle.syntax.specs.declared.declared_type.ParameterType.TheVariants.{Jint as IntParameter, Reference as ReferenceParameter}
+use Rattle.syntax.specs.declared.unit.ResultType.{ResultType}
+use Rattle.syntax.specs.Tree.{Function, FunctionItem, Item, Parameter, SourceUnit}
 use Rattle.class_queries.specs.Kinds.{class_misfits}
 use Rattle.class_rules.specs.BuiltIns.{has_own_making, throwable_class, number_array}
 use Rattle.class_rules.specs.Class.{Classes, FieldType, NumberField, ReferenceField, class_kind, is_plain, assignable}
@@ -11,12 +14,18 @@ use Rattle.code.specs.Call.{Call}
 use Rattle.code.specs.declared.instr.Operand.{Operand}
 use Rattle.code.specs.declared.instr.Operand.TheVariants as operand
 use Rattle.heap.specs.Heap.{Space}
-use Rattle.jni.specs.Access.{ArrayView}
-use Rattle.jni.specs.JniFunction.{is_allowed_pending, JniFunction, GetBuffer, AllocObject, GetField, SetField, GetStaticField, SetStaticField, GetObjectField, SetObjectField, GetStaticObjectField, SetStaticObjectField, NewObjectArray, Throw, ThrowNew, CallStaticVoidMethod, CallStaticIntMethod, CallStaticObjectMethod, prototype}
-use Rattle.jni.specs.Prototype.{ParameterKind, Nullable, AnyReference, LocalVariable, StaticVariable, WeakVariable, IsCopy, Passed, ResultKind, NewLocal}
+use Rattle.jni.specs.declared.access.Access.TheVariants.{ArrayView}
+use Rattle.jni.specs.declared.function.JniFunction.{JniFunction}
+use Rattle.jni.specs.declared.function.JniFunction.TheVariants.{GetBuffer, AllocObject, GetField, SetField, GetStaticField, SetStaticField, GetObjectField, SetObjectField, GetStaticObjectField, SetStaticObjectField, NewObjectArray, Throw, ThrowNew, CallStaticVoidMethod, CallStaticIntMethod, CallStaticObjectMethod}
+use Rattle.jni.specs.JniFunction.{is_allowed_pending, prototype}
+use Rattle.jni.specs.declared.kinds.ParameterKind.{ParameterKind}
+use Rattle.jni.specs.declared.kinds.ParameterKind.TheVariants.{Nullable, AnyReference, LocalVariable, StaticVariable, WeakVariable, IsCopy, Passed}
+use Rattle.jni.specs.declared.kinds.ResultKind.{ResultKind}
+use Rattle.jni.specs.declared.kinds.ResultKind.TheVariants.{NewLocal}
 use Rattle.semantics.specs.Checks.{is_int, is_reference_result, is_void, first_trap}
 use Rattle.semantics.specs.Heap.{holds_number, holds_reference}
-use Rattle.semantics.specs.Value.{Trap, NullReference, ExceptionPending, WrongObject, DeletedReference, NoCapacity}
+use Rattle.semantics.specs.declared.trap.Trap.{Trap}
+use Rattle.semantics.specs.declared.trap.Trap.TheVariants.{NullReference, ExceptionPending, WrongObject, DeletedReference, NoCapacity}
 use Rattle.machine_scenes.specs.declared.handle.Handle.{Handle}
 use Rattle.machine_scenes.specs.declared.handle.MethodHandle.{MethodHandle}
 use Rattle.machine_scenes.specs.Given.{operand_at, field_at, method_at, operand_of, class_there, class_of_given, name_there, fits_there, field_there}

@@ -4,28 +4,33 @@ use Rattle.std.specs.Int.{w32, cast_signed}
 use Rattle.std.specs.Option.{option_map}
 use Rattle.syntax.specs.Tree.{Function, SourceUnit}
 use Rattle.syntax.specs.Parts.{functions_of}
-use Rattle.base.specs.Element.{ElementType, JInt, element_value}
+use Rattle.base.specs.declared.element.ElementType.{ElementType}
+use Rattle.base.specs.declared.element.ElementType.TheVariants.{Int as JInt}
 use Rattle.class_rules.specs.Class.{Classes}
 use Rattle.code.specs.Call.{Call}
 use Rattle.code.specs.declared.instr.Operand.{Operand}
 use Rattle.code.specs.declared.instr.Operand.TheVariants as operand
 use Rattle.code.specs.declared.instr.Target.{Target}
 use Rattle.code.specs.declared.instr.Target.TheVariants.{Buffer}
-use Rattle.code.specs.declared.instr.ReleaseMode.TheVariants as mode
 use Rattle.heap.specs.Heap.{Space, name_at, values_at}
 use Rattle.heap.specs.declared.value.Value.{Value}
 use Rattle.heap.specs.declared.value.Value.TheVariants.{Number as Word, Null, Block as Address}
-use Rattle.jni.specs.JniFunction.{JniFunction, DeleteGlobalRef, DeleteWeakGlobalRef, parameters_for, prototype}
-use Rattle.jni.specs.Prototype.{ParameterKind, ArrayVariable, FieldID, IntNumber, IsCopy, MethodID, Passed, TextBytes}
+use Rattle.jni.specs.declared.function.JniFunction.{JniFunction}
+use Rattle.jni.specs.declared.function.JniFunction.TheVariants.{DeleteGlobalRef, DeleteWeakGlobalRef}
+use Rattle.jni.specs.JniFunction.{parameters_for, prototype}
+use Rattle.jni.specs.declared.kinds.ParameterKind.{ParameterKind}
+use Rattle.jni.specs.declared.kinds.ParameterKind.TheVariants.{ArrayVariable, FieldID, IntNumber, IsCopy, MethodID, Passed, TextBytes}
 use Rattle.monitors.specs.declared.monitors.Monitor.{Monitor}
 use Rattle.monitors.specs.Monitors.{monitor_of}
-use Rattle.semantics.specs.Arguments.{ReleaseMode, CopyBackAndFree, CopyBack, FreeUncopied, name_or_zero}
+use Rattle.jni.specs.declared.mode.ReleaseMode.{ReleaseMode}
+use Rattle.jni.specs.declared.mode.ReleaseMode.TheVariants.{CopyBackAndFree}
+use Rattle.semantics.specs.Arguments.{name_or_zero}
 use Rattle.semantics.specs.CallSight.{ArgumentSight, CallSight}
 use Rattle.semantics.specs.Checks.{trap_of}
 use Rattle.semantics.specs.Method.{MethodId}
 use Rattle.semantics.specs.Object.{Object, ObjectValue, Number, Reference, Refers}
 use Rattle.semantics.specs.Thread as source
-use Rattle.semantics.specs.Value.{Trap}
+use Rattle.semantics.specs.declared.trap.Trap.{Trap}
 use Rattle.semantics.specs.Variable.{StaticReference, Empty, Live, Weakly, Cleared, Deleted}
 use Rattle.tables.specs.Locals.{LocalTable, has_room, popped}
 use Rattle.machine_scenes.specs.declared.handle.Handle.{Handle}
@@ -85,9 +90,7 @@ method_seen unit (Some h) =
 
 -- how a buffer is released
 abbrev pub mode_seen : Operand → ReleaseMode
-mode_seen (operand.Mode mode.CopyBackAndFree) = CopyBackAndFree
-mode_seen (operand.Mode mode.CopyBack) = CopyBack
-mode_seen (operand.Mode mode.FreeUncopied) = FreeUncopied
+mode_seen (operand.Mode mode) = mode
 mode_seen o = CopyBackAndFree
 
 -- ---- numbers, which are on the stack, and texts, which are the call's
@@ -167,7 +170,7 @@ is_reference p o = false
 
 -- the element type of the buffer that a call is to fill
 abbrev pub element_wanted : Target → ElementType
-element_wanted (Buffer element i) = element_value element
+element_wanted (Buffer element i) = element
 element_wanted target = JInt
 
 -- what is seen of as many arguments as there are operands

@@ -17,7 +17,9 @@ use Rattle.jni.specs.declared.mode.ReleaseMode.TheVariants.{CopyBackAndFree, Fre
 use Rattle.heap.specs.Heap.{Space, values_at}
 use Rattle.heap.specs.declared.value.Value.{Value}
 use Rattle.heap.specs.declared.value.Value.TheVariants as value
-use Rattle.jni.specs.Access.{Access, ElementsCopy, is_critical}
+use Rattle.jni.specs.declared.access.Access.{Access}
+use Rattle.jni.specs.declared.access.Access.TheVariants.{ElementsCopy}
+use Rattle.jni.specs.Access.{is_critical}
 use Rattle.semantics.specs.Method.{MethodId}
 use Rattle.monitors.specs.declared.monitors.Enter.{Enter}
 use Rattle.monitors.specs.declared.monitors.Enter.TheVariants as enter

@@ -9,7 +9,6 @@ ghost use Rattle.code.specs.Call.{call_view};
 ghost use Rattle.code.specs.Effect.{element_word, truth_word};
 ghost use Rattle.code_meaning.specs.Coding.{element_of};
 ghost use Rattle.heap.specs.Heap.{IsAddress};
-ghost use Rattle.jni.specs.Table.{function_value};
 ghost use Rattle.machine_answers.specs.Answered.{IsAnswerTo};
 ghost use Rattle.machine_answers.specs.Checked.{arguments_fit};
 ghost use Rattle.machine_answers.specs.Sights.{element_wanted};
@@ -22,7 +21,6 @@ ghost use Rattle.syntax.specs.Parts.{functions_of};
 ghost use Rattle.syntax.specs.Tree.{Function, FunctionItem};
 ghost use Rattle.syntax.specs.Views.{unit_tree};
 ghost use Rattle.jni.specs.declared.subject.Subject.TheVariants as subject;
-ghost use Rattle.base.specs.Element.{element_value};
 
 use crate::arrays::{stack_number, work_out_array};
 use crate::buffers::work_out_buffer;
@@ -143,7 +141,7 @@ pub fn work_out(scene: &Scene<'_>, call: &Call) -> Answer
     requires objects { AreAddresses scene.now.heap.now scene.now.references call.now.operands.items }
     requires handles { AreHandles scene.now.classes.now scene.now.fields.now call.now.operands.items }
     requires passed { arguments_fit (scene_view scene.now) call.now.operands.items
-        (element_wanted call.now.target) (function_value call.now.function) ≡ true }
+        (element_wanted call.now.target) call.now.function ≡ true }
     ensures { IsAnswerTo (scene_view scene.now) (call_view call.now) result }
 {
     match call.function.subject() {
@@ -163,7 +161,7 @@ pub fn work_out(scene: &Scene<'_>, call: &Call) -> Answer
 #[inline(always)]
 #[tactic(auto, using(crate::proofs::CallAnswers::answers))]
 fn work_out_class(scene: &Scene<'_>, call: &Call) -> Answer
-    requires subject { subject_of (function_value call.now.function) ≡ subject.Classes }
+    requires subject { subject_of call.now.function ≡ subject.Classes }
     requires objects { AreAddresses scene.now.heap.now scene.now.references call.now.operands.items }
     ensures { IsAnswerTo (scene_view scene.now) (call_view call.now) result }
 {
@@ -213,7 +211,7 @@ fn work_out_class(scene: &Scene<'_>, call: &Call) -> Answer
 #[inline(always)]
 #[tactic(auto, using(crate::proofs::CallAnswers::answers))]
 fn work_out_reference(scene: &Scene<'_>, call: &Call) -> Answer
-    requires subject { subject_of (function_value call.now.function) ≡ subject.References }
+    requires subject { subject_of call.now.function ≡ subject.References }
     requires objects { AreAddresses scene.now.heap.now scene.now.references call.now.operands.items }
     ensures { IsAnswerTo (scene_view scene.now) (call_view call.now) result }
 {
@@ -246,12 +244,12 @@ fn work_out_reference(scene: &Scene<'_>, call: &Call) -> Answer
 #[inline(always)]
 #[tactic(auto, using(crate::proofs::FieldKinds::no_static, crate::proofs::CallAnswers::answers))]
 fn work_out_field(scene: &Scene<'_>, call: &Call) -> Answer
-    requires subject { subject_of (function_value call.now.function) ≡ subject.Fields }
+    requires subject { subject_of call.now.function ≡ subject.Fields }
     requires grown { IsGrown scene.now.classes.now }
     requires objects { AreAddresses scene.now.heap.now scene.now.references call.now.operands.items }
     requires handles { AreHandles scene.now.classes.now scene.now.fields.now call.now.operands.items }
     requires passed { arguments_fit (scene_view scene.now) call.now.operands.items
-        (element_wanted call.now.target) (function_value call.now.function) ≡ true }
+        (element_wanted call.now.target) call.now.function ≡ true }
     ensures { IsAnswerTo (scene_view scene.now) (call_view call.now) result }
 {
     match call.function {
@@ -279,12 +277,12 @@ fn work_out_field(scene: &Scene<'_>, call: &Call) -> Answer
 #[inline(always)]
 #[tactic(auto, using(crate::proofs::FieldKinds::a_static, crate::proofs::CallAnswers::answers))]
 fn work_out_static(scene: &Scene<'_>, call: &Call) -> Answer
-    requires subject { subject_of (function_value call.now.function) ≡ subject.Statics }
+    requires subject { subject_of call.now.function ≡ subject.Statics }
     requires loaded { (i a : ℕ) → slice_get scene.now.loaded.now i ≡ Some a → IsAddress scene.now.heap.now a }
     requires objects { AreAddresses scene.now.heap.now scene.now.references call.now.operands.items }
     requires handles { AreHandles scene.now.classes.now scene.now.fields.now call.now.operands.items }
     requires passed { arguments_fit (scene_view scene.now) call.now.operands.items
-        (element_wanted call.now.target) (function_value call.now.function) ≡ true }
+        (element_wanted call.now.target) call.now.function ≡ true }
     ensures { IsAnswerTo (scene_view scene.now) (call_view call.now) result }
 {
     match call.function {
@@ -699,7 +697,7 @@ pub(crate) fn top_word(stack: &Stack) -> u32
 #[tactic(auto, using(code_meaning::proofs::ElementWords::element_same))]
 #[inline(always)]
 pub(crate) fn stored(element: syntax::ElementType, stack: &Stack) -> Value
-    ensures { result ≡ Value.Number (element_word (element_of (element_value element)) (top_word stack.now)) }
+    ensures { result ≡ Value.Number (element_word (element_of element) (top_word stack.now)) }
 {
     Value::Number(element_word(element, top_word(stack)))
 }

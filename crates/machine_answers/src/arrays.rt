@@ -3,7 +3,6 @@
 ghost use Rattle.std.specs.Prelude.{◌≡◌, Some};
 ghost use Rattle.code.specs.Call.{call_view};
 ghost use Rattle.heap.specs.Heap.{IsAddress};
-ghost use Rattle.jni.specs.Table.{function_value};
 ghost use Rattle.machine_scenes.specs.Given.{AreAddresses, ReferenceIsThere};
 ghost use Rattle.machine_scenes.specs.Scenes.{scene_view};
 ghost use Rattle.jni.specs.Subjects.{subject_of};
@@ -33,7 +32,7 @@ use machine_scenes::scene::Scene;
 #[inline(always)]
 #[tactic(auto, using(crate::proofs::CallAnswers::answers, std::proofs::lemmas::Grind::common_steps))]
 pub(crate) fn work_out_array(scene: &Scene<'_>, call: &Call) -> Answer
-    requires subject { subject_of (function_value call.now.function) ≡ subject.Arrays }
+    requires subject { subject_of call.now.function ≡ subject.Arrays }
     requires objects { AreAddresses scene.now.heap.now scene.now.references call.now.operands.items }
     ensures { IsAnswerTo (scene_view scene.now) (call_view call.now) result }
 {

@@ -10,8 +10,7 @@ ghost use Rattle.class_rules.specs.Grown.{IsGrown};
 ghost use Rattle.code.specs.Call.{call_view};
 ghost use Rattle.class_queries.specs.Kinds.{class_misfits};
 ghost use Rattle.heap.specs.Heap.{values_at, IsAddress};
-ghost use Rattle.jni.specs.Prototype.{ClassObject, MethodID, ObjectArray};
-ghost use Rattle.jni.specs.Table.{function_value};
+ghost use Rattle.jni.specs.declared.kinds.ParameterKind.TheVariants.{ClassObject, MethodID, ObjectArray};
 ghost use Rattle.machine_answers.specs.Answered.{IsAnswerTo};
 ghost use Rattle.machine_answers.specs.AtOnce.{field_in_spot};
 ghost use Rattle.machine_answers.specs.Checked.{called, calls_well, function_in, misfits, returns, takes, takes_all, some_misfit, some_missing, trap_found};
@@ -22,7 +21,7 @@ ghost use Rattle.machine_scenes.specs.Locals.{locals_after};
 ghost use Rattle.machine_scenes.specs.Scenes.{scene_view};
 ghost use Rattle.machine_scenes.specs.Statics.{References};
 ghost use Rattle.syntax.specs.Tree.{Function};
-ghost use Rattle.syntax.specs.Views.{parameter_tree, parameter_type_tree, unit_tree};
+ghost use Rattle.syntax.specs.Views.{parameter_tree, unit_tree};
 ghost use Rattle.tables.specs.Locals.{has_room};
 ghost use Rattle.machine_answers.specs.declared.answer.Given.TheVariants.{Number, Reference};
 ghost use Rattle.machine_answers.specs.declared.answer.Answer.TheVariants.{Calls, Gives, Writes, Deletes};
@@ -183,7 +182,7 @@ pub fn number_at_once(scene: &Scene<'_>, call: &Call) -> Option<u32>
     requires objects { AreAddresses scene.now.heap.now scene.now.references call.now.operands.items }
     requires handles { AreHandles scene.now.classes.now scene.now.fields.now call.now.operands.items }
     ensures free { IfSome result (λ word. (room : Bool) → trap_found (scene_view scene.now) room
-        (element_wanted call.now.target) (function_value call.now.function) call.now.operands.items ≡ None) }
+        (element_wanted call.now.target) call.now.function call.now.operands.items ≡ None) }
     ensures works { IfSome result (λ word. IsAnswerTo (scene_view scene.now) (call_view call.now) (Gives (Number word))) }
 {
     let operands: &[Operand] = &call.operands;
@@ -263,8 +262,8 @@ pub fn reference_at_once(scene: &Scene<'_>, locals: &Locals, call: &Call) -> Opt
     requires objects { AreAddresses scene.now.heap.now scene.now.references call.now.operands.items }
     requires handles { AreHandles scene.now.classes.now scene.now.fields.now call.now.operands.items }
     ensures free { IfSome result (λ reference. trap_found (scene_view scene.now)
-        (has_room (locals_after (function_value call.now.function) locals.now))
-        (element_wanted call.now.target) (function_value call.now.function) call.now.operands.items ≡ None) }
+        (has_room (locals_after call.now.function locals.now))
+        (element_wanted call.now.target) call.now.function call.now.operands.items ≡ None) }
     ensures works { IfSome result (λ reference. IsAnswerTo (scene_view scene.now) (call_view call.now) (Gives (Reference reference))) }
 {
     if scene.pending.is_some() || !locals.has_room() {
@@ -349,7 +348,7 @@ pub fn write_at_once(scene: &Scene<'_>, call: &Call) -> Option<Write>
     requires objects { AreAddresses scene.now.heap.now scene.now.references call.now.operands.items }
     requires handles { AreHandles scene.now.classes.now scene.now.fields.now call.now.operands.items }
     ensures free { IfSome result (λ write. (room : Bool) → trap_found (scene_view scene.now) room
-        (element_wanted call.now.target) (function_value call.now.function) call.now.operands.items ≡ None) }
+        (element_wanted call.now.target) call.now.function call.now.operands.items ≡ None) }
     ensures works { IfSome result (λ write. IsAnswerTo (scene_view scene.now) (call_view call.now) (Writes write.object write.place write.value)) }
 {
     let operands: &[Operand] = &call.operands;
@@ -460,7 +459,7 @@ fn write_to_static(scene: &Scene<'_>, call: &Call, value: Value) -> Option<Write
 #[tactic(auto, using(crate::proofs::CallAnswers::answers, std::proofs::lemmas::Grind::common_steps))]
 pub fn deleted_at_once(scene: &Scene<'_>, call: &Call) -> Option<Local>
     ensures free { IfSome result (λ key. (room : Bool) → trap_found (scene_view scene.now) room
-        (element_wanted call.now.target) (function_value call.now.function) call.now.operands.items ≡ None) }
+        (element_wanted call.now.target) call.now.function call.now.operands.items ≡ None) }
     ensures works { IfSome result (λ key. IsAnswerTo (scene_view scene.now) (call_view call.now) (Deletes key)) }
 {
     let operands: &[Operand] = &call.operands;
@@ -479,8 +478,8 @@ pub fn deleted_at_once(scene: &Scene<'_>, call: &Call) -> Option<Local>
 pub fn method_at_once(scene: &Scene<'_>, locals: &Locals, call: &Call) -> Option<MethodHandle>
     requires objects { AreAddresses scene.now.heap.now scene.now.references call.now.operands.items }
     ensures free { IfSome result (λ method. trap_found (scene_view scene.now)
-        (has_room (locals_after (function_value call.now.function) locals.now))
-        (element_wanted call.now.target) (function_value call.now.function) call.now.operands.items ≡ None) }
+        (has_room (locals_after call.now.function locals.now))
+        (element_wanted call.now.target) call.now.function call.now.operands.items ≡ None) }
     ensures works { IfSome result (λ method. IsAnswerTo (scene_view scene.now) (call_view call.now) Calls) }
     ensures method { IfSome result (λ method. method_at scene.now.fields.now (operand_of call.now.operands.items 1) ≡ Some method) }
 {
@@ -511,7 +510,7 @@ fn method_of_class(scene: &Scene<'_>, call: &Call) -> Option<MethodHandle>
     ensures misfit { IfSome result (λ method. some_misfit scene.now.classes.now scene.now.heap.now scene.now.references
         (ClassObject ∷ MethodID ∷ []) call.now.operands.items ≡ false) }
     ensures well { IfSome result (λ method. calls_well (unit_tree scene.now.items.now) scene.now.classes.now scene.now.heap.now
-        scene.now.references scene.now.fields.now call.now.operands.items (function_value call.now.function)
+        scene.now.references scene.now.fields.now call.now.operands.items call.now.function
         (called (unit_tree scene.now.items.now) scene.now.classes.now scene.now.heap.now scene.now.references
         scene.now.fields.now call.now.operands.items (Some method)) ≡ true) }
     ensures method { IfSome result (λ method. method_at scene.now.fields.now (operand_of call.now.operands.items 1) ≡ Some method) }
@@ -563,7 +562,7 @@ fn calls_well_at_once(
 ) -> bool
     ensures { result ≡ true → (method : Function)
         × (function_in (slice_get (unit_tree scene.now.items.now).items place) ≡ Some method)
-        × (returns (function_value function) method.result ≡ true) × (takes_all method.parameters passed.now ≡ true)
+        × (returns function method.result ≡ true) × (takes_all method.parameters passed.now ≡ true)
         × (list_any (gives_deleted scene.now.references) passed.now ≡ false) }
 {
     match function_in(scene.items, place) {
@@ -593,7 +592,7 @@ fn takes_at_once(parameters: &[Parameter], operands: &[Operand]) -> bool
 /// Whether what an operand gives may be passed to a parameter, and is no static.
 #[inline(always)]
 fn takes_one(parameter: ParameterType, operand: Operand) -> bool
-    ensures all { result ≡ true → takes (parameter_type_tree parameter) operand ≡ true }
+    ensures all { result ≡ true → takes parameter operand ≡ true }
     ensures none { result ≡ true → (references : References) → gives_deleted references operand ≡ false }
 {
     match parameter {

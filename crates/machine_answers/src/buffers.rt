@@ -4,7 +4,6 @@ ghost use Rattle.std.specs.Prelude.{◌≡◌, ◌<◌, ◌≤◌, length, map, 
 ghost use Rattle.std.specs.Int.{w32, cast_signed};
 ghost use Rattle.code.specs.Call.{call_view};
 ghost use Rattle.heap.specs.Heap.{pins_at, IsAddress};
-ghost use Rattle.jni.specs.Table.{access_value, function_value};
 ghost use Rattle.machine_answers.specs.Answered.{IsAnswerTo};
 ghost use Rattle.machine_answers.specs.BufferChanges.{CanCopyBack, CanGiveUp, GivesUp, MakesCopy, MakesView, MayGiveUp, copied_back, space_back};
 ghost use Rattle.machine_scenes.specs.Buffers.{copies_back, gives_up};
@@ -33,7 +32,7 @@ use tables::Elements;
 #[inline(always)]
 #[tactic(auto, using(crate::proofs::CallAnswers::answers))]
 pub(crate) fn work_out_buffer(scene: &Scene<'_>, call: &Call) -> Answer
-    requires subject { subject_of (function_value call.now.function) ≡ subject.Buffers }
+    requires subject { subject_of call.now.function ≡ subject.Buffers }
     requires objects { AreAddresses scene.now.heap.now scene.now.references call.now.operands.items }
     ensures { IsAnswerTo (scene_view scene.now) (call_view call.now) result }
 {
@@ -51,7 +50,7 @@ pub(crate) fn work_out_buffer(scene: &Scene<'_>, call: &Call) -> Answer
 
 /// A copy or a view of an object is acquired; NULL is given where there is none.
 fn acquires(access: Access, object: Option<Addr>) -> Answer
-    ensures { result ≡ acquires (access_value access) object }
+    ensures { result ≡ acquires access object }
 {
     match object {
         None => Answer::Gives(Given::Buffer(Buffer::Null)),
@@ -72,7 +71,7 @@ fn slot_of(operand: Operand) -> usize
 
 /// The mode of a release: that of this operand for elements of an array. Nothing else is copied back.
 fn mode_of(access: Access, operand: Operand) -> ReleaseMode
-    ensures { result ≡ mode_of (access_value access) operand }
+    ensures { result ≡ mode_of access operand }
 {
     match access {
         Access::ElementsCopy(_) => match operand {

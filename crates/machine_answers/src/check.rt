@@ -5,12 +5,10 @@ ghost use Rattle.std.specs.List.{list_any};
 ghost use Rattle.std.specs.Option.{option_map};
 ghost use Rattle.class_queries.specs.Kinds.{class_misfits};
 ghost use Rattle.class_rules.specs.Class.{Classes};
-ghost use Rattle.base.specs.Element.{element_value};
 ghost use Rattle.classes.specs.Views.{field_type_view};
 ghost use Rattle.code.specs.Call.{call_view, IsPrepared};
 ghost use Rattle.jni.specs.JniFunction.{is_allowed_pending, prototype};
-ghost use Rattle.jni.specs.Table.{function_value, parameter_value, result_value};
-ghost use Rattle.syntax.specs.Views.{function_tree, parameter_tree, parameter_type_tree, result_tree, unit_tree};
+ghost use Rattle.syntax.specs.Views.{function_tree, parameter_tree, unit_tree};
 ghost use Rattle.heap.specs.Heap.{IsAddress};
 ghost use Rattle.machine_scenes.specs.Given.{method_at, operand_at, operand_of, AreAddresses, AreHandles, ReferenceIsThere};
 ghost use Rattle.machine_scenes.specs.Locals.{locals_after};
@@ -19,7 +17,6 @@ ghost use Rattle.machine_answers.specs.Checked.{arguments_fit, called, calls_wel
 ghost use Rattle.machine_answers.specs.Sights.{element_wanted, gives_deleted, gives_null, trap_seen, MethodIsThere};
 ghost use Rattle.machine_answers.specs.WorkedOut.{field};
 ghost use Rattle.machine_scenes.specs.Scenes.{scene_view};
-ghost use Rattle.semantics.specs.EventViews.{trap_view};
 
 use crate::answer::{argument, class_given, handle_of};
 use crate::passed::passed_operands;
@@ -77,7 +74,7 @@ fn some_deleted(references: &References<'_>, operands: &[Operand]) -> bool
 
 /// Whether a parameter may be NULL.
 fn may_be_null(parameter: ParameterKind) -> bool
-    ensures { result ≡ may_be_null (parameter_value parameter) }
+    ensures { result ≡ may_be_null parameter }
 {
     matches!(
         parameter,
@@ -93,7 +90,7 @@ fn may_be_null(parameter: ParameterKind) -> bool
 
 /// Whether some operand gives NULL where that isn't allowed.
 fn some_missing(scene: &Scene<'_>, parameters: &[ParameterKind], operands: &[Operand]) -> bool
-    ensures { result ≡ some_missing scene.now.references scene.now.fields.now (map parameter_value parameters.now) operands.now }
+    ensures { result ≡ some_missing scene.now.references scene.now.fields.now parameters.now operands.now }
 {
     match parameters {
         [parameter, parameters @ ..] => match operands {
@@ -109,7 +106,7 @@ fn some_missing(scene: &Scene<'_>, parameters: &[ParameterKind], operands: &[Ope
 
 /// Whether a parameter asks for objects of a kind. Where it doesn't, no object is looked at.
 fn asks_kind(parameter: ParameterKind) -> bool
-    ensures { result ≡ false → (classes : Classes) (class : ℕ) → class_misfits classes (parameter_value parameter) class ≡ false }
+    ensures { result ≡ false → (classes : Classes) (class : ℕ) → class_misfits classes parameter class ≡ false }
 {
     matches!(
         parameter,
@@ -124,7 +121,7 @@ fn asks_kind(parameter: ParameterKind) -> bool
 /// Whether an operand gives an object of another kind than the parameter.
 fn misfits(scene: &Scene<'_>, parameter: ParameterKind, operand: Operand) -> bool
     requires { ReferenceIsThere scene.now.heap.now (operand_at scene.now.references operand) }
-    ensures { result ≡ misfits scene.now.classes.now scene.now.heap.now (parameter_value parameter) (operand_at scene.now.references operand) }
+    ensures { result ≡ misfits scene.now.classes.now scene.now.heap.now parameter (operand_at scene.now.references operand) }
 {
     if !asks_kind(parameter) {
         return false;
@@ -138,7 +135,7 @@ fn misfits(scene: &Scene<'_>, parameter: ParameterKind, operand: Operand) -> boo
 /// Whether some operand gives an object of another kind than its parameter.
 fn some_misfit(scene: &Scene<'_>, parameters: &[ParameterKind], operands: &[Operand]) -> bool
     requires { AreAddresses scene.now.heap.now scene.now.references operands.now }
-    ensures { result ≡ some_misfit scene.now.classes.now scene.now.heap.now scene.now.references (map parameter_value parameters.now) operands.now }
+    ensures { result ≡ some_misfit scene.now.classes.now scene.now.heap.now scene.now.references parameters.now operands.now }
 {
     match parameters {
         [parameter, parameters @ ..] => match operands {
@@ -225,7 +222,7 @@ fn called<'a>(scene: &Scene<'a>, call: &Call) -> Option<&'a Function>
 /// Whether a method with this result gives what a function that calls methods asks for.
 #[inline(always)]
 pub(crate) fn returns(function: JniFunction, kind: ResultType) -> bool
-    ensures { result ≡ returns (function_value function) (result_tree kind) }
+    ensures { result ≡ returns function kind }
 {
     match function {
         JniFunction::CallStaticVoidMethod => matches!(kind, ResultType::Void),
@@ -236,7 +233,7 @@ pub(crate) fn returns(function: JniFunction, kind: ResultType) -> bool
 
 /// Whether what an operand gives may be passed to a parameter: a number, or a reference, as it asks.
 fn takes(parameter: ParameterType, operand: Operand) -> bool
-    ensures { result ≡ takes (parameter_type_tree parameter) operand }
+    ensures { result ≡ takes parameter operand }
 {
     match parameter {
         ParameterType::Jint => matches!(operand, Operand::Number),
@@ -268,7 +265,7 @@ fn takes_all(parameters: &[Parameter], operands: &[Operand]) -> bool
 fn calls_well(scene: &Scene<'_>, call: &Call) -> bool
     requires { AreAddresses scene.now.heap.now scene.now.references call.now.operands.items }
     ensures { result ≡ calls_well (unit_tree scene.now.items.now) scene.now.classes.now scene.now.heap.now
-        scene.now.references scene.now.fields.now call.now.operands.items (function_value call.now.function)
+        scene.now.references scene.now.fields.now call.now.operands.items call.now.function
         (called (unit_tree scene.now.items.now) scene.now.classes.now scene.now.heap.now scene.now.references
         scene.now.fields.now call.now.operands.items (method_at scene.now.fields.now (operand_of call.now.operands.items 1))) }
 {
@@ -286,7 +283,7 @@ fn fit_together(scene: &Scene<'_>, call: &Call) -> bool
     requires objects { AreAddresses scene.now.heap.now scene.now.references call.now.operands.items }
     requires handles { AreHandles scene.now.classes.now scene.now.fields.now call.now.operands.items }
     ensures { result ≡ arguments_fit (scene_view scene.now) call.now.operands.items
-        (element_wanted call.now.target) (function_value call.now.function) }
+        (element_wanted call.now.target) call.now.function }
 {
     let classes = scene.classes;
     match call.function {
@@ -334,7 +331,7 @@ fn fit_together(scene: &Scene<'_>, call: &Call) -> bool
 
 /// The element type of the buffer that a call is to fill.
 fn element_wanted(target: Target) -> ElementType
-    ensures { element_value result ≡ element_wanted target }
+    ensures { result ≡ element_wanted target }
 {
     match target {
         Target::Buffer(element, _) => element,
@@ -346,7 +343,7 @@ fn element_wanted(target: Target) -> ElementType
 #[inline(always)]
 fn is_of_kind(scene: &Scene<'_>, parameter: ParameterKind, addr: Addr) -> bool
     requires { IsAddress scene.now.heap.now addr }
-    ensures { result ≡ not (misfits scene.now.classes.now scene.now.heap.now (parameter_value parameter) (Some addr)) }
+    ensures { result ≡ not (misfits scene.now.classes.now scene.now.heap.now parameter (Some addr)) }
 {
     !asks_kind(parameter) || !class_misfits(scene.classes, parameter, class_there(scene.heap, addr))
 }
@@ -356,8 +353,8 @@ fn is_of_kind(scene: &Scene<'_>, parameter: ParameterKind, addr: Addr) -> bool
 fn passes(scene: &Scene<'_>, parameter: ParameterKind, operand: Operand) -> bool
     requires { ReferenceIsThere scene.now.heap.now (operand_at scene.now.references operand) }
     ensures { result ≡ true → (gives_deleted scene.now.references operand ≡ false)
-        × ((not (may_be_null (parameter_value parameter)) && gives_null scene.now.references scene.now.fields.now operand) ≡ false)
-        × (misfits scene.now.classes.now scene.now.heap.now (parameter_value parameter) (operand_at scene.now.references operand) ≡ false) }
+        × ((not (may_be_null parameter) && gives_null scene.now.references scene.now.fields.now operand) ≡ false)
+        × (misfits scene.now.classes.now scene.now.heap.now parameter (operand_at scene.now.references operand) ≡ false) }
 {
     match operand {
         Operand::Local(slot) => match scene.references.local(slot) {
@@ -385,8 +382,8 @@ fn passes(scene: &Scene<'_>, parameter: ParameterKind, operand: Operand) -> bool
 fn all_pass(scene: &Scene<'_>, parameters: &[ParameterKind], operands: &[Operand]) -> bool
     requires { AreAddresses scene.now.heap.now scene.now.references operands.now }
     ensures { result ≡ true → (list_any (gives_deleted scene.now.references) operands.now ≡ false)
-        × (some_missing scene.now.references scene.now.fields.now (map parameter_value parameters.now) operands.now ≡ false)
-        × (some_misfit scene.now.classes.now scene.now.heap.now scene.now.references (map parameter_value parameters.now) operands.now ≡ false) }
+        × (some_missing scene.now.references scene.now.fields.now parameters.now operands.now ≡ false)
+        × (some_misfit scene.now.classes.now scene.now.heap.now scene.now.references parameters.now operands.now ≡ false) }
 {
     match parameters {
         [parameter, parameters @ ..] => match operands {
@@ -404,7 +401,7 @@ fn all_pass(scene: &Scene<'_>, parameters: &[ParameterKind], operands: &[Operand
 fn trap_of_arguments(scene: &Scene<'_>, call: &Call) -> Option<Trap>
     requires objects { AreAddresses scene.now.heap.now scene.now.references call.now.operands.items }
     requires handles { AreHandles scene.now.classes.now scene.now.fields.now call.now.operands.items }
-    ensures some { IfSome result (λ t. ArgumentsTrap (scene_view scene.now) (call_view call.now) (trap_view t)) }
+    ensures some { IfSome result (λ t. ArgumentsTrap (scene_view scene.now) (call_view call.now) t) }
     ensures none { IfNone result (ArgumentsPass (scene_view scene.now) (call_view call.now)) }
 {
     let operands = &call.operands;
@@ -425,7 +422,7 @@ fn trap_of_arguments(scene: &Scene<'_>, call: &Call) -> Option<Trap>
 fn check_arguments(scene: &Scene<'_>, call: &Call) -> Option<Trap>
     requires objects { AreAddresses scene.now.heap.now scene.now.references call.now.operands.items }
     requires handles { AreHandles scene.now.classes.now scene.now.fields.now call.now.operands.items }
-    ensures some { IfSome result (λ t. ArgumentsTrap (scene_view scene.now) (call_view call.now) (trap_view t)) }
+    ensures some { IfSome result (λ t. ArgumentsTrap (scene_view scene.now) (call_view call.now) t) }
     ensures none { IfNone result (ArgumentsPass (scene_view scene.now) (call_view call.now)) }
 {
     let parameters = call.function.prototype().parameters;
@@ -442,7 +439,7 @@ fn argument_trap(scene: &Scene<'_>, call: &Call) -> Option<Trap>
     requires prepared { IsPrepared call.now }
     requires objects { AreAddresses scene.now.heap.now scene.now.references call.now.operands.items }
     requires handles { AreHandles scene.now.classes.now scene.now.fields.now call.now.operands.items }
-    ensures some { IfSome result (λ t. ArgumentsTrap (scene_view scene.now) (call_view call.now) (trap_view t)) }
+    ensures some { IfSome result (λ t. ArgumentsTrap (scene_view scene.now) (call_view call.now) t) }
     ensures none { IfNone result (ArgumentsPass (scene_view scene.now) (call_view call.now)) }
 {
     if call.asks {
@@ -454,7 +451,7 @@ fn argument_trap(scene: &Scene<'_>, call: &Call) -> Option<Trap>
 
 /// Whether a pending exception keeps a function from being called.
 fn is_kept_off(pending: Option<Addr>, function: JniFunction) -> bool
-    ensures { result ≡ (is_some pending && not (is_allowed_pending (function_value function))) }
+    ensures { result ≡ (is_some pending && not (is_allowed_pending function)) }
 {
     pending.is_some() && !function.prototype().pending
 }
@@ -462,8 +459,8 @@ fn is_kept_off(pending: Option<Addr>, function: JniFunction) -> bool
 /// Whether a call gives a local reference for which there is no room.
 fn lacks_room(locals: &Locals, call: &Call) -> bool
     requires { IsPrepared call.now }
-    ensures { result ≡ (puts_local (prototype (function_value call.now.function)).result
-        && not (has_room (locals_after (function_value call.now.function) locals.now))) }
+    ensures { result ≡ (puts_local (prototype call.now.function).result
+        && not (has_room (locals_after call.now.function locals.now))) }
 {
     puts_local(call.result) && !has_room(locals, call.function)
 }
@@ -476,7 +473,7 @@ pub fn check(scene: &Scene<'_>, locals: &Locals, call: &Call) -> Option<Trap>
     requires objects { AreAddresses scene.now.heap.now scene.now.references call.now.operands.items }
     requires handles { AreHandles scene.now.classes.now scene.now.fields.now call.now.operands.items }
     requires method { MethodIsThere (unit_tree scene.now.items.now) scene.now.classes.now (method_at scene.now.fields.now (operand_of call.now.operands.items 1)) }
-    ensures { option_map trap_view result ≡ trap_seen (scene_view scene.now) locals.now (call_view call.now) }
+    ensures { result ≡ trap_seen (scene_view scene.now) locals.now (call_view call.now) }
 {
     if is_kept_off(scene.pending, call.function) {
         return Some(Trap::ExceptionPending);
@@ -492,14 +489,14 @@ pub fn check(scene: &Scene<'_>, locals: &Locals, call: &Call) -> Option<Trap>
 
 /// Whether a call of this kind of result puts a local reference into the frame.
 fn puts_local(kind: ResultKind) -> bool
-    ensures { result ≡ puts_local (result_value kind) }
+    ensures { result ≡ puts_local kind }
 {
     matches!(kind, ResultKind::NewLocal)
 }
 
 /// Whether there is room for a local reference that a function gives: `PopLocalFrame` puts it into the frame below.
 fn has_room(locals: &Locals, function: JniFunction) -> bool
-    ensures { result ≡ has_room (locals_after (function_value function) locals.now) }
+    ensures { result ≡ has_room (locals_after function locals.now) }
 {
     match function {
         JniFunction::PopLocalFrame => locals.has_room_below(),

@@ -2,7 +2,6 @@
 
 ghost use Rattle.std.specs.Prelude.{◌≡◌};
 ghost use Rattle.code.specs.Call.{call_view};
-ghost use Rattle.jni.specs.Table.{function_value};
 ghost use Rattle.machine_answers.specs.Answered.{IsAnswerTo};
 ghost use Rattle.machine_scenes.specs.Given.{AreAddresses};
 ghost use Rattle.machine_scenes.specs.Scenes.{scene_view};
@@ -19,7 +18,7 @@ use semantics::Trap;
 #[inline(always)]
 #[tactic(auto, using(crate::proofs::CallAnswers::answers))]
 pub(crate) fn work_out_exception(scene: &Scene<'_>, call: &Call) -> Answer
-    requires subject { subject_of (function_value call.now.function) ≡ subject.Exceptions }
+    requires subject { subject_of call.now.function ≡ subject.Exceptions }
     requires objects { AreAddresses scene.now.heap.now scene.now.references call.now.operands.items }
     ensures { IsAnswerTo (scene_view scene.now) (call_view call.now) result }
 {

@@ -3,7 +3,6 @@
 ghost use Rattle.std.specs.Prelude.{◌≡◌, pos, Some};
 ghost use Rattle.code.specs.Call.{call_view};
 ghost use Rattle.heap.specs.Heap.{IsAddress};
-ghost use Rattle.jni.specs.Table.{function_value};
 ghost use Rattle.machine_scenes.specs.Given.{operand_of, AreAddresses, ReferenceIsThere};
 ghost use Rattle.machine_scenes.specs.Scenes.{scene_view};
 ghost use Rattle.jni.specs.Subjects.{subject_of};
@@ -31,7 +30,7 @@ use semantics::Trap;
 #[inline(always)]
 #[tactic(auto, using(crate::proofs::CallAnswers::answers))]
 pub(crate) fn work_out_region(scene: &Scene<'_>, call: &Call) -> Answer
-    requires subject { subject_of (function_value call.now.function) ≡ subject.Regions }
+    requires subject { subject_of call.now.function ≡ subject.Regions }
     requires objects { AreAddresses scene.now.heap.now scene.now.references call.now.operands.items }
     ensures { IsAnswerTo (scene_view scene.now) (call_view call.now) result }
 {

@@ -5,12 +5,11 @@ use Rattle.class_rules.specs.Class.{Classes}
 use Rattle.class_rules.specs.declared.class_id.ClassId.{ClassId}
 use Rattle.heap.specs.Heap.{Space, name_at}
 use Rattle.heap.specs.declared.value.Value.{Value}
-use Rattle.jni.specs.Prototype.{ResultKind}
+use Rattle.jni.specs.declared.kinds.ResultKind.{ResultKind}
 use Rattle.semantics.specs.declared.trap.Trap.{Trap}
 use Rattle.semantics.specs.Answer.{Answer as SourceAnswer, effect_of}
 use Rattle.semantics.specs.Arguments.{passed_value, variable_given}
 use Rattle.semantics.specs.CallEffects.{CallResult, NoResult, Enters, Halts, level_of}
-use Rattle.semantics.specs.EventViews.{trap_view}
 use Rattle.semantics.specs.Object.{Object, ObjectValue, Reference}
 use Rattle.semantics.specs.Thread.{Shared, Thread}
 use Rattle.tables.specs.Locals.{LocalTable}
@@ -88,6 +87,6 @@ module _ {classes : Classes} {brought : Brought} {space : Space} {locals : Local
   unfolding effect_of
   called (row.calls method) = (method.function.name, map passed_value (drop 2 brought.args), refl)
 
-  pub halted : {trap : Trap} {kind : ResultKind} {of_source : SourceAnswer} → IsAnswer classes brought space locals s t (answer.Halts trap) kind of_source → effect_told classes brought s t of_source ≡ Halts (trap_view trap)
+  pub halted : {trap : Trap} {kind : ResultKind} {of_source : SourceAnswer} → IsAnswer classes brought space locals s t (answer.Halts trap) kind of_source → effect_told classes brought s t of_source ≡ Halts trap
   unfolding effect_of
   halted row.halts = refl

@@ -10,7 +10,7 @@ use Rattle.heap.specs.Marking.{MarkingStays}
 use Rattle.heap.specs.declared.value.Value.{Value}
 use Rattle.heap.specs.declared.value.Value.TheVariants.{Block as Refers}
 use Rattle.heap.proofs.Staying.{stays_noted, stays_on, stays_same}
-use Rattle.jni.specs.Prototype.{ResultKind}
+use Rattle.jni.specs.declared.kinds.ResultKind.{ResultKind}
 use Rattle.semantics.specs.CallEffects.{CallResult, NullResult, BufferResult, CallEffect}
 use Rattle.semantics.specs.CallStep.{static_result}
 use Rattle.semantics.specs.Object.{Reference}

@@ -8,7 +8,7 @@ use Rattle.std.proofs.lemmas.Bool.{le-leb, le-ltb, lt-leb, lt-ltb}
 use Rattle.std.proofs.lemmas.List.{append-nil, length-map}
 use Rattle.std.proofs.lemmas.Option.{slice_get_within}
 use Rattle.base.specs.Bytes.{Identifier, lookup}
-use Rattle.base.specs.Element.{ElementType}
+use Rattle.base.specs.declared.element.ElementType.{ElementType}
 use Rattle.code_meaning.specs.Coding.{mode_code}
 use Rattle.code_meaning.specs.Lowered.{Lowered}
 use Rattle.heap.specs.Heap.{Block, Space, name_at, pins_at, values_at, with_pins}
@@ -17,11 +17,14 @@ use Rattle.heap.proofs.Extents.{layout_pins}
 use Rattle.heap.proofs.Staying.{stays_is, stays_on}
 use Rattle.heap.specs.declared.value.Value.{Value}
 use Rattle.heap.specs.declared.value.Value.TheVariants as value
-use Rattle.jni.specs.Prototype.{GivesNothing, ResultKind}
+use Rattle.jni.specs.declared.kinds.ResultKind.{ResultKind}
+use Rattle.jni.specs.declared.kinds.ResultKind.TheVariants.{GivesNothing}
 use Rattle.syntax.specs.Views.{unit_tree}
 use Rattle.semantics.specs.Answer.{Answer as SourceAnswer, effect_of}
 use Rattle.semantics.specs.AnswerTable.{released}
-use Rattle.semantics.specs.Arguments.{ReleaseMode, CopyBackAndFree, CopyBack, FreeUncopied, variable_given}
+use Rattle.jni.specs.declared.mode.ReleaseMode.{ReleaseMode}
+use Rattle.jni.specs.declared.mode.ReleaseMode.TheVariants.{CopyBackAndFree, CopyBack, FreeUncopied}
+use Rattle.semantics.specs.Arguments.{variable_given}
 use Rattle.semantics.specs.CallEffects.{CallEffect, CallResult, Leaves, NoResult, BufferResult, copied_elements, copy_effect, view_effect, with_freed}
 use Rattle.semantics.specs.Heap.{Heap, numbers_of, object_at, values_of, with_numbers}
 use Rattle.semantics.specs.Object.{Object, Number, Reference}

@@ -27,7 +27,8 @@ use Rattle.class_rules.specs.Class.{Classes}
 use Rattle.class_rules.specs.declared.class_id.ClassId.{ClassId}
 use Rattle.heap.specs.Heap.{Space, left_of, with_value}
 use Rattle.heap.specs.declared.value.Value.{Value}
-use Rattle.jni.specs.Prototype.{ResultKind, NewLocal, NewGlobal, NewWeak, GivesFlag, GivesInt, GivesField, GivesMethod, GivesNothing, GivesBuffer}
+use Rattle.jni.specs.declared.kinds.ResultKind.{ResultKind}
+use Rattle.jni.specs.declared.kinds.ResultKind.TheVariants.{NewLocal, NewGlobal, NewWeak, GivesFlag, GivesInt, GivesField, GivesMethod, GivesNothing, GivesBuffer}
 use Rattle.semantics.specs.CallEffects.{Throws, new_effect, overwritten, throw_new_effect, string_object, with_message, frames_effect, without_local, CallResult, Leaves, NoResult, ReferenceResult, WeakResult, ScalarResult, CallEffect, out_of_memory, refuses_frames, with_capacity}
 use Rattle.semantics.specs.CallStep.{failure, makes_objects}
 use Rattle.semantics.specs.Heap.{Heap, next_name, numbers_of, with_numbers}

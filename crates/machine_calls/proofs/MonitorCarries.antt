@@ -6,7 +6,8 @@ use Rattle.heap.proofs.Staying.{stays_same}
 use Rattle.heap.specs.Heap.{Space}
 use Rattle.heap.specs.Layout.{layout_of}
 use Rattle.machine_scenes.proofs.ObjectExtents.{none_laid}
-use Rattle.jni.specs.Prototype.{ResultKind, GivesInt}
+use Rattle.jni.specs.declared.kinds.ResultKind.{ResultKind}
+use Rattle.jni.specs.declared.kinds.ResultKind.TheVariants.{GivesInt}
 use Rattle.semantics.specs.CallEffects.{CallEffect, ScalarResult}
 use Rattle.semantics.specs.Answer.{Answer as SourceAnswer, effect_of}
 use Rattle.semantics.specs.AnswerTable.{monitor_entered, monitor_left}

@@ -5,8 +5,8 @@ use Rattle.syntax.specs.Views.{unit_tree}
 use Rattle.class_rules.specs.Class.{Classes}
 use Rattle.code.specs.declared.instr.Call.{Call}
 use Rattle.heap.specs.Heap.{Space, left_of}
-use Rattle.jni.specs.Prototype.{ResultKind, NewLocal, NewGlobal, NewWeak, GivesFlag, GivesInt, GivesField, GivesMethod, GivesBuffer}
-use Rattle.jni.specs.Table.{result_value}
+use Rattle.jni.specs.declared.kinds.ResultKind.{ResultKind}
+use Rattle.jni.specs.declared.kinds.ResultKind.TheVariants.{NewLocal, NewGlobal, NewWeak, GivesFlag, GivesInt, GivesField, GivesMethod, GivesBuffer}
 use Rattle.semantics.specs.Answer.{Answer as SourceAnswer}
 use Rattle.semantics.specs.Arguments.{Actual}
 use Rattle.semantics.specs.CallEffects.{CallResult, NoResult, NullResult, ReferenceResult, WeakResult, BufferResult, CallEffect, Leaves, Throws, Halts, Enters, out_of_memory}
@@ -252,7 +252,7 @@ HasAnswer w store pending activation call k owner a =
     (p : Lowered) × (args : List Actual) × (others : Acquired) × (shared : Shared) × (s : Thread)
     × (of_source : SourceAnswer) × IsPossible p w store pending activation.locals others shared s
     × IsAnswer w.classes (brought_to p store activation call k owner others s args)
-    store.heap activation.locals shared s a (result_value call.result) of_source
+    store.heap activation.locals shared s a call.result of_source
 
 -- what carrying it out leaves is what the call does
 abbrev pub CarriesOutAnswer : World → (old store : Store) → (pending left : Option ℕ) → (before after : Activation) → Call
@@ -261,8 +261,8 @@ CarriesOutAnswer w old store pending left before after call k owner a carried =
     (p : Lowered) (args : List Actual) (others : Acquired) (shared : Shared) (s : Thread)
     (of_source : SourceAnswer) → IsPossible p w old pending before.locals others shared s
     → IsAnswer w.classes (brought_to p old before call k owner others s args)
-    old.heap before.locals shared s a (result_value call.result) of_source
-    → CarriesOut p w old.heap before.locals a (result_value call.result) others owner shared s
+    old.heap before.locals shared s a call.result of_source
+    → CarriesOut p w old.heap before.locals a call.result others owner shared s
     (effect_told w.classes (brought_to p old before call k owner others s args) shared s of_source)
     carried.refused store left after.locals carried.given
 

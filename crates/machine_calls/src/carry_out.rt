@@ -3,7 +3,6 @@
 ghost use Rattle.std.specs.Prelude.{◌≡◌, ◌+◌, ◌-◌, ◌<◌, ◌≤◌, ◌^◌, ℕ, List, Option, length, nat_le, slice_get, true, false, IfOk, OnOk, OnErr};
 ghost use Rattle.base.specs.Limits.{most_references};
 ghost use Rattle.heap.specs.Heap.{left_of};
-ghost use Rattle.jni.specs.Table.{result_value};
 ghost use Rattle.tables.specs.Elements.{OwnedNumbers};
 ghost use Rattle.tables.specs.Locals.{capacities, ensured, popped};
 ghost use Rattle.machine_answers.specs.Answers.{is_carried};
@@ -446,7 +445,7 @@ fn refuse_frames(world: &World, store: &Store, pending: &mut Option<Addr>) -> Ca
 
 /// The OutOfMemoryError object is pending, and the call fails.
 fn refuse(world: &World, store: &Store, pending: &mut Option<Addr>, kind: ResultKind) -> Carried
-    ensures carried { result ≡ record { given = failed (result_value kind); refused = true } }
+    ensures carried { result ≡ record { given = failed kind; refused = true } }
     ensures pending { pending.new ≡ slice_get store.now.loaded.items (length world.now.classes) }
 {
     *pending = out_of_memory(world, store);
@@ -459,7 +458,7 @@ fn refuse(world: &World, store: &Store, pending: &mut Option<Addr>, kind: Result
 /// What a call of this kind of result gives where it fails: NULL, -1 or nothing
 /// (JNI Specification, chapter 2, "Exceptions and Error Codes").
 fn failed(kind: ResultKind) -> Given
-    ensures { result ≡ failed (result_value kind) }
+    ensures { result ≡ failed kind }
 {
     match kind {
         ResultKind::NewLocal => Given::Reference(None),

@@ -2,14 +2,13 @@
 
 ghost use Rattle.std.specs.Prelude.{◌≡◌};
 ghost use Rattle.code_meaning.specs.Does.{trap_of};
-ghost use Rattle.semantics.specs.EventViews.{trap_view};
 
 use code::instr::PlainTrap;
 use semantics::Trap;
 
 /// The trap of an instruction that works on the stack and the number slots alone.
 pub fn trap_of(trap: PlainTrap) -> Trap
-    ensures { trap_view result ≡ trap_of trap }
+    ensures { result ≡ trap_of trap }
 {
     match trap {
         PlainTrap::DivisionByZero => Trap::DivisionByZero,

@@ -3,8 +3,8 @@ use Rattle.std.proofs.Common.{◌≡◌, ℕ, suc, Bool, true, false, List, [], 
 use Rattle.std.specs.Option.{option_map}
 use Rattle.std.specs.Str.{bytes_eq}
 use Rattle.base.specs.Bytes.{Identifier, lookup}
-use Rattle.type_rules.specs.ExprTypes as ty
-use Rattle.type_rules.specs.ExprTypes.{ExprType}
+use Rattle.type_rules.specs.declared.ty.ExprType.TheVariants as types
+use Rattle.type_rules.specs.declared.ty.ExprType.{ExprType}
 use Rattle.code.specs.Depth.{Listing}
 use Rattle.code_meaning.specs.Layout.{Slot, Known}
 use Rattle.code_meaning.specs.Slots.{Slots, Shows, ShowsSlot, ShowsStatic, is_empty, kind_of_variable, static_index, type_of_array, visible_to}
@@ -106,11 +106,11 @@ module _ (own : Owners) (names : List ℕ) (shared : Shared) (s : source.Thread)
       }
 
   slot_shown : (x : Identifier) (slots : Slots) (slot : Slot) (of : ExprType) → ShowsSlot (visible_to own shared s) x slots slot of → ShowsSlot (visible_to own after s) x slots slot of
-  slot_shown x slots slot ty.Word h = record { value = h.value; is = h.is; kind = h.kind; ty = h.ty; word = h.word }
-  slot_shown x slots slot ty.Jint h = record { value = h.value; is = h.is; kind = h.kind; ty = h.ty; word = h.word }
-  slot_shown x slots slot ty.Flag h = record { value = h.value; is = h.is; kind = h.kind; ty = h.ty; word = h.word }
-  slot_shown x slots slot ty.Truth h = h
-  slot_shown x slots slot ty.Ref h = record {
+  slot_shown x slots slot types.Word h = record { value = h.value; is = h.is; kind = h.kind; ty = h.ty; word = h.word }
+  slot_shown x slots slot types.Jint h = record { value = h.value; is = h.is; kind = h.kind; ty = h.ty; word = h.word }
+  slot_shown x slots slot types.Flag h = record { value = h.value; is = h.is; kind = h.kind; ty = h.ty; word = h.word }
+  slot_shown x slots slot types.Truth h = h
+  slot_shown x slots slot types.Ref h = record {
     reference = h.reference;
     is = hidden (lookup x s.variables) ReferenceKind (lookup x after.statics) (lookup x shared.statics) h.kind ∙ h.is;
     is_null = nulls x ∙ h.is_null;
@@ -119,12 +119,12 @@ module _ (own : Owners) (names : List ℕ) (shared : Shared) (s : source.Thread)
     there = h.there;
     owner = h.owner;
   }
-  slot_shown x slots slot ty.Global h = static_shown x slot.index h
-  slot_shown x slots slot ty.Weak h = static_shown x slot.index h
-  slot_shown x slots slot ty.FieldId h = record { field = h.field; is = h.is; is_null = nulls x ∙ h.is_null; no_number = h.no_number; kind = h.kind; there = h.there }
-  slot_shown x slots slot ty.MethodId h = record { method = h.method; is = h.is; is_null = nulls x ∙ h.is_null; no_number = h.no_number; kind = h.kind; there = h.there }
-  slot_shown x slots slot (ty.Buffer t writable) h = record { buffer = h.buffer; is = h.is; is_null = nulls x ∙ h.is_null; kind = h.kind; there = h.there }
-  slot_shown x slots slot (ty.Array t size) h = record {
+  slot_shown x slots slot types.Global h = static_shown x slot.index h
+  slot_shown x slots slot types.Weak h = static_shown x slot.index h
+  slot_shown x slots slot types.FieldId h = record { field = h.field; is = h.is; is_null = nulls x ∙ h.is_null; no_number = h.no_number; kind = h.kind; there = h.there }
+  slot_shown x slots slot types.MethodId h = record { method = h.method; is = h.is; is_null = nulls x ∙ h.is_null; no_number = h.no_number; kind = h.kind; there = h.there }
+  slot_shown x slots slot (types.Buffer t writable) h = record { buffer = h.buffer; is = h.is; is_null = nulls x ∙ h.is_null; kind = h.kind; there = h.there }
+  slot_shown x slots slot (types.Array t size) h = record {
     few = h.few;
     array_type = h.array_type;
     elements = λ i below. let e = h.elements i below in record { number = e.number; is = e.is; fits = e.fits; word = e.word };

@@ -11,7 +11,8 @@ use Rattle.std.proofs.lemmas.List.{drop-append-le, drop-set-add, drop-set-lt, ge
 use Rattle.std.proofs.lemmas.List.Sums.{sum_by-cons, sum_by_push}
 use Rattle.std.proofs.lemmas.Option.{slice_get_past}
 use Rattle.heap.specs.Heap.{Space, name_at}
-use Rattle.jni.specs.JniFunction.{JniFunction, PopLocalFrame}
+use Rattle.jni.specs.declared.function.JniFunction.{JniFunction}
+use Rattle.jni.specs.declared.function.JniFunction.TheVariants.{PopLocalFrame}
 use Rattle.semantics.specs.CallEffects as effects
 use Rattle.semantics.specs.CallEffects.{with_capacity, with_local, without_local, without_one}
 use Rattle.semantics.specs.Checks as checks

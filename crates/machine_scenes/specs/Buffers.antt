@@ -3,7 +3,7 @@ use Rattle.std.specs.Prelude.{◌≡◌, ◌≢◌, ℕ, ℤ, ◌+◌, ◌<◌, 
 use Rattle.std.specs.Int.{w32}
 use Rattle.std.specs.Option.{option_to_list}
 use Rattle.std.specs.List.{AllZip, AllByRecursion}
-use Rattle.base.specs.Element.{ElementType}
+use Rattle.base.specs.declared.element.ElementType.{ElementType}
 use Rattle.jni.specs.declared.mode.ReleaseMode.{ReleaseMode}
 use Rattle.jni.specs.declared.mode.ReleaseMode.TheVariants as mode
 use Rattle.heap.specs.Heap.{Space, name_at, pins_at}

@@ -2,7 +2,8 @@
 use Rattle.std.specs.Prelude.{◌≡◌, ℕ, is_none, List, map, slice_get, Option, Some, None}
 use Rattle.std.specs.List.{AllZip}
 use Rattle.heap.specs.Heap.{Space, name_at}
-use Rattle.jni.specs.JniFunction.{JniFunction, PopLocalFrame}
+use Rattle.jni.specs.declared.function.JniFunction.{JniFunction}
+use Rattle.jni.specs.declared.function.JniFunction.TheVariants.{PopLocalFrame}
 use Rattle.semantics.specs.Object.{Reference}
 use Rattle.semantics.specs.Thread as source
 use Rattle.tables.specs.Locals.{LocalTable, FrameSlots, by_frame, level_of, popped}

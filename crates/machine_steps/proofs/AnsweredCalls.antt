@@ -1,9 +1,9 @@
 -- What a call answers is what its effect is.
 use Rattle.std.proofs.Common.{◌≡◌, ◌+◌, ℕ, Bool, true, false, List, length, None, refl, sym, ap, ◌∙◌, subst, Option}
 use Rattle.std.specs.Prelude.{◌&&◌, nat_le}
-use Rattle.jni.specs.JniFunction.{JniFunction, calls_method, prototype}
-use Rattle.jni.specs.Prototype.{ResultKind}
-use Rattle.jni.specs.Table.{function_value}
+use Rattle.jni.specs.declared.function.JniFunction.{JniFunction}
+use Rattle.jni.specs.JniFunction.{calls_method, prototype}
+use Rattle.jni.specs.declared.kinds.ResultKind.{ResultKind}
 use Rattle.syntax.specs.Views.{unit_tree}
 use Rattle.semantics.specs.CallEffects.{CallEffect, Halts}
 use Rattle.semantics.specs.CallStep.{effect_of_call, trap_of_call}
@@ -21,7 +21,6 @@ use Rattle.code_meaning.specs.Lowered.{Lowered}
 use Rattle.machine_answers.specs.declared.answer.Answer.{Answer}
 use Rattle.machine_answers.specs.declared.answer.Answer.TheVariants as answer
 use Rattle.semantics.specs.declared.trap.Trap.{Trap}
-use Rattle.semantics.specs.EventViews.{trap_view}
 use Rattle.machine_scenes.specs.declared.store.Store.{Store}
 use Rattle.machine_scenes.specs.declared.activation.Activation.{Activation}
 use Rattle.machine_answers.specs.Answers.{Brought, IsAnswer, effect_told, is_carried}
@@ -94,7 +93,7 @@ module _ (p : Lowered) (w : World) (store : Store) (pending : Option ℕ) (call 
   does = effect_told w.classes brings shared s told
 
   -- the kind of its result
-  module _ (kind : ResultKind) (same : kind ≡ (prototype (function_value function.function)).result) where
+  module _ (kind : ResultKind) (same : kind ≡ (prototype function.function).result) where
     pub kind_is : kind ≡ (prototype it.f).result
     kind_is = same ∙ ap (λ (f : JniFunction). (prototype f).result) it.asked.same_function
 
@@ -117,7 +116,7 @@ module _ (p : Lowered) (w : World) (store : Store) (pending : Option ℕ) (call 
 -- the machine is at a call that stops it, all checks being passed
 module _ (p : Lowered) (w : World) (store : Store) (pending : Option ℕ) (call : Activation) (function : Call) (others : Acquired) (k owner : ℕ) (own : Owners) (shared : Shared) (s : Thread) (task : Task) (rest : List Task) (h : AtCall p w store pending call function others k owner own shared s task rest) (trap : Trap) (halted : IsAnswered p w store pending call k function (answer.Halts trap)) where
   -- so does the source's
-  pub halts : let it = called p w store pending call function others k owner own shared s task rest h in effect_of_call (unit_tree p.unit) w.classes (in_use_with others s) k shared s it.line it.target it.f it.args rest ≡ Halts (trap_view trap)
+  pub halts : let it = called p w store pending call function others k owner own shared s task rest h in effect_of_call (unit_tree p.unit) w.classes (in_use_with others s) k shared s it.line it.target it.f it.args rest ≡ Halts trap
   halts =
       let it = called p w store pending call function others k owner own shared s task rest h in
       effect_is p w store pending call function others k owner own shared s task rest h (free p w store pending call function others k owner own shared s task rest h (answer.Halts trap) halted tt)

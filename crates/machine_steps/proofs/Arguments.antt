@@ -6,7 +6,7 @@ use Rattle.std.specs.List.{AllByRecursion, AllZip}
 use Rattle.std.proofs.lemmas.Bool.{le-leb}
 use Rattle.std.proofs.lemmas.Option.{slice_get_within}
 use Rattle.base.specs.Bytes.{Identifier, lookup}
-use Rattle.base.specs.Element.{ElementType}
+use Rattle.base.specs.declared.element.ElementType.{ElementType}
 use Rattle.code.specs.declared.instr.LocalArray.{LocalArray as ArraySlots}
 use Rattle.code_meaning.specs.Fits.{IsArray, IsStaticIn, IsStaticType}
 use Rattle.code_meaning.specs.Layout.{Known}
@@ -15,14 +15,16 @@ use Rattle.syntax.specs.Views.{unit_tree}
 use Rattle.semantics.specs.Sight.{elements_of, in_range}
 use Rattle.semantics.specs.Thread as source
 use Rattle.semantics.specs.Thread.{Shared}
-use Rattle.semantics.specs.Value.{Gives, Traps, OutOfRange, outcome_then}
+use Rattle.semantics.specs.declared.trap.Trap.TheVariants.{OutOfRange}
+use Rattle.semantics.specs.Value.{Gives, Traps, outcome_then}
 use Rattle.semantics.specs.Variable.{Variable, StaticReference, Empty, Live, Weakly, Cleared, Deleted, as_argument}
 use Rattle.semantics_safety.specs.Owners.{Owners}
 use Rattle.machine_steps.proofs.Changes.{array_of}
 use Rattle.class_rules.specs.Class.{Classes}
 use Rattle.class_rules.specs.Fields.{FieldId}
-use Rattle.type_rules.specs.ExprTypes.{ExprType, Ref, Global, Weak}
-use Rattle.type_rules.specs.ExprTypes as ty
+use Rattle.type_rules.specs.declared.ty.ExprType.{ExprType}
+use Rattle.type_rules.specs.declared.ty.ExprType.TheVariants.{Ref, Global, Weak}
+use Rattle.type_rules.specs.declared.ty.ExprType.TheVariants as types
 use Rattle.tables.specs.Elements.{OwnedNumbers}
 use Rattle.heap.specs.Heap.{Space}
 use Rattle.semantics.specs.Method.{MethodId}
@@ -161,10 +163,10 @@ module _ (p : Lowered) (classes : Classes) (space : Space) (copies : List (Optio
       }
   one_given operand.Number a owned h = h
   one_given (operand.FieldId i) a owned h =
-      let shown = r.shows.each h.0 (record { ty = ty.FieldId; index = i }) h.2 in
+      let shown = r.shows.each h.0 (record { ty = types.FieldId; index = i }) h.2 in
       record { field = shown.field; is = h.1 ∙ ap FieldActual shown.is; agrees = field_there (unit_tree p.unit) classes call.slots.fields.items r.meant.fields i shown.field r.holds.fields shown.there }
   one_given (operand.MethodId i) a owned h =
-      let shown = r.shows.each h.0 (record { ty = ty.MethodId; index = i }) h.2 in
+      let shown = r.shows.each h.0 (record { ty = types.MethodId; index = i }) h.2 in
       record { method = shown.method; is = h.1 ∙ ap MethodActual shown.is; agrees = method_there (unit_tree p.unit) classes call.slots.fields.items r.meant.fields i shown.method r.holds.fields shown.there }
   one_given operand.Text a owned h = h
   one_given (operand.Array array) a owned h = (h.0, h.1)
@@ -192,7 +194,7 @@ module _ (code : Listing) (known : Known) (place : ℕ) (stack : List ℕ) (slot
   -- a local array has its elements in its slots
   pub array_held : (x : Identifier) (t : ElementType) (array : ArraySlots) → IsArray known x t array.len array.start → HasElements slots.numbers array (lookup x s.variables)
   array_held x t array at =
-      let shown = shows.each x (record { ty = ty.Array t array.len; index = array.start }) at in
+      let shown = shows.each x (record { ty = types.Array t array.len; index = array.start }) at in
       let held = array_of (lookup x s.variables) t shown.array_type in
       let element : (i : ℕ) → (visible_to own shared s).sight.element x i ≡ in_range (slice_get held.0 i) = λ i. ap (λ (o : Option Variable). outcome_then (λ (zs : List ℤ). in_range (slice_get zs i)) (elements_of shared.heap o)) held.1 in
       let count : length held.0 ≡ array.len = as_many held.0 array.len (λ i below. ((shown.elements i below).number, sym (element i) ∙ (shown.elements i below).is)) (λ i above. sym (element i) ∙ shown.past i above) in

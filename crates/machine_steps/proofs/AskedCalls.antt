@@ -4,8 +4,11 @@ use Rattle.std.specs.Prelude.{slice_get}
 use Rattle.std.specs.List.{AllZip}
 use Rattle.class_rules.specs.Class.{Classes}
 use Rattle.heap.specs.Heap.{Space}
-use Rattle.jni.specs.JniFunction.{JniFunction, DeleteLocalRef, parameters_for, prototype}
-use Rattle.jni.specs.Prototype.{ResultKind, NewLocal}
+use Rattle.jni.specs.declared.function.JniFunction.{JniFunction}
+use Rattle.jni.specs.declared.function.JniFunction.TheVariants.{DeleteLocalRef}
+use Rattle.jni.specs.JniFunction.{parameters_for, prototype}
+use Rattle.jni.specs.declared.kinds.ResultKind.{ResultKind}
+use Rattle.jni.specs.declared.kinds.ResultKind.TheVariants.{NewLocal, NewGlobal, NewWeak, GivesFlag, GivesInt, GivesField, GivesMethod, GivesNothing, GivesBuffer}
 use Rattle.syntax.specs.Views.{unit_tree}
 use Rattle.semantics.specs.Arguments.{Actual, reference_given, variable_given}
 use Rattle.semantics.specs.CallEffects.{level_of}
@@ -59,22 +62,19 @@ use Rattle.semantics.specs.Checks.{frames_after as source_frames_after}
 use Rattle.semantics.specs.ThreadStep.{next_effect}
 use Rattle.machine_calls.proofs.HeldStatics.{place_below}
 use Rattle.std.specs.Prelude.{◌&&◌}
-use Rattle.jni.specs.Prototype.{NewGlobal, NewWeak, GivesFlag, GivesInt, GivesField, GivesMethod, GivesNothing, GivesBuffer}
 use Rattle.semantics.specs.Object.{Reference, sizes}
 use Rattle.world_values.specs.SoundWorlds.{IsSound}
 use Rattle.semantics.specs.CallEffects.{Halts}
 use Rattle.semantics.specs.CallStep.{after_call, checked, effect_of_call}
-use Rattle.semantics.specs.Value.{Trap as SourceTrap}
+use Rattle.semantics.specs.declared.trap.Trap.{Trap}
 use Rattle.machine_answers.specs.declared.answer.Answer.{Answer}
 use Rattle.machine_answers.specs.declared.answer.Given.{Given}
-use Rattle.semantics.specs.declared.trap.Trap.{Trap}
 use Rattle.semantics.specs.declared.event.Event.TheVariants as event
 use Rattle.machine_steps.specs.declared.execute.Executed.TheVariants.{Did}
 use Rattle.machine_steps.specs.Executes.{Executes, GoesOn, cells_made}
 use Rattle.machine_threads.specs.InProgress.{WorkAgrees}
 use Rattle.machine_calls.specs.CarriedOut.{CarriesOut, frames_left, made_by}
 use Rattle.machine_answers.specs.Checked.{puts_local}
-use Rattle.semantics.specs.EventViews.{trap_view}
 use Rattle.machine_answers.proofs.CallTraps.{free_seen, room_left}
 use Rattle.machine_steps.proofs.EffectFrames.{left_is}
 use Rattle.machine_scenes.proofs.LocalFrames.{frames_left as frames_after_agree}
@@ -83,12 +83,12 @@ use Rattle.semantics.proofs.HeapGrows.{effect_keeps}
 use Rattle.machine_steps.proofs.CellsMade.{call_cells}
 use Rattle.machine_scenes.proofs.Keeping.{keeps_same}
 use Rattle.machine_steps.specs.Executes.{in_use_with}
-use Rattle.base.specs.Element.{ElementType, JInt, JShort, JByte, JChar}
-use Rattle.base.specs.declared.element.ElementType.{ElementType as ElementOfCode}
+use Rattle.base.specs.declared.element.ElementType.{ElementType}
+use Rattle.base.specs.declared.element.ElementType.TheVariants.{Int as JInt, Short as JShort, Byte as JByte, Char as JChar}
 use Rattle.code_meaning.specs.Coding.{element_of}
 use Rattle.code_meaning.specs.Slots.{held_buffer, kind_of_variable}
-use Rattle.type_rules.specs.ExprTypes as ty
-use Rattle.type_rules.specs.ExprTypes.{Buffer}
+use Rattle.type_rules.specs.declared.ty.ExprType.TheVariants as types
+use Rattle.type_rules.specs.declared.ty.ExprType.TheVariants.{Buffer}
 use Rattle.std.proofs.lemmas.Option.{slice_get_within}
 use Rattle.code_meaning.specs.Slots.{word_of}
 use Rattle.semantics.specs.CallStep.{element_type, target_element}
@@ -176,8 +176,8 @@ module _ (p : Lowered) (classes : Classes) (space : Space) (copies : List (Optio
   element_there line (destination.FieldId i) kind Dropped h = absurd h.1
   element_there line (destination.MethodId i) kind Dropped h = absurd h.1
   element_there line (destination.Static i) kind target h = sym (ap (target_element s.variables) h.1.1 ∙ no_elements (lookup h.1.0 s.variables) h.1.2.static.no_variable.kind)
-  element_there line (destination.Buffer element i) kind (Declared declared x) h = ap (λ (e : ElementOfCode). element_wanted (destination.Buffer e i)) h.1.1 ∙ wanted_of h.1.0 i ∙ declared_as x declared (BufferKind h.1.0) h.1.2.0
-  element_there line (destination.Buffer element i) kind (Assigned x) h = ap (λ (e : ElementOfCode). element_wanted (destination.Buffer e i)) h.1.1 ∙ wanted_of h.1.0 i ∙ sym (ap element_type (buffer_by_kind (lookup x s.variables) h.1.0 h.1.2.0).1)
+  element_there line (destination.Buffer element i) kind (Declared declared x) h = ap (λ (e : ElementType). element_wanted (destination.Buffer e i)) h.1.1 ∙ wanted_of h.1.0 i ∙ declared_as x declared (BufferKind h.1.0) h.1.2.0
+  element_there line (destination.Buffer element i) kind (Assigned x) h = ap (λ (e : ElementType). element_wanted (destination.Buffer e i)) h.1.1 ∙ wanted_of h.1.0 i ∙ sym (ap element_type (buffer_by_kind (lookup x s.variables) h.1.0 h.1.2.0).1)
   element_there line (destination.Buffer element i) kind (Tested a b) h = absurd h.1.2
   element_there line (destination.Buffer element i) kind Dropped h = absurd h.1.2
   element_there line destination.Test kind target h = sym (ap (target_element s.variables) h.1.is)
@@ -209,7 +209,7 @@ module _ (p : Lowered) (classes : Classes) (space : Space) (copies : List (Optio
 
   -- the slot of the flag for `isCopy` is there
   one_told : (o : Operand) (a : Actual) → IsOperand code r.known call.place call.stack (slots_of call r.meant) (visible_to own shared s) o a → HasTold (told_slot (Some o)) (length call.slots.numbers.items)
-  one_told (operand.IsCopy i) a h = let shown = r.shows.each h.0 (record { ty = ty.Flag; index = i }) h.2 in slice_get_within call.slots.numbers.items i (word_of shown.value) shown.word
+  one_told (operand.IsCopy i) a h = let shown = r.shows.each h.0 (record { ty = types.Flag; index = i }) h.2 in slice_get_within call.slots.numbers.items i (word_of shown.value) shown.word
   one_told operand.Null a h = tt
   one_told (operand.Local i) a h = tt
   one_told (operand.Static i) a h = tt
@@ -340,7 +340,7 @@ module _ (p : Lowered) (w : World) (store : Store) (pending : Option ℕ) (call 
   next_is = ap (next_effect shared s) h.tasks ∙ called.is
 
   -- the trap that is found of it
-  abbrev pub found : Option SourceTrap
+  abbrev pub found : Option Trap
   found = checks_find p w store pending call function others k owner shared s called.target called.f called.args called.asked
 
   pub found_same : trap_at p w store pending call k in_memory ≡ found
@@ -355,7 +355,7 @@ module _ (p : Lowered) (w : World) (store : Store) (pending : Option ℕ) (call 
   trap_is = seen_is p w store pending call function others k owner shared s called.target called.f called.args called.asked
 
   -- where it is found
-  pub trap_found_is : (trap : SourceTrap) → trap_at p w store pending call k in_memory ≡ Some trap → trap_of_call w.classes shared s called.target called.f called.args ≡ Some trap
+  pub trap_found_is : (trap : Trap) → trap_at p w store pending call k in_memory ≡ Some trap → trap_of_call w.classes shared s called.target called.f called.args ≡ Some trap
   trap_found_is trap is = sym trap_is ∙ ap (with_depth deep) is
 
   -- the key that DeleteLocalRef is given
@@ -415,7 +415,7 @@ module _ (p : Lowered) (w : World) (store : Store) (pending : Option ℕ) (call 
 
     -- the effect of the source's call
     pub effect_is : effect_of_call (unit_tree p.unit) w.classes in_use k shared s called.line called.target called.f called.args rest ≡ call_effect (unit_tree p.unit) w.classes in_use k shared s called.args called.f
-    effect_is = ap (λ (o : Option SourceTrap). checked o (call_effect (unit_tree p.unit) w.classes in_use k shared s called.args called.f)) free
+    effect_is = ap (λ (o : Option Trap). checked o (call_effect (unit_tree p.unit) w.classes in_use k shared s called.args called.f)) free
 
   -- a local reference has room in the frames that the call leaves
   pub room_after : (free : trap_of_call w.classes shared s called.target called.f called.args ≡ None) (refused : Bool) (store' : Store) (pending' : Option ℕ) (locals : LocalTable) (g : Given) (answer : Answer)
@@ -425,11 +425,11 @@ module _ (p : Lowered) (w : World) (store : Store) (pending : Option ℕ) (call 
 
   -- a trap stops the thread where it is
   -- a check found it
-  pub found_trap : (trap : Trap) → trap_of_call w.classes shared s called.target called.f called.args ≡ Some (trap_view trap) → effect_of_call (unit_tree p.unit) w.classes in_use k shared s called.line called.target called.f called.args rest ≡ Halts (trap_view trap)
-  found_trap trap found = ap (λ (o : Option SourceTrap). checked o (call_effect (unit_tree p.unit) w.classes in_use k shared s called.args called.f)) found
+  pub found_trap : (trap : Trap) → trap_of_call w.classes shared s called.target called.f called.args ≡ Some trap → effect_of_call (unit_tree p.unit) w.classes in_use k shared s called.line called.target called.f called.args rest ≡ Halts trap
+  found_trap trap found = ap (λ (o : Option Trap). checked o (call_effect (unit_tree p.unit) w.classes in_use k shared s called.args called.f)) found
 
   -- the call stops the machine
-  pub traps : (trap : Trap) (line : ℕ) → line ≡ function.line → effect_of_call (unit_tree p.unit) w.classes in_use k shared s called.line called.target called.f called.args rest ≡ Halts (trap_view trap)
+  pub traps : (trap : Trap) (line : ℕ) → line ≡ function.line → effect_of_call (unit_tree p.unit) w.classes in_use k shared s called.line called.target called.f called.args rest ≡ Halts trap
       → Executes p w store store others k owner own shared s rest call pending (effect_of (sight_of shared s) task) (Did (event.Trapped trap line))
   traps trap line same found =
       subst (λ (e : Effect). GoesOn p w store store others k owner own shared s rest call pending e false (event.Trapped trap line)) (sym called.is) (record {
@@ -437,7 +437,7 @@ module _ (p : Lowered) (w : World) (store : Store) (pending : Option ℕ) (call 
         next = s;
         steps =
             ap (after_call (unit_tree p.unit) w.classes in_use k shared s called.line called.target called.f called.args rest) found
-            ∙ ap (λ (n : ℕ). source.Advances shared s (source.Trapped (trap_view trap) n)) (sym (same ∙ called.same_line));
+            ∙ ap (λ (n : ℕ). source.Advances shared s (source.Trapped trap n)) (sym (same ∙ called.same_line));
         store_agrees = h.shares;
         keeps = keeps_same store.heap shared;
         keeps_copies = λ key c there other. there;

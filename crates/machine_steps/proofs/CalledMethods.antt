@@ -58,7 +58,9 @@ use Rattle.semantics.specs.World.{World, loaded_objects}
 use Rattle.semantics_safety.specs.Owners.{Owners}
 use Rattle.semantics_safety.specs.StepSafe.{IsCallable}
 use Rattle.syntax.specs.Parts.{functions_of}
-use Rattle.syntax.specs.Tree.{IntParameter, Parameter, ParameterType, ReferenceParameter}
+use Rattle.syntax.specs.declared.declared_type.ParameterType.{ParameterType}
+use Rattle.syntax.specs.declared.declared_type.ParameterType.TheVariants.{Jint as IntParameter, Reference as ReferenceParameter}
+use Rattle.syntax.specs.Tree.{Parameter}
 use Rattle.syntax.specs.Views.{unit_tree}
 use Rattle.world_values.proofs.LoadedWorlds.{class_within}
 use Rattle.world_values.specs.SoundWorlds.{IsSound}

@@ -3,10 +3,10 @@ use Rattle.std.proofs.Common.{◌≡◌, ◌≢◌, ⊎_elim, ℕ, ℤ, zero, su
 use Rattle.std.specs.Prelude.{slice_get, IsSome}
 use Rattle.std.specs.Option.{option_copied}
 use Rattle.base.specs.Bytes.{Identifier}
-use Rattle.base.specs.Element.{ElementType}
+use Rattle.base.specs.declared.element.ElementType.{ElementType}
 use Rattle.syntax.specs.Tree.{Function, Item, StaticItem, FunctionItem, SourceUnit}
 use Rattle.syntax.specs.Views.{unit_tree}
-use Rattle.jni.specs.JniFunction.{JniFunction}
+use Rattle.jni.specs.declared.function.JniFunction.{JniFunction}
 use Rattle.heap.specs.Heap.{Space}
 use Rattle.code.specs.declared.instr.Instr.{Instr}
 use Rattle.code.specs.declared.instr.Instr.TheVariants as instr
@@ -19,7 +19,8 @@ use Rattle.semantics.specs.Arguments.{Actual}
 use Rattle.semantics.specs.CallEffects.{CallResult}
 use Rattle.semantics.specs.Effect.{Effect, Becomes, Sets, SetsNull, SetsElement, MakesArray, Prints, Calls, Returns, TrapsAt, NoEffect, effect_of}
 use Rattle.semantics.specs.Task.{Task, Target}
-use Rattle.semantics.specs.Value.{Value, Trap}
+use Rattle.semantics.specs.declared.trap.Trap.{Trap}
+use Rattle.semantics.specs.Value.{Value}
 use Rattle.code_meaning.specs.Layout.{Known, with_static}
 use Rattle.code_meaning.specs.Slots.{Visible, Slots, Shows, SeesBuffers, IsSet, IsMade, IsElementSet}
 use Rattle.code_meaning.specs.Stands.{StandsFor}

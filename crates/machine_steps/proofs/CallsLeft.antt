@@ -4,11 +4,14 @@ use Rattle.std.specs.Prelude.{nat_le}
 use Rattle.std.proofs.lemmas.Bool.{cond_both}
 use Rattle.class_rules.specs.Class.{Classes}
 use Rattle.heap.specs.Heap.{Space}
-use Rattle.jni.specs.JniFunction.{JniFunction, prototype}
-use Rattle.jni.specs.Prototype.{ResultKind}
+use Rattle.jni.specs.declared.function.JniFunction.{JniFunction}
+use Rattle.jni.specs.JniFunction.{prototype}
+use Rattle.jni.specs.declared.kinds.ResultKind.{ResultKind}
 use Rattle.syntax.specs.Tree.{SourceUnit}
 use Rattle.semantics.specs.Answer.{Answer as SourceAnswer, effect_of}
 use Rattle.semantics.specs.AnswerTable.{released}
+use Rattle.jni.specs.declared.mode.ReleaseMode.{ReleaseMode}
+use Rattle.jni.specs.declared.mode.ReleaseMode.TheVariants.{CopyBackAndFree, CopyBack, FreeUncopied}
 use Rattle.semantics.specs.Arguments.{Actual}
 use Rattle.semantics.specs.CallEffects.{CallEffect, Enters, Halts, Leaves, Throws, frames_effect, refuses_frames, with_capacity}
 use Rattle.semantics.specs.CallStep.{after_call, after_refusal, call_step, effect_of_call, makes_objects, put}
@@ -21,7 +24,6 @@ use Rattle.machine_answers.specs.Answers.{Brought, IsAnswer, effect_told, is_car
 use Rattle.machine_answers.specs.Answers as row
 use Rattle.machine_calls.specs.CarriedOut.{frames_left, pending_after, result_after, shared_after, variables_left}
 use Rattle.tables.specs.Locals.{LocalTable}
-use Rattle.semantics.specs.Arguments.{ReleaseMode, CopyBackAndFree, CopyBack, FreeUncopied}
 use Rattle.machine_steps.proofs.Invocations.{resumption}
 use Rattle.machine_steps.proofs.MonitorEffects.{enter_cases, exit_cases}
 

@@ -6,14 +6,22 @@ use Rattle.std.specs.List.{AllByRecursion, AllZip}
 use Rattle.std.proofs.lemmas.List.{length-map, length-take}
 use Rattle.std.proofs.lemmas.Option.{slice_get_within}
 use Rattle.base.specs.Bytes.{Identifier, lookup}
-use Rattle.base.specs.Element.{ElementType}
+use Rattle.base.specs.declared.element.ElementType.{ElementType}
 use Rattle.class_rules.specs.Class.{Classes}
 use Rattle.heap.specs.Heap.{Space, values_at}
-use Rattle.jni.specs.Access.{Access}
-use Rattle.jni.specs.JniFunction.{JniFunction, parameters_for, GetBuffer, prototype}
-use Rattle.jni.specs.Prototype.{ParameterKind, IsCopy, ResultKind, GivesNothing, owner as owner_kind}
+use Rattle.jni.specs.declared.access.Access.{Access}
+use Rattle.jni.specs.declared.function.JniFunction.{JniFunction}
+use Rattle.jni.specs.declared.function.JniFunction.TheVariants.{GetBuffer}
+use Rattle.jni.specs.JniFunction.{parameters_for, prototype}
+use Rattle.jni.specs.declared.kinds.ParameterKind.{ParameterKind}
+use Rattle.jni.specs.declared.kinds.ParameterKind.TheVariants.{IsCopy}
+use Rattle.jni.specs.declared.kinds.ResultKind.{ResultKind}
+use Rattle.jni.specs.declared.kinds.ResultKind.TheVariants.{GivesNothing}
+use Rattle.jni.specs.Prototype.{owner as owner_kind}
 use Rattle.syntax.specs.Views.{unit_tree}
-use Rattle.semantics.specs.Arguments.{Actual, ReleaseMode, CopyBackAndFree, CopyBack, FreeUncopied, variable_given, variable_in_actual, address_given, address_in_actual}
+use Rattle.jni.specs.declared.mode.ReleaseMode.{ReleaseMode}
+use Rattle.jni.specs.declared.mode.ReleaseMode.TheVariants.{CopyBackAndFree, CopyBack, FreeUncopied}
+use Rattle.semantics.specs.Arguments.{Actual, variable_given, variable_in_actual, address_given, address_in_actual}
 use Rattle.semantics.specs.CallEffects.{CallEffect, CallResult, NoResult, NullResult, ScalarResult, ReferenceResult, WeakResult, FieldResult, MethodResult, BufferResult, begun_with, freed}
 use Rattle.semantics.specs.CallStep.{makes_objects, tell_copy}
 use Rattle.semantics.specs.Answer as source_answer
@@ -36,8 +44,8 @@ use Rattle.code.specs.Effect.{truth_word}
 use Rattle.code.specs.declared.instr.Call.{Call as InMemory}
 use Rattle.code.specs.declared.instr.Operand.{Operand}
 use Rattle.code.specs.declared.instr.Operand.TheVariants as operand
-use Rattle.type_rules.specs.ExprTypes as ty
-use Rattle.type_rules.specs.ExprTypes.{Buffer}
+use Rattle.type_rules.specs.declared.ty.ExprType.TheVariants as types
+use Rattle.type_rules.specs.declared.ty.ExprType.TheVariants.{Buffer}
 use Rattle.code_meaning.specs.Coding.{mode_code}
 use Rattle.code_meaning.specs.Does.{ActualFits, IsOperand, OperandFits}
 use Rattle.code_meaning.specs.Fits.{HaveOwnSlots}
@@ -88,7 +96,7 @@ module _ (code : Listing) (known : Known) (place : ℕ) (stack : List ℕ) (slot
     variable : Identifier
     told : told_slot (Some o) ≡ Some slot
     address : address_in_actual (Some a) ≡ Some variable
-    there : lookup variable known ≡ Some (record { ty = ty.Flag; index = slot })
+    there : lookup variable known ≡ Some (record { ty = types.Flag; index = slot })
 
   abbrev IsNoFlag : Operand → Actual → Type 0
   IsNoFlag o a = (told_slot (Some o) ≡ None) × (address_in_actual (Some a) ≡ None)
@@ -116,7 +124,7 @@ module _ (code : Listing) (known : Known) (place : ℕ) (stack : List ℕ) (slot
     variable : Identifier
     told : told_slot (slice_get operands 1) ≡ Some slot
     address : address_given args 1 ≡ Some variable
-    there : lookup variable known ≡ Some (record { ty = ty.Flag; index = slot })
+    there : lookup variable known ≡ Some (record { ty = types.Flag; index = slot })
 
   abbrev TellsNothing : List Operand → List Actual → Type 0
   TellsNothing operands args = (told_slot (slice_get operands 1) ≡ None) × (address_given args 1 ≡ None)
@@ -209,10 +217,10 @@ module _ (unit : SourceUnit) (classes : Classes) (store : Store) (k : ℕ) (kind
 
 -- a flag is told
 module _ (code : Listing) (known : Known) (own : Owners) (shared : Shared) (s : source.Thread) (slots : Slots) (shows : Shows code known (visible_to own shared s) slots) (owned : HaveOwnSlots known) where
-  flag_shown : (x : Identifier) (i : ℕ) (b : Bool) → lookup x known ≡ Some (record { ty = ty.Flag; index = i })
+  flag_shown : (x : Identifier) (i : ℕ) (b : Bool) → lookup x known ≡ Some (record { ty = types.Flag; index = i })
       → Shows code known (visible_to own shared (record s { variables = assign x (Scalar (Flag b)) s.variables })) (record slots { numbers = slice_set slots.numbers i (truth_word b) })
   flag_shown x i b at =
-      let slot : Slot = record { ty = ty.Flag; index = i } in
+      let slot : Slot = record { ty = types.Flag; index = i } in
       let shown = shows.each x slot at in
       let new : source.Thread = record s { variables = assign x (Scalar (Flag b)) s.variables } in
       fewer_shown code known ((x, slot) ∷ known) (visible_to own shared new) (record slots { numbers = slice_set slots.numbers i (truth_word b) }) (known_among x slot known at)

@@ -4,7 +4,7 @@ use Rattle.std.proofs.Math.Seq.{drop-append_seam, drop-length}
 use Rattle.base.specs.Bytes.{Identifier, lookup}
 use Rattle.class_rules.specs.Class.{Classes}
 use Rattle.syntax.specs.Tree.{SourceUnit}
-use Rattle.jni.specs.JniFunction.{JniFunction}
+use Rattle.jni.specs.declared.function.JniFunction.{JniFunction}
 use Rattle.semantics.specs.Arguments.{Actual}
 use Rattle.semantics.specs.CallEffects.{CallEffect, CallResult, Enters, Halts, Leaves, Throws}
 use Rattle.semantics.specs.CallStep.{after_call, effect_of_call, put, put_assigned}

@@ -39,7 +39,7 @@ use Rattle.machine_steps.specs.Resumed.{HasCalled, Resumes}
 use Rattle.machine_steps.specs.Returned.{given_by}
 use Rattle.machine_steps.specs.Waiting.{store_unowned}
 use Rattle.machine_steps.specs.declared.invoke.Invoked.TheVariants as invoked
-use Rattle.jni.specs.JniFunction.{MonitorEnter}
+use Rattle.jni.specs.declared.function.JniFunction.TheVariants.{MonitorEnter}
 use Rattle.semantics.specs.Effect.{effect_of}
 use Rattle.semantics.specs.Task.{Task}
 use Rattle.semantics.specs.Thread as source

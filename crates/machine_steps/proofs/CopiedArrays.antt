@@ -8,15 +8,16 @@ use Rattle.std.proofs.lemmas.Bool.{cases_lt, cond_both}
 use Rattle.std.proofs.lemmas.List.{length-map}
 use Rattle.std.proofs.lemmas.Option.{slice_get-get_or, slice_get-map, slice_get_past, slice_get_within}
 use Rattle.base.specs.Bytes.{Identifier}
-use Rattle.base.specs.Element.{ElementType}
+use Rattle.base.specs.declared.element.ElementType.{ElementType}
 use Rattle.class_rules.specs.Class.{Classes}
 use Rattle.heap.specs.Heap.{Space}
-use Rattle.jni.specs.Prototype.{ResultKind, GivesNothing}
+use Rattle.jni.specs.declared.kinds.ResultKind.{ResultKind}
+use Rattle.jni.specs.declared.kinds.ResultKind.TheVariants.{GivesNothing}
 use Rattle.code.specs.Depth.{Listing}
 use Rattle.code.specs.declared.instr.LocalArray.{LocalArray as ArraySlots}
 use Rattle.code.specs.declared.instr.Operand.{Operand}
 use Rattle.code.specs.declared.instr.Operand.TheVariants as operand
-use Rattle.type_rules.specs.ExprTypes.{Array}
+use Rattle.type_rules.specs.declared.ty.ExprType.TheVariants.{Array}
 use Rattle.code_meaning.specs.Does.{IsOperand}
 use Rattle.code_meaning.specs.Fits.{HaveOwnSlots, IsArray}
 use Rattle.code_meaning.specs.Layout.{Known}

@@ -5,9 +5,9 @@ use Rattle.std.specs.Bool.{beq}
 use Rattle.std.specs.Int.{w32, cast_signed}
 use Rattle.std.proofs.lemmas.Bool.{ltb-true}
 use Rattle.base.specs.Bytes.{Identifier, lookup}
-use Rattle.base.specs.Element.{ElementType}
+use Rattle.base.specs.declared.element.ElementType.{ElementType}
 use Rattle.class_rules.specs.Class.{Classes}
-use Rattle.jni.specs.JniFunction.{JniFunction}
+use Rattle.jni.specs.declared.function.JniFunction.{JniFunction}
 use Rattle.heap.specs.Heap.{Space}
 use Rattle.code.specs.declared.instr.Instr.{Instr}
 use Rattle.code.specs.declared.instr.Instr.TheVariants as instr
@@ -28,7 +28,8 @@ use Rattle.semantics.specs.Task.{Task, Target}
 use Rattle.semantics.specs.Thread as source
 use Rattle.semantics.specs.Thread.{Shared, sight_of}
 use Rattle.semantics.specs.ThreadStep.{with_tasks, after_effect, next_effect, set_element}
-use Rattle.semantics.specs.Value.{Trap, convert}
+use Rattle.semantics.specs.declared.trap.Trap.{Trap}
+use Rattle.semantics.specs.Value.{convert}
 use Rattle.semantics.specs.Variable.{Variable, Scalar, LocalArray, assign}
 use Rattle.semantics_safety.specs.Owners.{Owners}
 use Rattle.semantics_safety.specs.StepSafe.{HoldsNoBuffer, SetsWhole}
@@ -54,7 +55,7 @@ use Rattle.machine_scenes.specs.StoreAgrees.{StoreAgrees}
 use Rattle.machine_scenes.specs.Buffers.{Acquired, AreViewed, acquired_by, beside, viewed_in}
 use Rattle.machine_steps.specs.Executes.{Executes, IsSteady, in_use_with}
 use Rattle.machine_threads.specs.InProgress.{CallStands, WorkAgrees}
-use Rattle.semantics.specs.EventViews.{event_view, trap_view}
+use Rattle.semantics.specs.EventViews.{event_view}
 use Rattle.machine_answers.specs.Asked.{references_of}
 use Rattle.machine_scenes.specs.Statics.{StaticReference}
 use Rattle.machine_steps.specs.Moved.{HasMoved, end_of_path, PathIsSeen}
@@ -331,7 +332,7 @@ module _ (p : Lowered) (w : World) (store : Store) (others : Acquired) (k owner 
         let after_is : call.stack ≡ stack = same_stack _ _ _ _ _ _ (sym plain_is ∙ is) in
         let numbers_are : call.slots.numbers.items ≡ numbers = same_numbers _ _ _ _ _ _ (sym plain_is ∙ is) in
         let seen_trap : PathIsSeen (plain.Trap h.trap line) e = subst (λ (w : Plain). PathIsSeen w e) path_is path_seen in
-        let trap_is : reason ≡ trap_view seen_trap.0 = sym h.is ∙ sym seen_trap.1 in
+        let trap_is : reason ≡ seen_trap.0 = sym h.is ∙ sym seen_trap.1 in
         let stands : CallStands p classes space store.elements owner after seen s.frames (task ∷ rest) =
         stands_at p classes space store.elements owner call code seen s.frames task rest r after call.place stack (record (values_in call) { numbers = numbers }) r.meant r.known seen (task ∷ rest) (r.depth ∙ ap (λ (st : List ℕ). Some (length st)) after_is)
         (subst (λ (w : Plain). HasMoved call after (end_of_path call.place w) stack (record (values_in call) { numbers = numbers })) path_is m) (holds_with p classes space store.elements owner call code seen s.frames task rest r numbers)

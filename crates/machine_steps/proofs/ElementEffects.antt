@@ -29,8 +29,10 @@ use Rattle.semantics.specs.Task.{Task}
 use Rattle.semantics.specs.Thread as source
 use Rattle.semantics.specs.Thread.{Shared, sight_of}
 use Rattle.semantics.specs.ThreadStep.{with_tasks, set_element}
-use Rattle.semantics.specs.Value.{Trap, convert}
-use Rattle.semantics.specs.Value as value
+use Rattle.semantics.specs.declared.trap.Trap.{Trap}
+use Rattle.semantics.specs.declared.trap.Trap.TheVariants.{OutOfRange}
+use Rattle.semantics.specs.Value.{convert}
+use Rattle.semantics.specs.declared.trap.Trap.TheVariants as traps
 use Rattle.semantics.specs.Variable as variable
 use Rattle.semantics.specs.Variable.{Elements, NoBuffer, Copy, View, assign}
 use Rattle.semantics.specs.World.{World}
@@ -56,7 +58,6 @@ use Rattle.machine_scenes.specs.declared.activation.Activation.{Activation}
 use Rattle.machine_scenes.specs.declared.buffer.Buffer.{Buffer as HeldBuffer}
 use Rattle.machine_scenes.specs.declared.buffer.Buffer.TheVariants as held_as
 use Rattle.machine_scenes.specs.declared.store.Store.{Store}
-use Rattle.semantics.specs.declared.trap.Trap.TheVariants.{OutOfRange}
 use Rattle.machine_scenes.proofs.Keeping.{frames_stay, keeps_same, keys_stay, reference_stays}
 use Rattle.machine_answers.proofs.Writes.{written_agrees, written_keeps}
 use Rattle.machine_steps.specs.BufferElements.{LoadsElement, StoresElement, with_word, words_held}
@@ -181,7 +182,7 @@ module _ (p : Lowered) (w : World) (store : Store) (others : Acquired) (k owner 
           ∙ ap (λ (l : List ℤ). map (λ z. cast_unsigned w32 z) l) same
 
   -- a trap leaves all as it was
-  past : (reason : Trap) (line : ℕ) (after : Activation) (e : Event) → after ≡ call → e ≡ event.Trapped OutOfRange line → reason ≡ value.OutOfRange → agrees.GoesOn p w store store others k owner own shared s rest after pending (TrapsAt reason line) false e
+  past : (reason : Trap) (line : ℕ) (after : Activation) (e : Event) → after ≡ call → e ≡ event.Trapped OutOfRange line → reason ≡ traps.OutOfRange → agrees.GoesOn p w store store others k owner own shared s rest after pending (TrapsAt reason line) false e
   past reason line after e same trapped is = record {
     next_shared = shared;
     next = s;

@@ -1,8 +1,9 @@
 -- An element that a task sets is there.
 use Rattle.std.proofs.Common.{◌≡◌, ℕ, ℤ, Bool, true, false, List, cond, refl}
 use Rattle.base.specs.Bytes.{Identifier}
-use Rattle.syntax.specs.Tree.{Expr, Block, Null}
-use Rattle.jni.specs.JniFunction.{JniFunction}
+use Rattle.syntax.specs.declared.expr.Constant.TheVariants.{Null}
+use Rattle.syntax.specs.Tree.{Expr, Block}
+use Rattle.jni.specs.declared.function.JniFunction.{JniFunction}
 use Rattle.semantics.specs.Arguments.{actuals}
 use Rattle.semantics.specs.CallEffects.{ScalarResult}
 use Rattle.semantics.specs.Effect as effect

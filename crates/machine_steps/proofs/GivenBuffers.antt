@@ -9,9 +9,15 @@ use Rattle.std.proofs.lemmas.Bool.{leb-true}
 use Rattle.std.proofs.lemmas.Slice.Eq.{bytes_eq-Decides}
 use Rattle.class_rules.specs.Class.{Classes}
 use Rattle.heap.specs.Heap.{Space}
-use Rattle.jni.specs.JniFunction.{JniFunction, GetBuffer, parameters_for, prototype}
-use Rattle.jni.specs.Access.{Access}
-use Rattle.jni.specs.Prototype.{ParameterKind, ArrayVariable, BufferVariable, IsCopy, owner, ResultKind, GivesBuffer}
+use Rattle.jni.specs.declared.function.JniFunction.{JniFunction}
+use Rattle.jni.specs.declared.function.JniFunction.TheVariants.{GetBuffer}
+use Rattle.jni.specs.JniFunction.{parameters_for, prototype}
+use Rattle.jni.specs.declared.access.Access.{Access}
+use Rattle.jni.specs.declared.kinds.ParameterKind.{ParameterKind}
+use Rattle.jni.specs.declared.kinds.ParameterKind.TheVariants.{ArrayVariable, BufferVariable, IsCopy}
+use Rattle.jni.specs.declared.kinds.ResultKind.{ResultKind}
+use Rattle.jni.specs.declared.kinds.ResultKind.TheVariants.{GivesBuffer}
+use Rattle.jni.specs.Prototype.{owner}
 use Rattle.base.specs.Bytes.{Identifier, lookup}
 use Rattle.semantics.specs.Arguments.{Actual, address_given, address_in_actual}
 use Rattle.semantics.specs.Answer as source_answer
@@ -33,7 +39,7 @@ use Rattle.code_meaning.specs.Does.{IsOperand, OperandFits}
 use Rattle.code_meaning.specs.Layout.{Known}
 use Rattle.code_meaning.specs.Slots.{Shows, Slots, kind_of_variable, visible_to}
 use Rattle.code_meaning.specs.Stands.{IsBufferResult}
-use Rattle.type_rules.specs.ExprTypes as ty
+use Rattle.type_rules.specs.declared.ty.ExprType.TheVariants as types
 use Rattle.semantics_safety.specs.Owners.{Owners}
 use Rattle.semantics_safety.proofs.NameLaws.{lookup_other, lookup_same}
 use Rattle.tables.specs.Locals.{LocalTable}
@@ -99,7 +105,7 @@ module _ (code : Listing) (known : Known) (place : ℕ) (stack : List ℕ) (slot
 
   one_told : (o : Operand) (a : Actual) → OperandFits IsCopy o → IsOperand code known place stack slots (visible_to own shared s) o a → IsTellable (address_in_actual (Some a))
   one_told (operand.IsCopy i) a kind h z is =
-      let shown = shows.each h.0 (record { ty = ty.Flag; index = i }) h.2 in
+      let shown = shows.each h.0 (record { ty = types.Flag; index = i }) h.2 in
       let same : h.0 ≡ z = let both : Some h.0 ≡ Some z = sym (ap (λ (b : Actual). address_in_actual (Some b)) h.1) ∙ is in cc in
       subst (λ (x : Identifier). kind_of_variable (lookup x s.variables) ≡ Some ScalarKind) same shown.kind
   one_told operand.Null a kind (inl h) z is = absurd (let clash : None ≡ Some z = sym (ap (λ (b : Actual). address_in_actual (Some b)) h.1) ∙ is in cc)

@@ -7,9 +7,11 @@ use Rattle.class_rules.specs.Fields.{FieldId}
 use Rattle.classes.specs.declared.class.FieldHandle.{FieldHandle as FieldIn}
 use Rattle.machine_scenes.specs.declared.handle.MethodHandle.{MethodHandle as MethodIn}
 use Rattle.heap.specs.Heap.{Space}
-use Rattle.jni.specs.Prototype.{ResultKind, NewLocal, NewGlobal, NewWeak, GivesFlag, GivesInt, GivesField, GivesMethod, GivesNothing, GivesBuffer}
-use Rattle.type_rules.specs.ExprTypes.{ExprType, Jint}
-use Rattle.type_rules.specs.ExprTypes as ty
+use Rattle.jni.specs.declared.kinds.ResultKind.{ResultKind}
+use Rattle.jni.specs.declared.kinds.ResultKind.TheVariants.{NewLocal, NewGlobal, NewWeak, GivesFlag, GivesInt, GivesField, GivesMethod, GivesNothing, GivesBuffer}
+use Rattle.type_rules.specs.declared.ty.ExprType.{ExprType}
+use Rattle.type_rules.specs.declared.ty.ExprType.TheVariants.{Jint}
+use Rattle.type_rules.specs.declared.ty.ExprType.TheVariants as types
 use Rattle.semantics.specs.CallEffects.{CallResult, NoResult, NullResult, ScalarResult, ReferenceResult, WeakResult, FieldResult, MethodResult, BufferResult}
 use Rattle.semantics.specs.CallStep.{filled, static_result}
 use Rattle.semantics.specs.Object.{Reference}
@@ -19,8 +21,8 @@ use Rattle.semantics.specs.Variable.{Buffer, NoBuffer, LocalRef, FieldHandle, Me
 use Rattle.code_meaning.specs.Slots as value
 use Rattle.code_meaning.specs.Slots.{ValueHasType, word_of}
 use Rattle.code_meaning.specs.Stands.{IsBufferResult, IsStaticResult, number_type}
-use Rattle.base.specs.Element.{ElementType}
-use Rattle.jni.specs.Access.{Access}
+use Rattle.base.specs.declared.element.ElementType.{ElementType}
+use Rattle.jni.specs.declared.access.Access.{Access}
 use Rattle.machine_answers.specs.declared.answer.Given.{Given}
 use Rattle.machine_answers.specs.declared.answer.Given.TheVariants as given
 use Rattle.machine_scenes.specs.FieldIds.{FieldAgrees, MethodAgrees}
@@ -74,7 +76,7 @@ pub record IsMethodId (unit : SourceUnit) (classes : Classes) (g : Given) (c : C
 
 pub number_given : (unit : SourceUnit) (classes : Classes) (space : Space) (kind : ResultKind) (g : Given) (c : CallResult) (of : ExprType) → GivenAgrees unit classes space kind g c → number_type kind ≡ Some of → IsNumber g c of
 number_given unit classes space kind g c of (row.int {z = z} is fits) e = record { value = Int z; gave = refl; same = ap given.Number is; well_typed = let same : Jint ≡ of = cc in subst (ValueHasType (Int z)) same (value.int fits) }
-number_given unit classes space kind g c of (row.flag {b = b} is) e = record { value = Flag b; gave = refl; same = ap given.Number is; well_typed = let same : ty.Flag ≡ of = cc in subst (ValueHasType (Flag b)) same value.flag }
+number_given unit classes space kind g c of (row.flag {b = b} is) e = record { value = Flag b; gave = refl; same = ap given.Number is; well_typed = let same : types.Flag ≡ of = cc in subst (ValueHasType (Flag b)) same value.flag }
 number_given unit classes space kind g c of h e = absurd (cc)
 
 pub reference_given : (unit : SourceUnit) (classes : Classes) (space : Space) (g : Given) (c : CallResult) → GivenAgrees unit classes space NewLocal g c → IsReference space g c

@@ -14,9 +14,12 @@ use Rattle.class_rules.specs.Class.{Classes}
 use Rattle.machine_scenes.specs.declared.handle.Handle.{Handle}
 use Rattle.machine_scenes.specs.declared.handle.Handle.TheVariants as handle
 use Rattle.heap.specs.Heap.{Space}
-use Rattle.jni.specs.JniFunction.{JniFunction, prototype}
-use Rattle.jni.specs.Prototype.{ResultKind, NewLocal, GivesInt, GivesField, GivesMethod, GivesBuffer}
-use Rattle.type_rules.specs.ExprTypes.{ExprType, Jint}
+use Rattle.jni.specs.declared.function.JniFunction.{JniFunction}
+use Rattle.jni.specs.JniFunction.{prototype}
+use Rattle.jni.specs.declared.kinds.ResultKind.{ResultKind}
+use Rattle.jni.specs.declared.kinds.ResultKind.TheVariants.{NewLocal, GivesInt, GivesField, GivesMethod, GivesBuffer}
+use Rattle.type_rules.specs.declared.ty.ExprType.{ExprType}
+use Rattle.type_rules.specs.declared.ty.ExprType.TheVariants.{Jint}
 use Rattle.semantics.specs.Arguments.{Actual, address_given}
 use Rattle.semantics.specs.CallEffects.{CallResult, ScalarResult, BufferResult}
 use Rattle.semantics.specs.CallStep.{blank, filled, is_zero, put, put_assigned, static_result, received, tell_copy}
@@ -41,8 +44,7 @@ use Rattle.code_meaning.specs.Slots as value
 use Rattle.code_meaning.specs.Slots.{Visible, Shows, Slots, ValueHasType, kind_of_variable, static_index, type_of_array, visible_to, word_of, OfField, OfMethod}
 use Rattle.code_meaning.specs.Stands.{IsStaticResult, StandsFor, number_type}
 use Rattle.type_rules.specs.TypeRules.{is_droppable}
-use Rattle.base.specs.Element.{ElementType}
-use Rattle.base.specs.declared.element.ElementType.{ElementType as ElementOfCode}
+use Rattle.base.specs.declared.element.ElementType.{ElementType}
 use Rattle.semantics_safety.specs.StepSafe.{HoldsNoBuffer}
 use Rattle.machine_answers.specs.declared.answer.Given.{Given}
 use Rattle.machine_answers.specs.declared.answer.Given.TheVariants as given
@@ -548,7 +550,7 @@ module _ (p : Lowered) (w : World) (old : Space) (old_copies : List (Option Owne
 
   -- ---- a buffer
 
-  module _ (no_word : HasNoWord) (element : ElementOfCode) (i : ℕ) (receives : Receives (destination.Buffer element i) kind None g carried after) (t : ElementType) (x : Identifier) (takes : TakesBuffer code r.known call.place call.stack held (visible_to own shared s) t i x rest) (n : IsBuffer store k g c) where
+  module _ (no_word : HasNoWord) (element : ElementType) (i : ℕ) (receives : Receives (destination.Buffer element i) kind None g carried after) (t : ElementType) (x : Identifier) (takes : TakesBuffer code r.known call.place call.stack held (visible_to own shared s) t i x rest) (n : IsBuffer store k g c) where
     buffer_stands : CallStands p w.classes space store.elements k after (visible_to own next (resuming (assign x (Elements t n.buffer) s.variables))) (frames_received kind c left) rest
     buffer_stands =
         let vs = assign x (Elements t n.buffer) s.variables in
@@ -576,7 +578,7 @@ module _ (p : Lowered) (w : World) (old : Space) (old_copies : List (Option Owne
         (subst (λ (a : Acquired). StoreAgrees p w store next (beside others (beside a (acquired_of n.buffer)))) (sym told_taken)
         (subst (λ (a : Acquired). StoreAgrees p w store next (beside others (beside (taken_by untold) a))) n.takes shares))
 
-  buffer_finishes : SameStatics → HasNoWord → (element : ElementOfCode) (i : ℕ) (target : Target) → IsFree target → Receives (destination.Buffer element i) kind None g carried after → (t : ElementType) → IsBuffer store k g c
+  buffer_finishes : SameStatics → HasNoWord → (element : ElementType) (i : ℕ) (target : Target) → IsFree target → Receives (destination.Buffer element i) kind None g carried after → (t : ElementType) → IsBuffer store k g c
       → GoesInto code r.known call.place call.stack held (visible_to own shared s) (BufferKind t) target (λ x. TakesBuffer code r.known call.place call.stack held (visible_to own shared s) t i x rest) → Ends target
   buffer_finishes same_statics no_word element i (Declared declared x) free receives t n goes = record {
     now = next;

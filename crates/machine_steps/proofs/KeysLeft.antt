@@ -6,8 +6,9 @@ use Rattle.std.proofs.lemmas.Bool.Decides.{Decides-eqb}
 use Rattle.std.proofs.lemmas.Option.{slice_get-map}
 use Rattle.class_rules.specs.Class.{Classes}
 use Rattle.heap.specs.Heap.{Space}
-use Rattle.jni.specs.JniFunction.{JniFunction}
-use Rattle.jni.specs.Prototype.{ResultKind, GivesNothing}
+use Rattle.jni.specs.declared.function.JniFunction.{JniFunction}
+use Rattle.jni.specs.declared.kinds.ResultKind.{ResultKind}
+use Rattle.jni.specs.declared.kinds.ResultKind.TheVariants.{GivesNothing}
 use Rattle.syntax.specs.Tree.{SourceUnit}
 use Rattle.semantics.specs.Answer.{Answer as SourceAnswer, DeletesLocal, Pops}
 use Rattle.semantics.specs.CallSight.{CallSight}

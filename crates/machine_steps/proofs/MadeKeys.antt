@@ -3,7 +3,8 @@ use Rattle.std.proofs.Common.{◌≡◌, ◌<◌, ℕ, true, List, [], ◌∷◌
 use Rattle.std.proofs.lemmas.Bool.{ltb-true}
 use Rattle.std.specs.Prelude.{is_none, length}
 use Rattle.heap.specs.Heap.{Space}
-use Rattle.jni.specs.Prototype.{ResultKind, NewLocal}
+use Rattle.jni.specs.declared.kinds.ResultKind.{ResultKind}
+use Rattle.jni.specs.declared.kinds.ResultKind.TheVariants.{NewLocal}
 use Rattle.semantics.specs.Object.{Reference}
 use Rattle.tables.specs.Locals.{Frame, LocalTable, AreStacked, IsMade, has_room, live_in}
 use Rattle.tables.specs.References.{address_at}

@@ -27,7 +27,7 @@ use Rattle.semantics.specs.Effect.{effect_of}
 use Rattle.semantics.specs.Task.{Task}
 use Rattle.semantics.specs.Thread.{Shared, Thread, sight_of}
 use Rattle.semantics.specs.ThreadStep.{after_effect}
-use Rattle.semantics.specs.Value.{Trap}
+use Rattle.semantics.specs.declared.trap.Trap.{Trap}
 use Rattle.semantics.specs.World.{World}
 use Rattle.semantics.specs.declared.trap.Trap.TheVariants as trap
 use Rattle.semantics_safety.proofs.CallLaws.{IsWithin}

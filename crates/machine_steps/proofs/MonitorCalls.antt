@@ -4,7 +4,7 @@ use Rattle.code.specs.declared.instr.Target.{Target}
 use Rattle.code.specs.declared.instr.Target.TheVariants as target
 use Rattle.code_meaning.specs.Lowered.{Lowered}
 use Rattle.heap.specs.Heap.{Space}
-use Rattle.jni.specs.Prototype.{ResultKind}
+use Rattle.jni.specs.declared.kinds.ResultKind.{ResultKind}
 use Rattle.monitors.specs.declared.monitors.Monitor.{Monitor}
 use Rattle.semantics.specs.Answer.{Answer as SourceAnswer}
 use Rattle.semantics.specs.Thread.{Shared, Thread}

@@ -5,13 +5,16 @@ use Rattle.std.specs.List.{AllByRecursion, AllZip}
 use Rattle.base.specs.Bytes.{Identifier, lookup}
 use Rattle.syntax.specs.Parts.{names_in}
 use Rattle.syntax.specs.Tree as tree
+use Rattle.syntax.specs.declared.expr.Constant.TheVariants as constants
 use Rattle.syntax.specs.Tree.{Expr}
 use Rattle.class_rules.specs.Class.{Classes}
 use Rattle.tables.specs.Elements.{OwnedNumbers}
 use Rattle.heap.specs.Heap.{Space}
-use Rattle.jni.specs.JniFunction.{JniFunction, parameters_for}
-use Rattle.jni.specs.Prototype.{ParameterKind, FieldID, MethodID, IntNumber, Passed, TextBytes, LocalVariable, ArrayVariable, BufferVariable, Mode, IsCopy}
-use Rattle.type_rules.specs.ExprTypes.{Ref}
+use Rattle.jni.specs.declared.function.JniFunction.{JniFunction}
+use Rattle.jni.specs.JniFunction.{parameters_for}
+use Rattle.jni.specs.declared.kinds.ParameterKind.{ParameterKind}
+use Rattle.jni.specs.declared.kinds.ParameterKind.TheVariants.{FieldID, MethodID, IntNumber, Passed, TextBytes, LocalVariable, ArrayVariable, BufferVariable, Mode, IsCopy}
+use Rattle.type_rules.specs.declared.ty.ExprType.TheVariants.{Ref}
 use Rattle.semantics_safety.specs.Owners.{Owners, IsOwn}
 use Rattle.semantics_safety.specs.Used.{operand_names, task_names}
 use Rattle.semantics.specs.Arguments.{Actual, ReferenceActual, actuals, field_argument, method_argument, look_up, look_up_expression, reference_argument, reference_given, reference_in_actual, variable_given}
@@ -62,7 +65,7 @@ module _ (line : ℕ) where
   quiet_element sight x i v = refl
 
   quiet_return : (sight : Sight) (t : Term) → is_call (return_effect sight line t) ≡ false
-  quiet_return sight (term.Named tree.Null) = refl
+  quiet_return sight (term.Named constants.Null) = refl
   quiet_return sight (Read x) = by_number (sight.number x) (sight.reference x)
     where
       by_number : (o : Outcome Value) (r : StaticReference) → is_call (returned_name line o r) ≡ false

@@ -2,7 +2,9 @@
 use Rattle.syntax.specs.Views.{unit_tree}
 use Rattle.std.proofs.Common.{◌≡◌, ◌≢◌, ◌⊎◌, inl, inr, map, ℕ, false, List, length, Option, Some, None, refl, sym, ap, ◌∙◌, subst}
 use Rattle.std.specs.Prelude.{slice_get, slice_set, if◌then◌else◌}
-use Rattle.jni.specs.JniFunction.{JniFunction, DeleteLocalRef, PopLocalFrame, prototype}
+use Rattle.jni.specs.declared.function.JniFunction.{JniFunction}
+use Rattle.jni.specs.declared.function.JniFunction.TheVariants.{DeleteLocalRef, PopLocalFrame}
+use Rattle.jni.specs.JniFunction.{prototype}
 use Rattle.semantics.specs.Answer.{Answer as SourceAnswer}
 use Rattle.semantics.specs.AnswerTable.{call_answer}
 use Rattle.semantics.specs.CallSight.{sight_of_call}
@@ -17,7 +19,7 @@ use Rattle.code.specs.Call.{Call, call_view}
 use Rattle.code.specs.declared.instr.Call.{Call as InMemory}
 use Rattle.code_meaning.specs.Lowered.{Lowered}
 use Rattle.code_meaning.specs.Slots.{Shows, visible_to}
-use Rattle.type_rules.specs.ExprTypes.{Ref}
+use Rattle.type_rules.specs.declared.ty.ExprType.TheVariants.{Ref}
 use Rattle.machine_answers.specs.declared.answer.Answer.{Answer}
 use Rattle.machine_scenes.specs.declared.store.Store.{Store}
 use Rattle.machine_scenes.specs.declared.activation.Activation.{Activation}

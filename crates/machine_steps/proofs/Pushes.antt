@@ -9,7 +9,9 @@ use Rattle.std.proofs.lemmas.List.Sums.{sum_by-cons}
 use Rattle.syntax.specs.Tree.{SourceUnit}
 use Rattle.syntax.specs.Views.{unit_tree}
 use Rattle.class_rules.specs.Class.{Classes}
-use Rattle.jni.specs.JniFunction.{JniFunction, CallStaticVoidMethod, CallStaticIntMethod, CallStaticObjectMethod, calls_method, is_allowed_pending, prototype}
+use Rattle.jni.specs.declared.function.JniFunction.{JniFunction}
+use Rattle.jni.specs.declared.function.JniFunction.TheVariants.{CallStaticVoidMethod, CallStaticIntMethod, CallStaticObjectMethod}
+use Rattle.jni.specs.JniFunction.{calls_method, is_allowed_pending, prototype}
 use Rattle.semantics.specs.Arguments.{Actual, method_given, passed_value}
 use Rattle.semantics.specs.CallEffects.{Enters}
 use Rattle.semantics.specs.CallStep.{after_call, calling, checked, effect_of_call, target_element, trap_of_call}
@@ -24,7 +26,8 @@ use Rattle.semantics.specs.Task.{Target, Task}
 use Rattle.semantics.specs.Thread as source
 use Rattle.semantics.specs.Thread.{BuffersInUse, Shared, lengths_copied, objects_viewed, sight_of}
 use Rattle.semantics.specs.ThreadStep.{after_effect, step_within, thread_step}
-use Rattle.semantics.specs.Value.{Trap, NullReference, ExceptionPending, WrongObject, DeletedReference, NoCapacity, CallsTooDeep}
+use Rattle.semantics.specs.declared.trap.Trap.{Trap}
+use Rattle.semantics.specs.declared.trap.Trap.TheVariants.{NullReference, ExceptionPending, WrongObject, DeletedReference, NoCapacity, CallsTooDeep}
 use Rattle.semantics.specs.Variable.{Variables}
 use Rattle.semantics.specs.World.{Invocation, World, loaded_objects}
 use Rattle.semantics.specs.declared.event.Event.TheVariants as event

@@ -18,7 +18,7 @@ use Rattle.code_meaning.specs.Slots as typed
 use Rattle.code_meaning.specs.Slots.{visible_to}
 use Rattle.code_meaning.specs.Stands.{NumberStands, ReturnStands, TasksStand}
 use Rattle.heap.specs.Heap.{Space}
-use Rattle.jni.specs.JniFunction.{JniFunction}
+use Rattle.jni.specs.declared.function.JniFunction.{JniFunction}
 use Rattle.machine_steps.specs.declared.execute.ReturnValue.TheVariants as value
 use Rattle.machine_scenes.proofs.KeyLaws.{address_there}
 use Rattle.machine_scenes.specs.declared.activation.Activation.{Activation}
@@ -38,7 +38,7 @@ use Rattle.semantics.specs.Variable.{StaticReference, Empty, Live, Weakly, Clear
 use Rattle.semantics_safety.specs.Owners.{Owners, IsOwn}
 use Rattle.semantics_safety.specs.Used.{task_names}
 use Rattle.tables.specs.Elements.{OwnedNumbers}
-use Rattle.type_rules.specs.ExprTypes.{Jint, Ref}
+use Rattle.type_rules.specs.declared.ty.ExprType.TheVariants.{Jint, Ref}
 
 -- ---- which tasks return
 

@@ -5,7 +5,6 @@ use Rattle.syntax.specs.Views.{unit_tree}
 use Rattle.code.specs.Call.{call_view}
 use Rattle.code.specs.declared.instr.Call.{Call}
 use Rattle.code_meaning.specs.Lowered.{Lowered}
-use Rattle.jni.specs.Table.{function_value}
 use Rattle.semantics.specs.World.{World}
 use Rattle.tables.specs.Locals.{has_room}
 use Rattle.world_values.specs.SoundWorlds.{IsSound}
@@ -21,13 +20,13 @@ use Rattle.machine_scenes.specs.declared.store.Store.{Store}
 use Rattle.machine_steps.specs.Invoked.{IsAnswered}
 
 module _ (p : Lowered) (w : World) (store : Store) (pending : Option ℕ) (call : Activation) (k : ℕ) (function : Call) (scene : Scene) (same : scene ≡ scene_of (unit_tree p.unit) w.classes store call k pending) (sound : IsSound w)
-    (as_seen : trap_found scene (has_room (locals_after (function_value function.function) call.locals)) (element_wanted function.target) (function_value function.function) function.operands.items ≡ trap_seen scene call.locals (call_view function)) where
+    (as_seen : trap_found scene (has_room (locals_after function.function call.locals)) (element_wanted function.target) function.function function.operands.items ≡ trap_seen scene call.locals (call_view function)) where
   abbrev pub room : Bool
-  room = has_room (locals_after (function_value function.function) call.locals)
+  room = has_room (locals_after function.function call.locals)
 
   -- no check stops a call that sees this
   abbrev pub IsFree : Bool → Type 0
-  IsFree is_room = trap_found scene is_room (element_wanted function.target) (function_value function.function) function.operands.items ≡ None
+  IsFree is_room = trap_found scene is_room (element_wanted function.target) function.function function.operands.items ≡ None
 
   pub seen : (a : Answer) → IsFree room → IsAnswerTo scene (call_view function) a → IsAnswered p w store pending call k function a
   seen a free works = record {

@@ -7,13 +7,12 @@ use Rattle.code.specs.declared.instr.Operand.{Operand}
 use Rattle.code.specs.declared.instr.Call.{Call as InMemory}
 use Rattle.heap.specs.Heap.{IsAddress}
 use Rattle.jni.specs.JniFunction.{calls_method}
-use Rattle.jni.specs.Table.{function_value}
 use Rattle.monitors.specs.declared.monitors.Monitor.{Monitor}
 use Rattle.semantics.specs.CallStep.{trap_of_call}
 use Rattle.semantics.specs.Effect.{effect_of}
 use Rattle.semantics.specs.Task.{Task}
 use Rattle.semantics.specs.Thread.{Shared, Thread, sight_of}
-use Rattle.semantics.specs.Value.{Trap}
+use Rattle.semantics.specs.declared.trap.Trap.{Trap}
 use Rattle.semantics.specs.World.{World}
 use Rattle.semantics_safety.specs.Owners.{Owners}
 use Rattle.code_meaning.specs.Lowered.{Lowered}
@@ -64,7 +63,7 @@ module _ (p : Lowered) (w : World) (store : Store) (pending : Option ℕ) (call 
   })
 
   -- the trap that is seen is what the checks find
-  pub as_seen : trap_found scene (has_room (locals_after (function_value in_memory.function) call.locals)) (element_wanted in_memory.target) (function_value in_memory.function) in_memory.operands.items ≡ trap_seen scene call.locals function
+  pub as_seen : trap_found scene (has_room (locals_after in_memory.function call.locals)) (element_wanted in_memory.target) in_memory.function in_memory.operands.items ≡ trap_seen scene call.locals function
   as_seen = found_seen scene call.locals function all_there.pending all_there.objects all_there.method
 
   pub seen_found : trap_seen scene call.locals function ≡ found p w store pending call in_memory others k owner own shared s task rest h
@@ -82,7 +81,7 @@ module _ (p : Lowered) (w : World) (store : Store) (pending : Option ℕ) (call 
       ∙ sym seen_found
 
   -- where none is, the arguments go together
-  pub passed_seen : trap_seen scene call.locals function ≡ None → arguments_fit scene in_memory.operands.items (element_wanted in_memory.target) (function_value in_memory.function) ≡ true
+  pub passed_seen : trap_seen scene call.locals function ≡ None → arguments_fit scene in_memory.operands.items (element_wanted in_memory.target) in_memory.function ≡ true
   passed_seen none =
       (λ i. arguments_fit (same i) in_memory.operands.items (element_wanted in_memory.target) (it.asked.same_function i))
       ∙ fits_where_none p w store pending call function others k owner shared s it.target it.f it.args it.asked (sym seen_found ∙ none)

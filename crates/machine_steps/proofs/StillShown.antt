@@ -4,8 +4,8 @@ use Rattle.std.specs.Prelude.{slice_get}
 use Rattle.semantics.specs.Thread as source
 use Rattle.semantics.specs.Thread.{Shared}
 use Rattle.base.specs.Bytes.{Identifier, lookup}
-use Rattle.type_rules.specs.ExprTypes as ty
-use Rattle.type_rules.specs.ExprTypes.{ExprType}
+use Rattle.type_rules.specs.declared.ty.ExprType.TheVariants as types
+use Rattle.type_rules.specs.declared.ty.ExprType.{ExprType}
 use Rattle.code.specs.Depth.{Listing}
 use Rattle.code_meaning.specs.Layout.{Slot, Known}
 use Rattle.semantics.specs.Sight.{holds_null, held_reference, in_range, elements_of}
@@ -26,27 +26,27 @@ module _ (own : Owners) (shared shared' : Shared) (statics : shared'.statics ≡
   referred x = ap (λ (ss : Statics). held_reference (lookup x s.variables) (lookup x ss)) statics
 
   slot_stays : (x : Identifier) (slots : Slots) (slot : Slot) (of : ExprType) → ShowsSlot (visible_to own shared s) x slots slot of → ShowsSlot (visible_to own shared' s) x slots slot of
-  slot_stays x slots slot ty.Word h = record { value = h.value; is = h.is; kind = h.kind; ty = h.ty; word = h.word }
-  slot_stays x slots slot ty.Jint h = record { value = h.value; is = h.is; kind = h.kind; ty = h.ty; word = h.word }
-  slot_stays x slots slot ty.Flag h = record { value = h.value; is = h.is; kind = h.kind; ty = h.ty; word = h.word }
-  slot_stays x slots slot ty.Truth h = h
-  slot_stays x slots slot ty.Ref h = record { reference = h.reference; is = referred x ∙ h.is; is_null = nulls x ∙ h.is_null; no_number = h.no_number; kind = h.kind; there = h.there; owner = h.owner }
-  slot_stays x slots slot ty.Global h = record {
+  slot_stays x slots slot types.Word h = record { value = h.value; is = h.is; kind = h.kind; ty = h.ty; word = h.word }
+  slot_stays x slots slot types.Jint h = record { value = h.value; is = h.is; kind = h.kind; ty = h.ty; word = h.word }
+  slot_stays x slots slot types.Flag h = record { value = h.value; is = h.is; kind = h.kind; ty = h.ty; word = h.word }
+  slot_stays x slots slot types.Truth h = h
+  slot_stays x slots slot types.Ref h = record { reference = h.reference; is = referred x ∙ h.is; is_null = nulls x ∙ h.is_null; no_number = h.no_number; kind = h.kind; there = h.there; owner = h.owner }
+  slot_stays x slots slot types.Global h = record {
     static = record { place = ap (static_index x) statics ∙ h.static.place; held = h.static.held; there = ap (lookup x) statics ∙ h.static.there };
     no_variable = record { number = h.no_variable.number; array_type = h.no_variable.array_type; kind = h.no_variable.kind };
     is_null = nulls x ∙ h.is_null;
     reference = referred x ∙ h.reference;
   }
-  slot_stays x slots slot ty.Weak h = record {
+  slot_stays x slots slot types.Weak h = record {
     static = record { place = ap (static_index x) statics ∙ h.static.place; held = h.static.held; there = ap (lookup x) statics ∙ h.static.there };
     no_variable = record { number = h.no_variable.number; array_type = h.no_variable.array_type; kind = h.no_variable.kind };
     is_null = nulls x ∙ h.is_null;
     reference = referred x ∙ h.reference;
   }
-  slot_stays x slots slot ty.FieldId h = record { field = h.field; is = h.is; is_null = nulls x ∙ h.is_null; no_number = h.no_number; kind = h.kind; there = h.there }
-  slot_stays x slots slot ty.MethodId h = record { method = h.method; is = h.is; is_null = nulls x ∙ h.is_null; no_number = h.no_number; kind = h.kind; there = h.there }
-  slot_stays x slots slot (ty.Buffer t writable) h = record { buffer = h.buffer; is = h.is; is_null = nulls x ∙ h.is_null; kind = h.kind; there = h.there }
-  slot_stays x slots slot (ty.Array t size) h =
+  slot_stays x slots slot types.FieldId h = record { field = h.field; is = h.is; is_null = nulls x ∙ h.is_null; no_number = h.no_number; kind = h.kind; there = h.there }
+  slot_stays x slots slot types.MethodId h = record { method = h.method; is = h.is; is_null = nulls x ∙ h.is_null; no_number = h.no_number; kind = h.kind; there = h.there }
+  slot_stays x slots slot (types.Buffer t writable) h = record { buffer = h.buffer; is = h.is; is_null = nulls x ∙ h.is_null; kind = h.kind; there = h.there }
+  slot_stays x slots slot (types.Array t size) h =
       let array = array_of (lookup x s.variables) t h.array_type in
       let same : (i : ℕ) → (visible_to own shared' s).sight.element x i ≡ (visible_to own shared s).sight.element x i = λ i.
       ap (λ (o : Option Variable). outcome_then (λ (zs : List ℤ). in_range (slice_get zs i)) (elements_of shared'.heap o)) array.1

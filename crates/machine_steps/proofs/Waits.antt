@@ -9,10 +9,10 @@ use Rattle.class_rules.specs.Class.{Classes}
 use Rattle.heap.specs.Heap.{Space, name_at}
 use Rattle.syntax.specs.Tree.{SourceUnit}
 use Rattle.syntax.specs.Views.{unit_tree}
-use Rattle.jni.specs.JniFunction.{JniFunction, MonitorEnter, parameters_for}
-use Rattle.jni.specs.Prototype.{NonNull}
-use Rattle.jni.specs.Table.{function_value}
-use Rattle.jni.specs.declared.function.JniFunction.{JniFunction as FunctionInMemory}
+use Rattle.jni.specs.declared.function.JniFunction.{JniFunction}
+use Rattle.jni.specs.declared.function.JniFunction.TheVariants.{MonitorEnter}
+use Rattle.jni.specs.JniFunction.{parameters_for}
+use Rattle.jni.specs.declared.kinds.ParameterKind.TheVariants.{NonNull}
 use Rattle.jni.specs.declared.function.JniFunction.TheVariants as function
 use Rattle.semantics.specs.Arguments.{Actual, name_or_zero, object_given}
 use Rattle.semantics.specs.CallSight.{CallSight, sight_of_call}
@@ -22,9 +22,7 @@ use Rattle.semantics.specs.Effect.{Effect, Calls, effect_of}
 use Rattle.semantics.specs.Task.{Target, Task}
 use Rattle.semantics.specs.Thread as source
 use Rattle.semantics.specs.Thread.{Shared, sight_of}
-use Rattle.semantics.specs.EventViews.{trap_view}
-use Rattle.semantics.specs.Value.{Trap}
-use Rattle.semantics.specs.declared.trap.Trap.{Trap as TrapInMemory}
+use Rattle.semantics.specs.declared.trap.Trap.{Trap}
 use Rattle.semantics.specs.ThreadStep.{next_effect, waits}
 use Rattle.semantics.specs.World.{World, loaded_objects}
 use Rattle.semantics_safety.specs.Owners.{Owners, ThreadOwners}
@@ -106,7 +104,7 @@ none_waits classes k shared s ms h is =
 -- ---- other steps
 
 -- a function in memory that enters a monitor
-pub value_enters : (f : FunctionInMemory) → function_value f ≡ MonitorEnter → f ≡ function.MonitorEnter
+pub value_enters : (f : JniFunction) → f ≡ MonitorEnter → f ≡ function.MonitorEnter
 value_enters function.MonitorEnter is = refl
 value_enters f is = absurd (cc)
 
@@ -203,7 +201,7 @@ busy_is k (Some m) (Some q) h = by_tests (eqb m.owner k) (nat_lt m.count 255) �
     by_tests true false = refl
     by_tests false few = refl
 
-module _ (p : Lowered) (w : World) (store : Store) (pending : Option ℕ) (call : Activation) (in_memory : InMemory) (others : Acquired) (k owner : ℕ) (own : Owners) (shared : Shared) (s : source.Thread) (task : Task) (rest : List Task) (h : MayWait p w store pending call in_memory others k owner own shared s task rest) (enters : function_value in_memory.function ≡ MonitorEnter) where
+module _ (p : Lowered) (w : World) (store : Store) (pending : Option ℕ) (call : Activation) (in_memory : InMemory) (others : Acquired) (k owner : ℕ) (own : Owners) (shared : Shared) (s : source.Thread) (task : Task) (rest : List Task) (h : MayWait p w store pending call in_memory others k owner own shared s task rest) (enters : in_memory.function ≡ MonitorEnter) where
   abbrev it : CalledAs p w (store_unowned store) pending call h.at_call.code (call_view in_memory) others k owner own (unowned shared) s task rest (ready_at p w (store_unowned store) pending call in_memory others k owner own (unowned shared) s task rest h.at_call) (effect_of (sight_of shared s) task)
   it = called p w (store_unowned store) pending call in_memory others k owner own (unowned shared) s task rest h.at_call
 
@@ -274,6 +272,6 @@ module _ (p : Lowered) (w : World) (store : Store) (pending : Option ℕ) (call 
 
   -- and where one does, it is by the check
   pub busy : (a n : ℕ) (came : Enter) → operand_at (references_of store call) (operand_of in_memory.operands.items 0) ≡ Some a → name_at store.heap a ≡ Some n → came ≡ entering k (monitor_of store.monitors n) → is_busy came ≡ true
-      → (o : Option TrapInMemory) → found ≡ option_map trap_view o → Waits (is_none o)
-  busy a n came at named is held (Some trap) stops = stopped (trap_view trap) stops
+      → (o : Option Trap) → found ≡ o → Waits (is_none o)
+  busy a n came at named is held (Some trap) stops = stopped trap stops
   busy a n came at named is held None free = subst Waits held (by_monitor free a n came at named is)

@@ -21,9 +21,11 @@ use Rattle.semantics_safety.specs.Owners.{Owners, IsOwn, after_call}
 use Rattle.semantics_safety.specs.StepSafe.{IsCallable, IsResumable, HoldsNoBuffer, MayMeetView, MayReturn, SetsWhole, came_from}
 use Rattle.semantics_safety.specs.Used.{task_names}
 use Rattle.semantics_typing.specs.Objects.{AreTypedObjects, AreTypedVariables}
-use Rattle.jni.specs.Access.{Access}
-use Rattle.jni.specs.JniFunction.{JniFunction, GetStaticMethodID, ReleaseBuffer, calls_method, prototype}
-use Rattle.jni.specs.Prototype.{NewLocal}
+use Rattle.jni.specs.declared.access.Access.{Access}
+use Rattle.jni.specs.declared.function.JniFunction.{JniFunction}
+use Rattle.jni.specs.declared.function.JniFunction.TheVariants.{GetStaticMethodID, ReleaseBuffer}
+use Rattle.jni.specs.JniFunction.{calls_method, prototype}
+use Rattle.jni.specs.declared.kinds.ResultKind.TheVariants.{NewLocal}
 use Rattle.semantics.specs.Thread as source
 use Rattle.semantics.specs.Thread.{BuffersInUse, Shared, Advance, Advances, NoAdvance, sight_of, objects_viewed}
 use Rattle.semantics.specs.Variable.{LocalRef, Variables}

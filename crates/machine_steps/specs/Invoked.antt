@@ -12,7 +12,8 @@ use Rattle.semantics.specs.Effect.{effect_of}
 use Rattle.semantics.specs.Task.{Task}
 use Rattle.semantics.specs.Thread.{Shared, Thread, sight_of}
 use Rattle.semantics.specs.ThreadStep.{after_effect}
-use Rattle.semantics.specs.Value.{Trap as SourceTrap}
+use Rattle.semantics.specs.declared.trap.Trap.{Trap}
+use Rattle.semantics.specs.declared.trap.Trap.TheVariants.{CallsTooDeep}
 use Rattle.semantics.specs.World.{World}
 use Rattle.world_values.specs.SoundWorlds.{IsSound}
 use Rattle.semantics_safety.specs.Owners.{Owners}
@@ -26,9 +27,6 @@ use Rattle.machine_steps.specs.declared.execute.Executed.TheVariants.{Did, Refus
 use Rattle.machine_steps.specs.declared.fault.StepFault.{StepFault}
 use Rattle.machine_answers.specs.declared.answer.Answer.{Answer}
 use Rattle.machine_answers.specs.declared.answer.Answer.TheVariants as answer
-use Rattle.semantics.specs.declared.trap.Trap.{Trap}
-use Rattle.semantics.specs.declared.trap.Trap.TheVariants.{CallsTooDeep}
-use Rattle.semantics.specs.EventViews.{trap_view}
 use Rattle.machine_scenes.specs.declared.store.Store.{Store}
 use Rattle.machine_scenes.specs.declared.activation.Activation.{Activation}
 use Rattle.machine_answers.specs.Asked.{scene_of}
@@ -62,7 +60,7 @@ pub record AtCall (p : Lowered) (w : World) (store : Store) (pending : Option �
   pub at : slice_get code.instrs activation.place ≡ Some (instr.Call (call_view call))
 
 -- the trap of a call of thread k before it does anything
-abbrev pub trap_at : Lowered → World → Store → (pending : Option ℕ) → Activation → (k : ℕ) → InMemory → Option SourceTrap
+abbrev pub trap_at : Lowered → World → Store → (pending : Option ℕ) → Activation → (k : ℕ) → InMemory → Option Trap
 trap_at p w store pending activation k call = trap_seen (scene_of (unit_tree p.unit) w.classes store activation k pending) activation.locals (call_view call)
 
 -- No check stops a call of thread k, and this is what it answers.
@@ -74,7 +72,7 @@ pub record IsAnswered (p : Lowered) (w : World) (store : Store) (pending : Optio
 
 -- A trap stops a call: a check found it, or it is what the call does.
 abbrev pub IsStopped : Lowered → World → Store → (pending : Option ℕ) → Activation → (k : ℕ) → InMemory → Trap → Type 0
-IsStopped p w store pending activation k call trap = (trap_at p w store pending activation k call ≡ Some (trap_view trap))
+IsStopped p w store pending activation k call trap = (trap_at p w store pending activation k call ≡ Some trap)
     ⊎ IsAnswered p w store pending activation k call (answer.Halts trap)
 
 -- an answer stops the machine

@@ -1,6 +1,6 @@
 -- What is done with a monitor by a call that no check stops.
 use Rattle.std.specs.Prelude.{◌≡◌, ℕ, Bool, true, false, List, ◌∷◌, map, Some}
-use Rattle.jni.specs.declared.function.JniFunction.{JniFunction as FunctionInMemory}
+use Rattle.jni.specs.declared.function.JniFunction.{JniFunction}
 use Rattle.jni.specs.declared.function.JniFunction.TheVariants as function
 use Rattle.monitors.specs.declared.monitors.Enter.{Enter}
 use Rattle.monitors.specs.declared.monitors.Enter.TheVariants.{Entered}
@@ -12,7 +12,7 @@ use Rattle.machine_answers.specs.declared.answer.Answer.{Answer}
 use Rattle.machine_answers.specs.declared.answer.Answer.TheVariants as answer
 
 -- it is a function that enters or leaves one
-abbrev pub is_of_monitors : FunctionInMemory → Bool
+abbrev pub is_of_monitors : JniFunction → Bool
 is_of_monitors function.MonitorEnter = true
 is_of_monitors function.MonitorExit = true
 is_of_monitors f = false

@@ -6,8 +6,7 @@ use Rattle.code.specs.declared.instr.Plain.{Plain}
 use Rattle.code.specs.declared.instr.Plain.TheVariants as plain
 use Rattle.code_meaning.specs.Does.{trap_of}
 use Rattle.machine_scenes.specs.declared.activation.Activation.{Activation}
-use Rattle.semantics.specs.declared.trap.Trap.{Trap as TrapInMemory}
-use Rattle.semantics.specs.EventViews.{trap_view}
+use Rattle.semantics.specs.declared.trap.Trap.{Trap}
 use Rattle.machine_threads.specs.SlotsHold.{SlotValues, values_in}
 use Rattle.semantics.specs.declared.event.Event.{Event}
 use Rattle.semantics.specs.declared.event.Event.TheVariants as event
@@ -32,7 +31,7 @@ end_of_path place (plain.Trap trap line) = place
 
 -- what is seen of a path
 abbrev pub PathIsSeen : Plain → Event → Type 0
-PathIsSeen (plain.Trap trap line) e = (t : TrapInMemory) × (trap_view t ≡ trap_of trap) × (e ≡ event.Trapped t line)
+PathIsSeen (plain.Trap trap line) e = (t : Trap) × (t ≡ trap_of trap) × (e ≡ event.Trapped t line)
 PathIsSeen path e = e ≡ event.Quiet
 
 -- it prints nothing

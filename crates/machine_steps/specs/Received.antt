@@ -6,7 +6,8 @@ use Rattle.code.specs.declared.instr.Target.{Target}
 use Rattle.code.specs.declared.instr.Target.TheVariants.{Number, Local, FieldId, MethodId, Static, Buffer, Test}
 use Rattle.code.specs.declared.instr.Operand.{Operand}
 use Rattle.code.specs.declared.instr.Operand.TheVariants.{IsCopy}
-use Rattle.jni.specs.Prototype.{ResultKind, NewLocal}
+use Rattle.jni.specs.declared.kinds.ResultKind.{ResultKind}
+use Rattle.jni.specs.declared.kinds.ResultKind.TheVariants.{NewLocal}
 use Rattle.machine_answers.specs.declared.answer.Given.{Given}
 use Rattle.machine_answers.specs.declared.answer.Given.TheVariants as given
 use Rattle.machine_scenes.specs.declared.handle.Handle.{Handle}

@@ -7,7 +7,8 @@ use Rattle.code.specs.declared.instr.ReferenceOperand.{ReferenceOperand}
 use Rattle.code.specs.declared.instr.ReferenceOperand.TheVariants.{Null, Local}
 use Rattle.code_meaning.specs.Slots.{word_of}
 use Rattle.heap.specs.Heap.{Space}
-use Rattle.jni.specs.Prototype.{ResultKind, NewLocal, GivesInt}
+use Rattle.jni.specs.declared.kinds.ResultKind.{ResultKind}
+use Rattle.jni.specs.declared.kinds.ResultKind.TheVariants.{NewLocal, GivesInt}
 use Rattle.machine_answers.specs.declared.answer.Given.{Given}
 use Rattle.machine_answers.specs.declared.answer.Given.TheVariants as given
 use Rattle.machine_steps.specs.declared.execute.ReturnValue.{ReturnValue}

@@ -14,7 +14,6 @@ ghost use Rattle.machine_threads.specs.Callers.{owner_at};
 ghost use Rattle.machine_steps.specs.Moved.{IsSilent};
 ghost use Rattle.machine_steps.specs.Resumed.{HasCalled, Resumes};
 ghost use Rattle.machine_steps.specs.Returned.{given_back};
-ghost use Rattle.jni.specs.Table.{result_value};
 
 use crate::buffer_elements::load_element;
 use crate::enter::enter;
@@ -243,7 +242,7 @@ pub(crate) fn resume(
 
 /// What a caller that wants a result of this kind is given, with this exception pending or none.
 fn given_back(pending: Option<Addr>, kind: ResultKind, value: ReturnValue) -> Given
-    ensures { result ≡ given_back pending (result_value kind) value }
+    ensures { result ≡ given_back pending kind value }
 {
     match (pending, kind, value) {
         (None, ResultKind::NewLocal, ReturnValue::Reference(addr)) => Given::Reference(addr),

@@ -1,12 +1,11 @@
 //! Functions of monitors that no check stops (JNI Specification, chapter 4, "Monitor Operations").
 
 ghost use Rattle.std.specs.Prelude.{◌≡◌, ◌⊎◌, ℕ, Bool, true, false, [], ◌∷◌, None, Some, length, slice_get, IfSome};
-ghost use Rattle.base.specs.Element.{ElementType};
+ghost use Rattle.base.specs.declared.element.ElementType.{ElementType};
 ghost use Rattle.syntax.specs.Tree.{SourceUnit};
 ghost use Rattle.class_rules.specs.Class.{Classes};
 ghost use Rattle.code.specs.Call.{call_view};
 ghost use Rattle.heap.specs.Heap.{name_at};
-ghost use Rattle.jni.specs.Table.{function_value};
 ghost use Rattle.machine_answers.specs.Asked.{references_of, scene_of};
 ghost use Rattle.machine_answers.specs.Checked.{trap_found};
 ghost use Rattle.machine_answers.specs.Answered.{IsAnswerTo};
@@ -40,7 +39,7 @@ pub(crate) fn answer_at_once(
     requires objects { AreAddresses store.now.heap (references_of store.now activation.now) call.now.operands.items }
     ensures free { IfSome result (λ answer. (unit : SourceUnit) (classes : Classes) (room : Bool) (wanted : ElementType)
         → trap_found (scene_of unit classes store.now activation.now thread pending) room wanted
-        (function_value call.now.function) call.now.operands.items ≡ None) }
+        call.now.function call.now.operands.items ≡ None) }
     ensures works { IfSome result (λ answer. MayChange thread answer store.now.monitors
         → (unit : SourceUnit) (classes : Classes)
         → IsAnswerTo (scene_of unit classes store.now activation.now thread pending) (call_view call.now) answer) }

@@ -3,8 +3,7 @@
 ghost use Rattle.std.specs.Prelude.{◌≡◌, ℕ, Option, ◌<◌, ◌^◌, ◌+◌, [], length};
 ghost use Rattle.std.specs.Option.{option_map};
 ghost use Rattle.base.specs.declared.element.ElementType.{ElementType};
-ghost use Rattle.jni.specs.Prototype.{ResultKind as SourceKind};
-ghost use Rattle.jni.specs.Table.{result_value};
+ghost use Rattle.jni.specs.declared.kinds.ResultKind.{ResultKind as SourceKind};
 ghost use Rattle.machine_steps.specs.Received.{HasTarget, HasTold, HasRoom, MakesLocal, Receives, stack_with, numbers_with, told_with, fields_with, buffers_with, statics_with, HasStatic};
 
 use classes::class::FieldHandle;
@@ -35,8 +34,8 @@ pub fn receive(
     requires target { HasTarget target activation.old }
     requires told { HasTold told (length activation.old.slots.numbers.items) }
     requires static_target { HasStatic target (length statics.old) }
-    requires room { HasRoom (result_value kind) activation.old.locals }
-    ensures activation { Receives target (result_value kind) told given.now activation.old activation.new }
+    requires room { HasRoom kind activation.old.locals }
+    ensures activation { Receives target kind told given.now activation.old activation.new }
     ensures statics { statics.new ≡ statics_with target given.now statics.old }
 {
     activation.stack.clear();
@@ -117,8 +116,8 @@ fn keep_number(activation: &mut Activation, target: &Target, word: u32)
 /// Makes a local reference of what is given, unless it is NULL, where a function of this kind of result does.
 #[inline(always)]
 fn make_local(locals: &mut Locals, kind: ResultKind, given: &Given) -> Option<Local>
-    requires { HasRoom (result_value kind) locals.old }
-    ensures { MakesLocal (result_value kind) given.now locals.old result locals.new }
+    requires { HasRoom kind locals.old }
+    ensures { MakesLocal kind given.now locals.old result locals.new }
 {
     match (kind, *given) {
         (ResultKind::NewLocal, Given::Reference(Some(addr))) => Some(locals.make_in_room(addr)),

@@ -3,8 +3,7 @@
 ghost use Rattle.std.specs.Prelude.{◌≡◌, ℕ, List, length};
 ghost use Rattle.code.specs.Call.{IsPrepared};
 ghost use Rattle.syntax.specs.Views.{unit_tree};
-ghost use Rattle.jni.specs.JniFunction.{MonitorEnter};
-ghost use Rattle.jni.specs.Table.{function_value};
+ghost use Rattle.jni.specs.declared.function.JniFunction.TheVariants.{MonitorEnter};
 ghost use Rattle.semantics.specs.CallStep.{waits_with};
 ghost use Rattle.semantics.specs.Effect.{effect_of};
 ghost use Rattle.semantics.specs.Task.{Task};
@@ -105,7 +104,7 @@ fn waits_to_enter(
     requires may_wait { (others : Acquired) × (owner : ℕ) × (own : Owners) × (shared : Shared) × (s : SourceThread)
         × (task : Task) × (rest : List Task)
         × MayWait program.now world.now store.now pending activation.now call.now others thread owner own shared s task rest }
-    requires enters { function_value call.now.function ≡ MonitorEnter }
+    requires enters { call.now.function ≡ MonitorEnter }
     requires prepared { IsPrepared call.now }
     ensures { (others : Acquired) (owner : ℕ) (own : Owners) (shared : Shared) (s : SourceThread)
         (task : Task) (rest : List Task)

@@ -9,13 +9,15 @@ use Rattle.std.proofs.lemmas.List.{length-map}
 use Rattle.std.proofs.lemmas.Bool.Decides.{nat_tests}
 use Rattle.std.proofs.Math.ListN.{drop_of_length-le}
 use Rattle.base.specs.Bytes.{Identifier}
-use Rattle.base.specs.Element.{JInt}
+use Rattle.base.specs.declared.element.ElementType.TheVariants.{Int as JInt}
 use Rattle.base.specs.Options.{some_passes}
 use Rattle.base.proofs.Lists.{all_at, drop_next}
 use Rattle.functions.specs.declared.functions.NumberedFunction.{NumberedFunction}
 use Rattle.syntax.specs.declared.unit.Function.{Function as FunctionInMemory}
 use Rattle.syntax.specs.declared.unit.Item.{Item}
-use Rattle.syntax.specs.Tree.{SourceUnit, Function, Parameter, ParameterType, IntParameter, ReferenceParameter}
+use Rattle.syntax.specs.declared.declared_type.ParameterType.{ParameterType}
+use Rattle.syntax.specs.declared.declared_type.ParameterType.TheVariants.{Jint as IntParameter, Reference as ReferenceParameter}
+use Rattle.syntax.specs.Tree.{SourceUnit, Function, Parameter}
 use Rattle.syntax.specs.Limits.{IsTree}
 use Rattle.syntax.specs.Parts.{functions_of, names_declared, parameter_names, statements_of}
 use Rattle.syntax.specs.Views.{unit_tree, function_tree}

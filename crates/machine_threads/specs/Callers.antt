@@ -2,7 +2,8 @@
 use Rattle.std.specs.Prelude.{◌≡◌, ℕ, ◌+◌, ◌*◌, true, List, [], ◌∷◌, length, flat_map, sum_by, Option, Some, None}
 use Rattle.class_rules.specs.Class.{Classes}
 use Rattle.heap.specs.Heap.{Space}
-use Rattle.jni.specs.JniFunction.{JniFunction, prototype}
+use Rattle.jni.specs.declared.function.JniFunction.{JniFunction}
+use Rattle.jni.specs.JniFunction.{prototype}
 use Rattle.base.specs.Bytes.{lookup}
 use Rattle.semantics.specs.Effect.{is_ready}
 use Rattle.semantics.specs.Sight.{scalar}

@@ -4,7 +4,8 @@ use Rattle.std.specs.List.{AllZip}
 use Rattle.scan.specs.declared.token.Token.{Token}
 use Rattle.scan.specs.declared.token.Mark.TheVariants as marks
 use Rattle.scan.specs.Spelling.{Spells}
-use Rattle.syntax.specs.Tree.{Null, Parameter, Function, Item, StaticItem, FunctionItem, SourceUnit}
+use Rattle.syntax.specs.declared.expr.Constant.TheVariants.{Null}
+use Rattle.syntax.specs.Tree.{Parameter, Function, Item, StaticItem, FunctionItem, SourceUnit}
 use Rattle.syntax.specs.Limits.{IsTree}
 use Rattle.scan.specs.declared.reserved.Word.TheVariants as words
 use Rattle.parse_lexemes.specs.Meaning.{token_meaning}

@@ -4,7 +4,7 @@ ghost use Rattle.std.specs.Prelude.{◌≡◌, ℕ, ◌+◌, List, length, map, 
 ghost use Rattle.base.specs.Limits.{most_functions, most_statics};
 ghost use Rattle.scan.specs.Spelling.{Spells};
 ghost use Rattle.syntax.specs.Tree.{SourceUnit};
-ghost use Rattle.syntax.specs.Views.{parameter_tree, reference_tree, result_tree, block_tree, function_tree, static_tree, item_tree, unit_tree};
+ghost use Rattle.syntax.specs.Views.{parameter_tree, block_tree, function_tree, static_tree, item_tree, unit_tree};
 ghost use Rattle.parse_lexemes.specs.Results.{Gives};
 ghost use Rattle.parse_lexemes.specs.Lexemes.{views, lexemes};
 ghost use Rattle.parse.specs.Spelling.{SpellsUnit};
@@ -57,7 +57,7 @@ fn body<'t>(
 /// The result, the name and the class of a function, and what comes after them.
 #[tactic(auto, unfolding(crate::specs::Reading::signature_at))]
 fn signature(lexemes: Cursor<'_>) -> Result<(ResultType, &[u8], &[u8], Cursor<'_>), ParseError>
-    ensures { Gives (λ x. (result_tree x.0, x.1.now, x.2.now, views x.3)) result (signature_at (views lexemes.entry)) }
+    ensures { Gives (λ x. (x.0, x.1.now, x.2.now, views x.3)) result (signature_at (views lexemes.entry)) }
 {
     let rest = lexemes.expect(Fixed::Word(Word::JniExport))?;
     let Some(result) = rest.result_type() else {
@@ -106,7 +106,7 @@ fn made(
 ) -> Result<Function, AllocError>
     ensures { IfOk result (λ f. function_tree f ≡ record {
       line = line;
-      result = result_tree kind;
+      result = kind;
       name = name.now;
       class_name = class_name.now;
       parameters = map parameter_tree parameters.items;

@@ -2,9 +2,9 @@
 use Rattle.std.proofs.Common.{◌≡◌, ℕ, zero, suc, ◌+◌, ◌-◌, ◌<◌, ◌≤◌, max, List, Option, Some, None, Result, Ok, Err, true, false, if◌then◌else◌, refl, sym, ap, ◌∙◌, Bool, arith, add-one}
 use Rattle.std.specs.Prelude.{nat_lt}
 use Rattle.std.proofs.lemmas.Bool.{le-ltb, lt-ltb, ltb-true, ltb-false}
-use Rattle.syntax.specs.Tree.{BinaryOp, Expr, Binary}
+use Rattle.syntax.specs.declared.expr.BinaryOp.{BinaryOp}
+use Rattle.syntax.specs.Tree.{Expr, Binary}
 use Rattle.syntax.specs.Limits.{operator_level}
-use Rattle.syntax.specs.declared.expr.BinaryOp.{BinaryOp as BinaryInMemory}
 use Rattle.parse_lexemes.specs.declared.fault.ParseRule.TheVariants.{TooHigh}
 use Rattle.parse_lexemes.specs.declared.fault.ParseError.{ParseError}
 use Rattle.parse_lexemes.specs.declared.fault.ParseError.TheVariants.{Memory, Fault}
@@ -31,7 +31,7 @@ deeper_is (suc room) least ls lt = let e : suc room - 1 ≡ room = omega arith i
 pub right_is : (room high : ℕ) (op : BinaryOp) (ls : List Lexed) → high < room → right_by (deeper room) room high op ls ≡ expr_at (room - 1) (operator_level op + 1) (rest_of ls)
 right_is room high op ls lt = let some : 0 < room = omega arith in rw (lt-ltb high room lt, deeper_is room (operator_level op + 1) (rest_of ls) some) refl
 
-pub none_since : (o : Option BinaryInMemory) → ((op : BinaryInMemory) → o ≡ Some op → ⊥) → None ≡ o
+pub none_since : (o : Option BinaryOp) → ((op : BinaryOp) → o ≡ Some op → ⊥) → None ≡ o
 none_since None h = refl
 none_since (Some op) h = absurd (h op refl)
 

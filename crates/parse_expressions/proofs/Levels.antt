@@ -5,7 +5,12 @@ use Rattle.std.proofs.lemmas.Bool.{le-ltb, lt-ltb, ltb-true, ltb-false, ne_eqb}
 use Rattle.std.proofs.lemmas.List.{append-nil}
 use Rattle.scan.specs.declared.token.Mark.{Mark}
 use Rattle.scan.specs.declared.token.Mark.TheVariants as marks
-use Rattle.syntax.specs.Tree.{Constant, True, False, Commit, Abort, Null, PrefixOp, LogicalNot, Complement, ToWord, ToInt, BinaryOp, Expr, Number, Named, Variable, Element, Prefix, Binary, Paren}
+use Rattle.syntax.specs.declared.expr.PrefixOp.{PrefixOp}
+use Rattle.syntax.specs.declared.expr.PrefixOp.TheVariants.{LogicalNot, Complement, ToWord, ToInt}
+use Rattle.syntax.specs.declared.expr.BinaryOp.{BinaryOp}
+use Rattle.syntax.specs.declared.expr.Constant.{Constant}
+use Rattle.syntax.specs.declared.expr.Constant.TheVariants.{True, False, Commit, Abort, Null}
+use Rattle.syntax.specs.Tree.{Expr, Number, Named, Variable, Element, Prefix, Binary, Paren}
 use Rattle.syntax.specs.Limits.{operator_level, prefix_level, height}
 use Rattle.parse_lexemes.specs.declared.fault.ParseError.{ParseError}
 use Rattle.scan.specs.declared.reserved.Word.{Word}

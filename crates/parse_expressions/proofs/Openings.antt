@@ -4,7 +4,9 @@ use Rattle.std.specs.Prelude.{◌||◌, ◌&&◌, ◌==◌}
 use Rattle.base.specs.Bytes.{Identifier}
 use Rattle.scan.specs.declared.token.Mark.TheVariants as marks
 use Rattle.scan.specs.declared.reserved.Word.TheVariants as words
-use Rattle.syntax.specs.Tree.{LogicalNot, Complement, ToWord, ToInt, PrefixOp, Expr, Element}
+use Rattle.syntax.specs.declared.expr.PrefixOp.{PrefixOp}
+use Rattle.syntax.specs.declared.expr.PrefixOp.TheVariants.{LogicalNot, Complement, ToWord, ToInt}
+use Rattle.syntax.specs.Tree.{Expr, Element}
 use Rattle.parse_lexemes.specs.declared.first.Fixed.{Fixed}
 use Rattle.parse_lexemes.specs.declared.first.Fixed.TheVariants as fixed
 use Rattle.parse_lexemes.specs.declared.fault.ParseRule.TheVariants.{TooHigh}

@@ -4,8 +4,10 @@ use Rattle.base.specs.Bytes.{Identifier}
 use Rattle.scan.specs.declared.token.Mark.TheVariants as marks
 use Rattle.scan.specs.declared.reserved.Word.TheVariants as words
 use Rattle.syntax.specs.Limits.{operator_level, prefix_level}
-use Rattle.syntax.specs.Tree.{PrefixOp, LogicalNot, Complement, ToWord, ToInt, BinaryOp, Expr, Variable, Element, Prefix, Paren}
-use Rattle.syntax.specs.Views.{prefix_tree}
+use Rattle.syntax.specs.declared.expr.PrefixOp.{PrefixOp}
+use Rattle.syntax.specs.declared.expr.PrefixOp.TheVariants.{LogicalNot, Complement, ToWord, ToInt}
+use Rattle.syntax.specs.declared.expr.BinaryOp.{BinaryOp}
+use Rattle.syntax.specs.Tree.{Expr, Variable, Element, Prefix, Paren}
 use Rattle.parse_lexemes.specs.declared.first.Fixed.TheVariants as fixed
 use Rattle.parse_lexemes.specs.declared.fault.ParseRule.TheVariants.{TooHigh}
 use Rattle.parse_lexemes.specs.declared.fault.ParseError.{ParseError}
@@ -38,7 +40,7 @@ pub data Opening : Type 0 where
   OfElement : Identifier → Opening
 
 abbrev pub opening_view : InMemory → Opening
-opening_view (opening.Prefix op) = OfPrefix (prefix_tree op)
+opening_view (opening.Prefix op) = OfPrefix op
 opening_view opening.Paren = OfParen
 opening_view (opening.Element name) = OfElement name.now
 

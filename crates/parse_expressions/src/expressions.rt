@@ -6,7 +6,7 @@ ghost use Rattle.syntax.specs.Limits.{operator_level};
 ghost use Rattle.syntax.specs.Tree.{Number};
 ghost use Rattle.syntax.specs.Nodes.{top, on_top};
 ghost use Rattle.syntax.specs.Stacks.{stacked};
-ghost use Rattle.syntax.specs.Views.{constant_tree, prefix_tree, binary_tree, expr_tree};
+ghost use Rattle.syntax.specs.Views.{expr_tree};
 ghost use Rattle.parse_lexemes.specs.Results.{Gives};
 ghost use Rattle.parse_expressions.specs.Steps.{variable_at, right_by, within, opening_view, level_inside, around, ending_at, operand_of, cast_at, paren_opening_at, bracket_at, element_opening_at, starts_deep, opening_at};
 ghost use Rattle.parse_lexemes.specs.Lexemes.{views, name_at};
@@ -41,7 +41,7 @@ const PREFIX_LEVEL: u32 = 11;
 
 /// The level of an operator between two operands: the higher, the tighter it binds.
 fn level(op: BinaryOp) -> u32
-    ensures { result ≡ operator_level (binary_tree op) }
+    ensures { result ≡ operator_level op }
 {
     match op {
         BinaryOp::LogicalOr => 1,
@@ -59,7 +59,7 @@ fn level(op: BinaryOp) -> u32
 
 /// The operator between two operands of a mark.
 fn binary_of(mark: Mark) -> Option<BinaryOp>
-    ensures { option_map binary_tree result ≡ binary_of_mark mark }
+    ensures { result ≡ binary_of_mark mark }
 {
     match mark {
         Mark::LogicalOr => Some(BinaryOp::LogicalOr),
@@ -86,14 +86,14 @@ fn binary_of(mark: Mark) -> Option<BinaryOp>
 
 /// The operator that comes next.
 fn operator(rest: Cursor<'_>) -> Option<BinaryOp>
-    ensures { option_map binary_tree result ≡ operator_at (views rest.entry) }
+    ensures { result ≡ operator_at (views rest.entry) }
 {
     binary_of(rest.mark()?)
 }
 
 /// The named constant of a word.
 fn constant_of(word: Word) -> Option<Constant>
-    ensures { option_map constant_tree result ≡ constant_of_word word }
+    ensures { result ≡ constant_of_word word }
 {
     match word {
         Word::JniTrue => Some(Constant::True),
@@ -215,7 +215,7 @@ fn operand_of<'t>(
 /// The operator that comes next, where it is of this level or tighter.
 #[inline(always)]
 fn operator_within(least: u32, rest: Cursor<'_>) -> Option<BinaryOp>
-    ensures { option_map binary_tree result ≡ within least (operator_at (views rest.entry)) }
+    ensures { result ≡ within least (operator_at (views rest.entry)) }
 {
     match operator(rest) {
         Some(op) if level(op) >= least => Some(op),
@@ -272,7 +272,7 @@ pub fn starts_element(lexemes: Cursor<'_>) -> bool
 /// A cast, of which all but the closing parenthesis is read already.
 #[inline(always)]
 fn cast(op: PrefixOp, lexemes: Cursor<'_>) -> Result<ReadOpening<'_>, ParseError>
-    ensures { Gives (option_map (λ x. (opening_view x.0, views x.1))) result (cast_at (prefix_tree op) (views lexemes.entry)) }
+    ensures { Gives (option_map (λ x. (opening_view x.0, views x.1))) result (cast_at op (views lexemes.entry)) }
 {
     let rest = lexemes.expect(Fixed::Mark(Mark::CloseParen))?;
     Ok(Some((Opening::Prefix(op), rest)))
@@ -392,7 +392,7 @@ fn right_operand<'t>(
     requires { room ≤ 32 }
     ensures pushed { OnOk result (stacked stack.new ≡ top (stacked stack.new) ∷ stacked stack.old) }
     ensures low { IfOk result (λ x. (x.0 < room) × (height < room)) }
-    ensures gives { Gives (λ x. (top (stacked stack.new), x.0, views x.1)) result (right_by (deeper room) room height (binary_tree op) (views lexemes.entry)) }
+    ensures gives { Gives (λ x. (top (stacked stack.new), x.0, views x.1)) result (right_by (deeper room) room height op (views lexemes.entry)) }
 {
     if height >= room {
         return Err(lexemes.fault(ParseRule::TooHigh));

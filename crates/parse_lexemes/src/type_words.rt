@@ -2,8 +2,6 @@
 
 ghost use Rattle.std.specs.Prelude.{◌≡◌};
 ghost use Rattle.std.specs.Option.{option_map};
-ghost use Rattle.base.specs.Element.{element_value};
-ghost use Rattle.syntax.specs.Views.{reference_tree, static_type_tree, result_tree, parameter_type_tree, variable_type_tree};
 ghost use Rattle.parse_lexemes.specs.Lexemes.{views};
 ghost use Rattle.parse_lexemes.specs.Reading.{reference_of_word, static_of_word, result_of_word, element_of_word, parameter_of_word, variable_of_word, static_type_at, result_type_at, element_type_at, parameter_type_at, variable_type_at};
 
@@ -13,7 +11,7 @@ use syntax::{ElementType, ParameterType, ReferenceType, ResultType, StaticType, 
 
 /// The reference type of a word (JNI Specification, chapter 3, "Reference Types").
 fn reference_of(word: Word) -> Option<ReferenceType>
-    ensures { option_map reference_tree result ≡ reference_of_word word }
+    ensures { result ≡ reference_of_word word }
 {
     match word {
         Word::Jobject => Some(ReferenceType::Object),
@@ -32,7 +30,7 @@ fn reference_of(word: Word) -> Option<ReferenceType>
 
 /// The static's type of a word.
 fn static_of(word: Word) -> Option<StaticType>
-    ensures { option_map static_type_tree result ≡ static_of_word word }
+    ensures { result ≡ static_of_word word }
 {
     match word {
         Word::Jweak => Some(StaticType::Weak),
@@ -42,7 +40,7 @@ fn static_of(word: Word) -> Option<StaticType>
 
 /// The result's type of a word.
 fn result_of(word: Word) -> Option<ResultType>
-    ensures { option_map result_tree result ≡ result_of_word word }
+    ensures { result ≡ result_of_word word }
 {
     match word {
         Word::Void => Some(ResultType::Void),
@@ -53,7 +51,7 @@ fn result_of(word: Word) -> Option<ResultType>
 
 /// The element's type of a word.
 fn element_of(word: Word) -> Option<ElementType>
-    ensures { option_map element_value result ≡ element_of_word word }
+    ensures { result ≡ element_of_word word }
 {
     match word {
         Word::Jint => Some(ElementType::Int),
@@ -66,7 +64,7 @@ fn element_of(word: Word) -> Option<ElementType>
 
 /// The parameter's type of a word.
 fn parameter_of(word: Word) -> Option<ParameterType>
-    ensures { option_map parameter_type_tree result ≡ parameter_of_word word }
+    ensures { result ≡ parameter_of_word word }
 {
     if word == Word::Jint {
         return Some(ParameterType::Jint);
@@ -76,7 +74,7 @@ fn parameter_of(word: Word) -> Option<ParameterType>
 
 /// The variable's type of a word, but for `jint`, which is an element's type too.
 fn variable_of(word: Word) -> Option<VariableType>
-    ensures { option_map variable_type_tree result ≡ variable_of_word word }
+    ensures { result ≡ variable_of_word word }
 {
     match word {
         Word::Uint32 => Some(VariableType::Uint32),
@@ -91,35 +89,35 @@ fn variable_of(word: Word) -> Option<VariableType>
 impl Cursor<'_> {
     /// The type of a static, where one comes next.
     pub fn static_type(self) -> Option<StaticType>
-        ensures { option_map static_type_tree result ≡ static_type_at (views self.entry) }
+        ensures { result ≡ static_type_at (views self.entry) }
     {
         static_of(self.word()?)
     }
 
     /// The type of a result, where one comes next.
     pub fn result_type(self) -> Option<ResultType>
-        ensures { option_map result_tree result ≡ result_type_at (views self.entry) }
+        ensures { result ≡ result_type_at (views self.entry) }
     {
         result_of(self.word()?)
     }
 
     /// The type of an element, where one comes next.
     pub fn element_type(self) -> Option<ElementType>
-        ensures { option_map element_value result ≡ element_type_at (views self.entry) }
+        ensures { result ≡ element_type_at (views self.entry) }
     {
         element_of(self.word()?)
     }
 
     /// The type of a parameter, where one comes next.
     pub fn parameter_type(self) -> Option<ParameterType>
-        ensures { option_map parameter_type_tree result ≡ parameter_type_at (views self.entry) }
+        ensures { result ≡ parameter_type_at (views self.entry) }
     {
         parameter_of(self.word()?)
     }
 
     /// The type of a variable, where one comes next.
     pub fn variable_type(self) -> Option<VariableType>
-        ensures { option_map variable_type_tree result ≡ variable_type_at (views self.entry) }
+        ensures { result ≡ variable_type_at (views self.entry) }
     {
         variable_of(self.word()?)
     }

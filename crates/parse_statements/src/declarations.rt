@@ -1,8 +1,7 @@
 //! Declarations of variables (ISO/IEC 9899:1999, 6.7).
 
 ghost use Rattle.std.specs.Prelude.{◌≡◌, ◌≤◌};
-ghost use Rattle.base.specs.Element.{element_value};
-ghost use Rattle.syntax.specs.Views.{variable_type_tree, stmt_tree};
+ghost use Rattle.syntax.specs.Views.{stmt_tree};
 ghost use Rattle.parse_lexemes.specs.Results.{Gives};
 ghost use Rattle.parse_lexemes.specs.Lexemes.{views};
 ghost use Rattle.parse_statements.specs.Reading.{zeros_at, array_at, is_array, after_element, after_variable, after_const, declared_at, starts_declaration};
@@ -35,7 +34,7 @@ fn array(
     element: ElementType,
     lexemes: Cursor<'_>,
 ) -> Result<(Stmt, Cursor<'_>), ParseError>
-    ensures { Gives (λ x. (stmt_tree x.0, views x.1)) result (array_at line (element_value element) (views lexemes.entry)) }
+    ensures { Gives (λ x. (stmt_tree x.0, views x.1)) result (array_at line element (views lexemes.entry)) }
 {
     let (name, rest) = lexemes.name()?;
     let rest = rest.expect(Fixed::Mark(Mark::OpenBracket))?;
@@ -48,7 +47,7 @@ fn array(
 
 /// Whether an array is declared after an element's type, of which `jint` alone is a variable's too.
 fn is_array(element: ElementType, lexemes: Cursor<'_>) -> bool
-    ensures { result ≡ is_array (element_value element) (views lexemes.entry) }
+    ensures { result ≡ is_array element (views lexemes.entry) }
 {
     match element {
         ElementType::Int => lexemes.skip().starts_with(Fixed::Mark(Mark::OpenBracket)),
@@ -66,7 +65,7 @@ fn after_element<'t>(
     lexemes: Cursor<'t>,
 ) -> Result<(Stmt, Cursor<'t>), ParseError>
     requires { room ≤ 32 }
-    ensures { Gives (λ x. (stmt_tree x.0, views x.1)) result (after_element room line (element_value element) (views lexemes.entry)) }
+    ensures { Gives (λ x. (stmt_tree x.0, views x.1)) result (after_element room line element (views lexemes.entry)) }
 {
     if lexemes.starts_with(Fixed::Mark(Mark::Star)) {
         let (name, right, rest) = setting(stack, room, lexemes.skip())?;
@@ -89,7 +88,7 @@ fn after_variable<'t>(
     lexemes: Cursor<'t>,
 ) -> Result<(Stmt, Cursor<'t>), ParseError>
     requires { room ≤ 32 }
-    ensures { Gives (λ x. (stmt_tree x.0, views x.1)) result (after_variable room line (variable_type_tree kind) (views lexemes.entry)) }
+    ensures { Gives (λ x. (stmt_tree x.0, views x.1)) result (after_variable room line kind (views lexemes.entry)) }
 {
     let (name, right, rest) = setting(stack, room, lexemes)?;
     let form = Form::Declare(kind, name, right);

@@ -7,7 +7,8 @@ use Rattle.base.specs.Options.{some_passes}
 use Rattle.syntax.specs.Parts.{own_expressions, used_names, written_name, assigned_name, elements_in}
 use Rattle.syntax.specs.Tree.{Stmt, PutJint, Return, ReturnValue}
 use Rattle.jni.specs.Access.{is_critical, same_access}
-use Rattle.jni.specs.JniFunction.{JniFunction, GetBuffer, ReleaseBuffer}
+use Rattle.jni.specs.declared.function.JniFunction.{JniFunction}
+use Rattle.jni.specs.declared.function.JniFunction.TheVariants.{GetBuffer, ReleaseBuffer}
 use Rattle.region_rules.specs.declared.rule.RegionRule.{RegionRule}
 use Rattle.region_rules.specs.declared.rule.RegionRule.TheVariants.{CallWhileCritical, ReturnWithBuffer, HeldBuffer, UntestedBuffer, WrongBuffer, ReturnInFrame, PopLastFrame, DeadReference, ArrayInUse, PathsDiffer, WrongLevel, NoReturn}
 use Rattle.region_rules.specs.RegionStates.{VariableState, RegionState, state_of, held_by, held_buffers, function_called, get_of, Release, release_of, deleted_name, pops, frame_count_after, Free, Untested, ReferenceAt, BufferIn}

@@ -2,11 +2,15 @@
 use Rattle.std.specs.Prelude.{ℕ, ◌-◌, Bool, true, false, ◌&&◌, List, [], ◌∷◌, map, Option, Some, None, bytes_eq, nat_lt, if◌then◌else◌, filter_map}
 use Rattle.std.specs.Option.{option_and_then, option_map, unwrap_or}
 use Rattle.base.specs.Bytes.{Identifier, ByName, lookup}
-use Rattle.syntax.specs.Tree.{Commit}
+use Rattle.syntax.specs.declared.declared_type.ParameterType.TheVariants.{Jint as IntParameter, Reference as ReferenceParameter}
+use Rattle.syntax.specs.declared.declared_type.VariableType.TheVariants.{Reference as ReferenceVariable}
+use Rattle.syntax.specs.declared.expr.Constant.TheVariants.{Commit}
 use Rattle.syntax.specs.Parts.{own_call, call_of_right_side}
-use Rattle.syntax.specs.Tree.{IntParameter, ReferenceParameter, ReferenceVariable, Named, Variable, Argument, Value, Call, RightSide, Stmt, Declare, DeclareBuffer, DeclareChars, Assign, Parameter, Function}
-use Rattle.jni.specs.Access.{Access}
-use Rattle.jni.specs.JniFunction.{JniFunction, GetBuffer, ReleaseBuffer, DeleteLocalRef, PopLocalFrame, function_named}
+use Rattle.syntax.specs.Tree.{Named, Variable, Argument, Value, Call, RightSide, Stmt, Declare, DeclareBuffer, DeclareChars, Assign, Parameter, Function}
+use Rattle.jni.specs.declared.access.Access.{Access}
+use Rattle.jni.specs.declared.function.JniFunction.{JniFunction}
+use Rattle.jni.specs.declared.function.JniFunction.TheVariants.{GetBuffer, ReleaseBuffer, DeleteLocalRef, PopLocalFrame}
+use Rattle.jni.specs.JniFunction.{function_named}
 
 -- ---- what is known
 

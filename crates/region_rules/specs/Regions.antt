@@ -2,9 +2,10 @@
 use Rattle.std.specs.Prelude.{◌≡◌, ℕ, ◌+◌, Bool, not, ◌⊎◌, bytes_eq, filter, IsTrue, Contains}
 use Rattle.std.specs.List.{list_any, AllByRecursion}
 use Rattle.base.specs.Bytes.{Identifier}
-use Rattle.syntax.specs.Tree.{Null}
+use Rattle.syntax.specs.declared.expr.BinaryOp.TheVariants.{Equal, NotEqual}
+use Rattle.syntax.specs.declared.expr.Constant.TheVariants.{Null}
 use Rattle.syntax.specs.Parts.{line_of, functions_of}
-use Rattle.syntax.specs.Tree.{Equal, NotEqual, Named, Variable, Binary, Test, TestExpr, TestCall, Stmt, If, IfElse, While, Return, ReturnValue, Block, End, Next, Function, SourceUnit}
+use Rattle.syntax.specs.Tree.{Named, Variable, Binary, Test, TestExpr, TestCall, Stmt, If, IfElse, While, Return, ReturnValue, Block, End, Next, Function, SourceUnit}
 use Rattle.region_rules.specs.declared.rule.RegionRule.{RegionRule}
 use Rattle.region_rules.specs.declared.rule.RegionRule.TheVariants.{HeldBuffer, PathsDiffer, NoReturn}
 use Rattle.region_rules.specs.RegionRules.{holds_buffer, breaks_region_rule, Obeys}

@@ -1,7 +1,9 @@
 -- A test for NULL teaches what the definitions say.
 use Rattle.std.proofs.Common.{◌≡◌, refl}
 use Rattle.syntax.specs.NullTests.{null_test_of}
-use Rattle.syntax.specs.Tree.{Null, Equal, NotEqual, Named, Variable, Binary, Expr, TestExpr}
+use Rattle.syntax.specs.declared.expr.BinaryOp.TheVariants.{Equal, NotEqual}
+use Rattle.syntax.specs.declared.expr.Constant.TheVariants.{Null}
+use Rattle.syntax.specs.Tree.{Named, Variable, Binary, Expr, TestExpr}
 use Rattle.region_states.specs.Changes.{taught_true, taught_false}
 use Rattle.region_rules.specs.RegionStates.{RegionState}
 use Rattle.region_rules.specs.Regions.{where_true, where_false}

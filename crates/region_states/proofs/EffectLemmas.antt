@@ -4,11 +4,14 @@ use Rattle.std.specs.Option.{option_map}
 use Rattle.base.specs.Bytes.{Identifier}
 use Rattle.base.specs.Options.{some_passes}
 use Rattle.syntax.specs.declared.call.Argument.{Argument as ArgumentInMemory}
-use Rattle.syntax.specs.Tree.{Commit, Named, Argument, Value, Call}
+use Rattle.syntax.specs.declared.expr.Constant.TheVariants.{Commit}
+use Rattle.syntax.specs.Tree.{Named, Argument, Value, Call}
 use Rattle.syntax.specs.Views.{argument_tree}
-use Rattle.jni.specs.Access.{Access}
-use Rattle.jni.specs.JniFunction.{JniFunction, GetBuffer, ReleaseBuffer, DeleteLocalRef, PopLocalFrame, function_named}
-use Rattle.jni.specs.StateEffect.{Releases}
+use Rattle.jni.specs.declared.access.Access.{Access}
+use Rattle.jni.specs.declared.function.JniFunction.{JniFunction}
+use Rattle.jni.specs.declared.function.JniFunction.TheVariants.{GetBuffer, ReleaseBuffer, DeleteLocalRef, PopLocalFrame}
+use Rattle.jni.specs.JniFunction.{function_named}
+use Rattle.jni.specs.declared.kinds.StateEffect.TheVariants.{Releases}
 use Rattle.region_states.specs.StateEffects.{call_state_effect, got, released, deleted, popped, is_forbidden}
 use Rattle.region_rules.specs.RegionRules.{is_critical_call}
 use Rattle.region_rules.specs.RegionStates.{FunctionCall, call_of, get_of, release_of, deleted_name, pops, has_commit}

@@ -9,7 +9,7 @@ use Rattle.std.proofs.lemmas.Bool.{lt-ltb}
 use lib.Pointwise.{bytes_decides}
 use Rattle.base.specs.Bytes.{Identifier, ByName, lookup}
 use Rattle.base.specs.Options.{some_passes}
-use Rattle.jni.specs.Access.{Access}
+use Rattle.jni.specs.declared.access.Access.{Access}
 use Rattle.semantics.specs.Variable.{assign}
 use Rattle.indexmap.specs.IndexMap.{insert_entry}
 use Rattle.region_states.specs.declared.states.VariableState.{VariableState as VariableStateInMemory}

@@ -5,7 +5,8 @@ use Rattle.base.specs.Bytes.{Identifier}
 use Rattle.jni.specs.Access.{is_critical}
 use Rattle.base.specs.Options.{some_passes}
 use Rattle.syntax.specs.Parts.{assigned_name, call_of_right_side}
-use Rattle.syntax.specs.Tree.{ReferenceVariable, RightSide, Declare, DeclareBuffer, DeclareChars, Assign, Stmt}
+use Rattle.syntax.specs.declared.declared_type.VariableType.TheVariants.{Reference as ReferenceVariable}
+use Rattle.syntax.specs.Tree.{RightSide, Declare, DeclareBuffer, DeclareChars, Assign, Stmt}
 use Rattle.region_states.specs.declared.states.Condition.TheVariants as condition
 use Rattle.region_states.specs.StateEffects.{EffectCall, call_state_effect, got, released, popped}
 use Rattle.region_rules.specs.FirstFaults.{first_broken}

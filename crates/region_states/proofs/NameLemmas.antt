@@ -3,7 +3,8 @@ use Rattle.std.proofs.Common.{◌≡◌, bytes_eq, Bool, true, false, if◌then�
 use Rattle.std.specs.Prelude.{reverse}
 use Rattle.std.proofs.lemmas.List.{reverse-append}
 use Rattle.base.specs.Bytes.{Identifier}
-use Rattle.syntax.specs.Tree.{Test, TestExpr, TestCall, ReferenceVariable, Stmt, Declare, DeclareBuffer, DeclareChars, Assign}
+use Rattle.syntax.specs.declared.declared_type.VariableType.TheVariants.{Reference as ReferenceVariable}
+use Rattle.syntax.specs.Tree.{Test, TestExpr, TestCall, Stmt, Declare, DeclareBuffer, DeclareChars, Assign}
 use Rattle.syntax.specs.NullTests.{NullTest, null_test_of}
 use Rattle.region_states.specs.Changes.{taught_true, taught_false}
 use Rattle.region_rules.specs.RegionStates.{RegionState, VariableState, ReferenceAt, BufferIn, buffer_set_to, FunctionCall, Release, with_each, with_changed, with_some_changed, with_new, with_set, after_pop, after_release, after_call, release_of, deleted_name, pops, killed, killed_from, made_free, function_called, state_after}

@@ -8,9 +8,13 @@ use Rattle.std.proofs.lemmas.List.{reverse-reverse}
 use Rattle.std.proofs.lemmas.Slice.Zip.{seconds-zip}
 use lib.Pointwise.{pointwise, pointwise_decides, bytes_decides}
 use Rattle.base.specs.Bytes.{Identifier}
-use Rattle.base.specs.Element.{ElementType, JInt, JShort, JByte, JChar, same_element}
+use Rattle.base.specs.declared.element.ElementType.{ElementType}
+use Rattle.base.specs.declared.element.ElementType.TheVariants.{Int as JInt, Short as JShort, Byte as JByte, Char as JChar}
+use Rattle.base.specs.Element.{same_element}
 use Rattle.base.proofs.Truths.{same_truth}
-use Rattle.jni.specs.Access.{Access, ElementsCopy, ArrayView, CharsCopy, CharsView, same_access}
+use Rattle.jni.specs.declared.access.Access.{Access}
+use Rattle.jni.specs.declared.access.Access.TheVariants.{ElementsCopy, ArrayView, CharsCopy, CharsView}
+use Rattle.jni.specs.Access.{same_access}
 use Rattle.region_rules.specs.RegionStates.{BufferState, Free, Untested, Usable, VariableState, ReferenceAt, BufferIn, RegionState}
 use Rattle.region_states.specs.SameStates.{same_flag, same_buffer, same_variable, NamedState, same_named, same_state}
 

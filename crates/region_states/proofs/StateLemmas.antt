@@ -16,7 +16,7 @@ use Rattle.std.proofs.lemmas.Map.Keys.{IsDistinct-cons, IsDistinct-head, IsDisti
 use Rattle.std.specs.Option.{option_and_then}
 use Rattle.base.specs.Bytes.{Identifier}
 use Rattle.base.specs.Options.{some_passes}
-use Rattle.jni.specs.Access.{Access}
+use Rattle.jni.specs.declared.access.Access.{Access}
 use Rattle.region_rules.specs.RegionStates.{VariableState, RegionState, buffer_of, held_by, held_buffers}
 use Rattle.region_rules.specs.RegionRules.{is_held}
 use Rattle.region_rules.specs.Regions.{has_variable, holds_own}

@@ -3,7 +3,8 @@ use Rattle.std.specs.Prelude.{ℕ, ◌-◌, Bool, true, false, not, ◌&&◌, �
 use Rattle.std.specs.Option.{is_some}
 use Rattle.base.specs.Options.{some_passes}
 use Rattle.syntax.specs.Parts.{assigned_name}
-use Rattle.syntax.specs.Tree.{ReferenceVariable, Declare, DeclareBuffer, DeclareChars, Assign, Stmt}
+use Rattle.syntax.specs.declared.declared_type.VariableType.TheVariants.{Reference as ReferenceVariable}
+use Rattle.syntax.specs.Tree.{Declare, DeclareBuffer, DeclareChars, Assign, Stmt}
 use Rattle.jni.specs.Access.{is_critical}
 use Rattle.region_states.specs.declared.states.Condition.TheVariants as condition
 use Rattle.region_states.specs.StateEffects.{EffectCall, got, released, deleted, popped, is_forbidden}

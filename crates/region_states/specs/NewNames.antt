@@ -2,7 +2,8 @@
 use Rattle.std.specs.Prelude.{◌≡◌, false, List, [], ◌∷◌, ◌++◌, map, bytes_eq}
 use Rattle.std.specs.List.{AllByRecursion, IsDistinct, list_any}
 use Rattle.base.specs.Bytes.{Identifier}
-use Rattle.syntax.specs.Tree.{ReferenceVariable, Stmt, Declare, DeclareBuffer, DeclareChars, If, IfElse, While, Block, End, Next, Function, Item, StaticItem, FunctionItem}
+use Rattle.syntax.specs.declared.declared_type.VariableType.TheVariants.{Reference as ReferenceVariable}
+use Rattle.syntax.specs.Tree.{Stmt, Declare, DeclareBuffer, DeclareChars, If, IfElse, While, Block, End, Next, Function, Item, StaticItem, FunctionItem}
 use Rattle.region_rules.specs.RegionStates.{state_at_entry}
 use Rattle.region_states.specs.StatesInMemory.{names_of}
 

@@ -5,12 +5,14 @@ use Rattle.base.specs.Bytes.{Identifier}
 use Rattle.base.specs.Options.{some_passes}
 use Rattle.syntax.specs.Tree.{Argument}
 use Rattle.syntax.specs.Views.{argument_tree}
-use Rattle.jni.specs.Access.{Access, is_critical}
+use Rattle.jni.specs.declared.access.Access.{Access}
+use Rattle.jni.specs.Access.{is_critical}
 use Rattle.region_states.specs.declared.calls.MadeCall.{MadeCall}
 use Rattle.region_states.specs.declared.calls.Release.{Release as ReleaseInMemory}
 use Rattle.region_rules.specs.RegionStates.{FunctionCall, Release, argument_name, first_name, has_commit}
-use Rattle.jni.specs.StateEffect.{StateEffect, Gets, Releases, Deletes, Pops, state_effect}
-use Rattle.jni.specs.Table.{access_value, effect_value}
+use Rattle.jni.specs.declared.kinds.StateEffect.{StateEffect}
+use Rattle.jni.specs.declared.kinds.StateEffect.TheVariants.{Gets, Releases, Deletes, Pops}
+use Rattle.jni.specs.StateEffect.{state_effect}
 
 -- a call by what it does
 abbrev pub EffectCall : Type 0
@@ -22,12 +24,12 @@ call_state_effect call = (state_effect call.0, call.1)
 
 -- a call in memory
 abbrev pub made_value : MadeCall → EffectCall
-made_value c = (effect_value c.effect, map argument_tree c.arguments.now)
+made_value c = (c.effect, map argument_tree c.arguments.now)
 
 -- what a call releases, in memory
 abbrev pub release_value : ReleaseInMemory → Release
 release_value r = record {
-  access = access_value r.access;
+  access = r.access;
   object = option_map (λ x. x.now) r.object;
   buffer = option_map (λ x. x.now) r.buffer;
   commits = r.commits;

@@ -4,8 +4,8 @@ use Rattle.std.specs.Option.{option_and_then, unwrap_or}
 use Rattle.std.specs.List.{list_any, zip}
 use Rattle.base.specs.Bytes.{Identifier, ByName, lookup}
 use Rattle.base.specs.Options.{some_passes}
-use Rattle.jni.specs.Access.{Access, is_critical}
-use Rattle.jni.specs.Table.{access_value}
+use Rattle.jni.specs.declared.access.Access.{Access}
+use Rattle.jni.specs.Access.{is_critical}
 use Rattle.region_states.specs.declared.states.VariableState.{VariableState as VariableStateInMemory}
 use Rattle.region_states.specs.declared.states.VariableState.TheVariants as known
 use Rattle.region_states.specs.declared.states.Facts.{Facts}
@@ -20,8 +20,8 @@ use Rattle.region_rules.specs.RegionRules.{is_dead, is_reference_now, is_unteste
 abbrev pub variable_state : VariableStateInMemory → VariableState
 variable_state (known.Reference level live) = ReferenceAt level.number live
 variable_state known.Free = BufferIn Free
-variable_state (known.Untested a x) = BufferIn (Untested (access_value a) x.now)
-variable_state (known.Usable a x) = BufferIn (Usable (access_value a) x.now)
+variable_state (known.Untested a x) = BufferIn (Untested a x.now)
+variable_state (known.Usable a x) = BufferIn (Usable a x.now)
 
 -- variables of these names, the oldest first, with what is known of each
 abbrev pub variables_value : List Identifier → List VariableStateInMemory → ByName VariableState

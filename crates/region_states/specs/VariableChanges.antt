@@ -3,17 +3,15 @@ use Rattle.std.specs.Prelude.{ℕ, true, List, Option}
 use Rattle.std.specs.Option.{option_map}
 use Rattle.std.specs.Borrow.{Bor}
 use Rattle.base.specs.Bytes.{Identifier}
-use Rattle.jni.specs.Access.{Access}
-use Rattle.jni.specs.declared.access.Access.{Access as AccessInMemory}
+use Rattle.jni.specs.declared.access.Access.{Access}
 use Rattle.region_states.specs.declared.variables.Change.{Change}
 use Rattle.region_states.specs.declared.variables.Change.TheVariants as change
 use Rattle.region_rules.specs.RegionStates.{VariableState, ReferenceAt, BufferIn, killed, buffer_from}
 use Rattle.region_rules.specs.Regions.{made_usable}
-use Rattle.jni.specs.Table.{access_value}
 
 -- a Get in memory
-abbrev pub get_value : AccessInMemory × Option (Bor (List ℕ)) → Access × Option Identifier
-get_value g = (access_value g.0, option_map (λ x. x.now) g.1)
+abbrev pub get_value : Access × Option (Bor (List ℕ)) → Access × Option Identifier
+get_value g = (g.0, option_map (λ x. x.now) g.1)
 
 -- a change in memory
 abbrev pub change_value : Change → VariableState → VariableState

@@ -4,8 +4,7 @@ ghost use Rattle.std.specs.Prelude.{◌≡◌, ℕ, [], ◌∷◌, map, Some};
 ghost use Rattle.std.specs.Option.{option_map};
 ghost use Rattle.syntax.specs.Views.{argument_tree, form_tree};
 ghost use Rattle.region_rules.specs.RegionStates.{argument_name, first_name, has_commit, function_called};
-ghost use Rattle.jni.specs.StateEffect.{Releases};
-ghost use Rattle.jni.specs.Table.{access_value, function_value};
+ghost use Rattle.jni.specs.declared.kinds.StateEffect.TheVariants.{Releases};
 ghost use Rattle.region_states.specs.StateEffects.{call_state_effect, made_value, release_value, got, released, deleted, popped, is_forbidden};
 
 use jni::{Access, JniFunction, StateEffect, function_named};
@@ -31,7 +30,7 @@ pub struct Release<'a> {
 /// A call of a function that is known.
 fn made(function: Option<JniFunction>, arguments: &[Argument]) -> Option<MadeCall<'_>>
     ensures { option_map made_value result ≡ option_map call_state_effect
-        (option_map (λ f. (f, map argument_tree arguments.now)) (option_map function_value function)) }
+        (option_map (λ f. (f, map argument_tree arguments.now)) function) }
 {
     match function {
         Some(f) => Some(MadeCall {
@@ -101,7 +100,7 @@ fn has_commit(arguments: &[Argument]) -> bool
 
 /// A Get's access, and the variable of its array or string.
 pub fn got<'a>(call: Option<MadeCall<'a>>) -> Option<(Access, Option<&'a [u8]>)>
-    ensures { option_map (λ g. (access_value g.0, option_map (λ x. x.now) g.1)) result
+    ensures { option_map (λ g. (g.0, option_map (λ x. x.now) g.1)) result
         ≡ got (option_map made_value call.entry) }
 {
     match call {
@@ -120,7 +119,7 @@ pub fn got<'a>(call: Option<MadeCall<'a>>) -> Option<(Access, Option<&'a [u8]>)>
 #[tactic(auto, using(crate::proofs::EffectLemmas::few_released))]
 fn release_with(access: Access, arguments: &[Argument]) -> Option<Release<'_>>
     ensures { option_map release_value result
-        ≡ released (Some (Releases (access_value access), map argument_tree arguments.now)) }
+        ≡ released (Some (Releases access, map argument_tree arguments.now)) }
 {
     match arguments {
         [object, buffer, modes @ ..] => Some(Release {

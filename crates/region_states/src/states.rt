@@ -5,7 +5,6 @@ ghost use Rattle.std.specs.List.{list_any, IsDistinct};
 ghost use Rattle.std.specs.Option.{option_map};
 ghost use Rattle.base.specs.Options.{some_passes};
 ghost use Rattle.jni.specs.Access.{is_critical};
-ghost use Rattle.jni.specs.Table.{access_value};
 ghost use Rattle.region_rules.specs.RegionStates.{RegionState, state_of, with_new};
 ghost use Rattle.region_rules.specs.Regions.{left};
 ghost use Rattle.region_rules.specs.RegionRules.{holds_buffer, is_level};
@@ -85,7 +84,7 @@ pub enum Condition {
 impl<'a> VariableState<'a> {
     /// A held buffer's access, and the variable of its array or string.
     pub fn held(self) -> Option<(Access, &'a [u8])>
-        ensures { option_map (λ held. (access_value held.0, held.1.now)) result ≡ held_in (variable_state self.entry) }
+        ensures { option_map (λ held. (held.0, held.1.now)) result ≡ held_in (variable_state self.entry) }
     {
         match self {
             VariableState::Reference { .. } => None,

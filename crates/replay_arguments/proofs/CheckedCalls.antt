@@ -4,10 +4,14 @@ use Rattle.std.specs.Prelude.{◌&&◌, ◌||◌, drop, if◌then◌else◌, is_
 use Rattle.std.specs.List.{list_any}
 use Rattle.std.proofs.lemmas.Bool.{and_right}
 use Rattle.std.proofs.lemmas.List.{length-map}
-use Rattle.base.specs.Element.{ElementType}
+use Rattle.base.specs.declared.element.ElementType.{ElementType}
 use Rattle.class_rules.specs.Class.{Classes}
-use Rattle.jni.specs.JniFunction.{JniFunction, PopLocalFrame, calls_method, is_allowed_pending, parameters_for, prototype}
-use Rattle.jni.specs.Prototype.{ParameterKind, ResultKind, NewLocal}
+use Rattle.jni.specs.declared.function.JniFunction.{JniFunction}
+use Rattle.jni.specs.declared.function.JniFunction.TheVariants.{PopLocalFrame}
+use Rattle.jni.specs.JniFunction.{calls_method, is_allowed_pending, parameters_for, prototype}
+use Rattle.jni.specs.declared.kinds.ParameterKind.{ParameterKind}
+use Rattle.jni.specs.declared.kinds.ResultKind.{ResultKind}
+use Rattle.jni.specs.declared.kinds.ResultKind.TheVariants.{NewLocal}
 use Rattle.semantics.specs.Arguments.{Actual}
 use Rattle.semantics.specs.CallSight.{ArgumentSight, CallSight, argument_seen, call_seen, is_deleted}
 use Rattle.semantics.specs.Checks as seen
@@ -15,7 +19,8 @@ use Rattle.semantics.specs.Checks.{first_trap, frames_after, go_together, misfit
 use Rattle.semantics.specs.Heap.{Heap}
 use Rattle.semantics.specs.Object.{Reference}
 use Rattle.semantics.specs.Thread.{Frame, Shared}
-use Rattle.semantics.specs.Value.{Trap, CallsTooDeep, DeletedReference, ExceptionPending, NoCapacity, NullReference, WrongObject}
+use Rattle.semantics.specs.declared.trap.Trap.{Trap}
+use Rattle.semantics.specs.declared.trap.Trap.TheVariants.{CallsTooDeep, DeletedReference, ExceptionPending, NoCapacity, NullReference, WrongObject}
 use Rattle.semantics.specs.Variable.{Variables}
 use Rattle.semantics.specs.Views.{name_of}
 use Rattle.semantics.specs.declared.object_id.ObjectId.{ObjectId}

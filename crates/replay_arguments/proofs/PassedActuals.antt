@@ -3,14 +3,15 @@ use Rattle.std.proofs.Common.{◌≡◌, ◌≤◌, ◌-◌, Bool, true, false, 
 use Rattle.std.specs.Prelude.{◌&&◌, ◌==◌, if◌then◌else◌, zip}
 use Rattle.std.proofs.lemmas.Simd.{map-map}
 use Rattle.std.proofs.lemmas.List.{map-append, take_all}
-use Rattle.base.specs.Element.{ElementType}
+use Rattle.base.specs.declared.element.ElementType.{ElementType}
 use Rattle.class_rules.specs.Class.{Classes}
-use Rattle.jni.specs.JniFunction.{JniFunction, calls_method, parameters_for, prototype}
-use Rattle.jni.specs.Prototype.{ParameterKind, Passed}
-use Rattle.jni.specs.Table.{function_value}
-use Rattle.jni.specs.declared.function.JniFunction.{JniFunction as FunctionInMemory}
-use Rattle.syntax.specs.Tree.{Parameter, ResultType}
-use Rattle.syntax.specs.Views.{parameter_tree, parameter_type_tree}
+use Rattle.jni.specs.declared.function.JniFunction.{JniFunction}
+use Rattle.jni.specs.JniFunction.{calls_method, parameters_for, prototype}
+use Rattle.jni.specs.declared.kinds.ParameterKind.{ParameterKind}
+use Rattle.jni.specs.declared.kinds.ParameterKind.TheVariants.{Passed}
+use Rattle.syntax.specs.declared.unit.ResultType.{ResultType}
+use Rattle.syntax.specs.Tree.{Parameter}
+use Rattle.syntax.specs.Views.{parameter_tree}
 use Rattle.syntax.specs.declared.unit.Parameter.{Parameter as ParameterInMemory}
 use Rattle.semantics.specs.Arguments.{Actual}
 use Rattle.semantics.specs.CallSight.{CallSight, argument_seen, name_of_first}
@@ -52,7 +53,7 @@ first_is {A = A} (x ∷ xs) d low = ap (λ (l : List A). x ∷ l) (take_all (len
 
 module _ (heap : Heap) where
   abbrev first_passes : ParameterInMemory → ActualInMemory → Bool
-  first_passes p a = passes (parameter_type_tree p.kind) (argument_seen heap (Some (actual_view a)))
+  first_passes p a = passes p.kind (argument_seen heap (Some (actual_view a)))
 
   abbrev pass : List ParameterInMemory → List ActualInMemory → Bool
   pass ps actuals = all_pass (map parameter_tree ps) (map (λ a. argument_seen heap (Some (actual_view a))) actuals)
@@ -78,10 +79,10 @@ module _ (heap : Heap) where
       ∙ pass_both p a ps (after_first ps) actuals (after_first actuals) parameters_are actuals_are
 
 -- a function that calls a method asks whether it is called well
-module _ (classes : Classes) (element : ElementType) (sight : FunctionInMemory → CallSight) (method : Option MethodId) where
-  pub called_well : (f g : FunctionInMemory) (fits : Bool) → f ≡ g → calls_well classes (sight g) (is_wanted (function_value g)) method ≡ go_together classes (sight g) element (function_value g)
-      → fits ≡ calls_well classes (sight f) (is_wanted (function_value f)) method → fits ≡ go_together classes (sight f) element (function_value f)
-  called_well f g fits same is = subst (λ (k : FunctionInMemory). fits ≡ calls_well classes (sight k) (is_wanted (function_value k)) method → fits ≡ go_together classes (sight k) element (function_value k)) (sym same) (λ h. h ∙ is)
+module _ (classes : Classes) (element : ElementType) (sight : JniFunction → CallSight) (method : Option MethodId) where
+  pub called_well : (f g : JniFunction) (fits : Bool) → f ≡ g → calls_well classes (sight g) (is_wanted g) method ≡ go_together classes (sight g) element g
+      → fits ≡ calls_well classes (sight f) (is_wanted f) method → fits ≡ go_together classes (sight f) element f
+  called_well f g fits same is = subst (λ (k : JniFunction). fits ≡ calls_well classes (sight k) (is_wanted k) method → fits ≡ go_together classes (sight k) element k) (sym same) (λ h. h ∙ is)
 
 -- a method is called well where its class, its result and what it is passed fit
 pub well_called : (classes : Classes) (sight : CallSight) (wants : ResultType → Bool) (o : Option MethodId) (m : MethodId) (found : Bool) → o ≡ Some m

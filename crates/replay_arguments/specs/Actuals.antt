@@ -3,13 +3,12 @@ use Rattle.std.specs.Prelude.{false, [], Option, Some, None}
 use Rattle.std.specs.Option.{option_map}
 use Rattle.std.specs.Borrow.{Bor}
 use Rattle.base.specs.Bytes.{Identifier}
-use Rattle.base.specs.Element.{JInt}
+use Rattle.base.specs.declared.element.ElementType.TheVariants.{Int as JInt}
 use Rattle.classes.specs.FieldViews.{field_id_view}
 use Rattle.classes.specs.declared.fields.FieldId.{FieldId as IdInMemory}
 use Rattle.class_rules.specs.Class.{NumberField}
 use Rattle.class_rules.specs.Fields.{FieldId}
 use Rattle.semantics.specs.Arguments.{Actual, ReferenceActual, FieldActual, MethodActual, NumberActual, TextActual, VariableActual, ModeActual, NothingActual}
-use Rattle.semantics.specs.Views.{mode_view}
 use Rattle.replay_arguments.specs.declared.actual.Actual.{Actual as InMemory}
 use Rattle.replay_arguments.specs.declared.actual.Actual.TheVariants as actual
 use Rattle.replay_terms.specs.Views.{held_view, method_view}
@@ -26,7 +25,7 @@ actual_view (actual.Method m) = MethodActual (option_map method_view m)
 actual_view (actual.Number z) = NumberActual z
 actual_view (actual.Text bytes) = TextActual bytes.now
 actual_view (actual.Variable x) = VariableActual (name_view x)
-actual_view (actual.Mode m) = ModeActual (mode_view m)
+actual_view (actual.Mode m) = ModeActual m
 actual_view actual.Nothing = NothingActual
 
 -- the field of a field ID that isn't NULL

@@ -1,10 +1,11 @@
 -- What a call sees that lies in memory.
 use Rattle.std.specs.Prelude.{Bool, false, not, ◌&&◌, List, map, Option, Some}
-use Rattle.jni.specs.JniFunction.{JniFunction, CallStaticVoidMethod, CallStaticIntMethod}
-use Rattle.jni.specs.Prototype.{ParameterKind, ResultKind, NewLocal}
-use Rattle.jni.specs.Table.{function_value}
-use Rattle.jni.specs.declared.function.JniFunction.{JniFunction as FunctionInMemory}
-use Rattle.syntax.specs.Tree.{ResultType}
+use Rattle.jni.specs.declared.function.JniFunction.{JniFunction}
+use Rattle.jni.specs.declared.function.JniFunction.TheVariants.{CallStaticVoidMethod, CallStaticIntMethod}
+use Rattle.jni.specs.declared.kinds.ParameterKind.{ParameterKind}
+use Rattle.jni.specs.declared.kinds.ResultKind.{ResultKind}
+use Rattle.jni.specs.declared.kinds.ResultKind.TheVariants.{NewLocal}
+use Rattle.syntax.specs.declared.unit.ResultType.{ResultType}
 use Rattle.semantics.specs.Arguments.{Actual as ActualOfCall}
 use Rattle.semantics.specs.CallSight.{ArgumentSight, CallSight, argument_seen, call_seen, is_full, is_null_actual}
 use Rattle.semantics.specs.Checks.{is_int, is_reference_result, is_void, may_be_null}
@@ -18,10 +19,10 @@ use Rattle.replay_arguments.specs.declared.scene.Scene.{Scene}
 use Rattle.replay_terms.specs.Views.{variables_view}
 
 -- what a call of a function with these arguments sees, where no other waits for it
-abbrev pub scene_sight : Scene → FunctionInMemory → List Actual → CallSight
+abbrev pub scene_sight : Scene → JniFunction → List Actual → CallSight
 scene_sight scene f actuals =
     call_seen (shared_view scene.shared.now) (variables_view scene.locals.now.variables) scene.locals.now.frames 0 (name_of scene.pending)
-    (function_value f) (map actual_view actuals)
+    f (map actual_view actuals)
 
 -- what is seen of an argument, with the kind of its parameter
 abbrev pub seen_with : Heap → ParameterKind × ActualOfCall → ParameterKind × ArgumentSight

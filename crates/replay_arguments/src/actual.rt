@@ -6,14 +6,14 @@ ghost use Rattle.base.specs.Bytes.{lookup};
 ghost use Rattle.syntax.specs.Shapes.{ref_tree};
 ghost use Rattle.syntax.specs.Views.{argument_tree};
 ghost use Rattle.classes.specs.FieldViews.{field_id_view};
-ghost use Rattle.jni.specs.Prototype.{ParameterKind as Kind, Passed};
-ghost use Rattle.jni.specs.Table.{function_value, parameter_value};
+ghost use Rattle.jni.specs.declared.kinds.ParameterKind.{ParameterKind as Kind};
+ghost use Rattle.jni.specs.declared.kinds.ParameterKind.TheVariants.{Passed};
 ghost use Rattle.semantics.specs.Arguments.{actuals, address_given, field_argument, field_given, look_up, look_up_expression, method_argument, method_given, mode_given, mode_of, named_variable, number_given, object_given, passed_value, reference_argument, reference_given, text_given, variable_given};
 ghost use Rattle.semantics.specs.CallEffects.{level_of};
 ghost use Rattle.semantics.specs.Sight.{Sight, held_field, held_method};
 ghost use Rattle.semantics.specs.Task.{Given, NumberOperand, PassedName};
 ghost use Rattle.semantics.specs.Thread.{Shared as SharedOfThreads};
-ghost use Rattle.semantics.specs.Views.{mode_view, name_of, object_value_view};
+ghost use Rattle.semantics.specs.Views.{name_of, object_value_view};
 ghost use Rattle.replay_arguments.specs.Actuals.{actual_view, name_view, given_field};
 ghost use Rattle.replay_terms.specs.Views.{operand_ref_view, operands_view, held_view, method_view, term_view, variables_view};
 ghost use Rattle.replay_arguments.specs.Shares.{shared_view, sight_in};
@@ -57,7 +57,7 @@ pub fn actuals<'a>(
     operands: &Operands<'a>,
 ) -> Result<Vec<Actual<'a>>, AllocError>
     ensures { IfOk result (λ args. map actual_view args.items
-        ≡ actuals (sight_in (shared_view shared.now) variables.now) (function_value function)
+        ≡ actuals (sight_in (shared_view shared.now) variables.now) function
         (operands_view operands.now)) }
 {
     let mut actuals = Vec::new(alloc);
@@ -87,7 +87,7 @@ fn push_actuals<'a>(
 ) -> Result<(), AllocError>
     ensures { IfOk result (λ _. map actual_view actuals.new.items
         ≡ map actual_view actuals.old.items ++ map (look_up (sight_in (shared_view shared.now) variables.now))
-        (zip (map parameter_value parameters.entry.now) (drop place (operands_view operands.entry.now)))) }
+        (zip parameters.entry.now (drop place (operands_view operands.entry.now)))) }
 {
     if place >= operands.count() {
         return Ok(());
@@ -135,7 +135,7 @@ pub fn look_up<'a>(
     parameter: ParameterKind,
     operand: OperandRef<'_, 'a>,
 ) -> Actual<'a>
-    ensures { actual_view result ≡ look_up (sight_in (shared_view shared.now) variables.now) (parameter_value parameter, operand_ref_view operand.entry) }
+    ensures { actual_view result ≡ look_up (sight_in (shared_view shared.now) variables.now) (parameter, operand_ref_view operand.entry) }
 {
     match operand {
         OperandRef::Number(t) => number_argument(t),
@@ -161,7 +161,7 @@ fn given_argument<'a>(
     parameter: ParameterKind,
     argument: &'a Argument,
 ) -> Actual<'a>
-    ensures { actual_view result ≡ look_up (sight_in (shared_view shared.now) variables.now) (parameter_value parameter, Given (argument_tree argument.now)) }
+    ensures { actual_view result ≡ look_up (sight_in (shared_view shared.now) variables.now) (parameter, Given (argument_tree argument.now)) }
 {
     match argument {
         Argument::Text(bytes) => Actual::Text(bytes),
@@ -177,7 +177,7 @@ fn look_up_expression<'a>(
     parameter: ParameterKind,
     e: ExprRef<'a>,
 ) -> Actual<'a>
-    ensures { actual_view result ≡ look_up_expression (sight_in (shared_view shared.now) variables.now) (parameter_value parameter) (ref_tree e.entry) }
+    ensures { actual_view result ≡ look_up_expression (sight_in (shared_view shared.now) variables.now) parameter (ref_tree e.entry) }
 {
     match parameter {
         ParameterKind::FieldID => field_argument(variables, e),
@@ -202,7 +202,7 @@ fn named_variable(e: ExprRef<'_>) -> Option<&Name>
 
 /// The mode that stands for `JNI_COMMIT`, `JNI_ABORT` or 0.
 fn mode_of(e: ExprRef<'_>) -> ReleaseMode
-    ensures { mode_view result ≡ mode_of (ref_tree e.entry) }
+    ensures { result ≡ mode_of (ref_tree e.entry) }
 {
     match e.shape() {
         Shape::Named(Constant::Commit) => ReleaseMode::CopyBack,
@@ -383,7 +383,7 @@ pub fn text_given<'a>(actuals: &[Actual<'a>], place: usize) -> &'a [u8]
 
 /// The mode at a place.
 pub fn mode_given(actuals: &[Actual<'_>], place: usize) -> ReleaseMode
-    ensures { mode_view result ≡ mode_given (map actual_view actuals.now) place }
+    ensures { result ≡ mode_given (map actual_view actuals.now) place }
 {
     match actual_at(actuals, place) {
         Some(Actual::Mode(mode)) => mode,

@@ -4,18 +4,15 @@ ghost use Rattle.std.specs.Prelude.{◌≡◌, ◌||◌, ◌&&◌, Some, map, no
 ghost use Rattle.std.specs.List.{list_any};
 ghost use Rattle.std.specs.Option.{option_map};
 ghost use Rattle.class_rules.specs.BuiltIns.{throwable_class};
-ghost use Rattle.base.specs.Element.{element_value};
 ghost use Rattle.classes.specs.Views.{field_type_view};
-ghost use Rattle.jni.specs.Table.{function_value, parameter_value, result_value};
 ghost use Rattle.semantics.specs.CallSight.{argument_seen, is_deleted, is_full};
 ghost use Rattle.semantics.specs.Checks.{all_pass, calls_well, frames_after, go_together, misfits, passes, trap_of};
 ghost use Rattle.class_rules.specs.Class.{assignable};
 ghost use Rattle.semantics.specs.Arguments.{field_given, method_given, object_given};
 ghost use Rattle.semantics.specs.Heap.{Heap, class_of, fits_class, fits_type, is_instance};
-ghost use Rattle.syntax.specs.Views.{parameter_tree, parameter_type_tree, result_tree};
+ghost use Rattle.syntax.specs.Views.{parameter_tree};
 ghost use Rattle.replay_arguments.specs.Actuals.{actual_view};
 ghost use Rattle.replay_arguments.specs.Sights.{is_wanted, lacks, lacks_room, scene_sight, seen_with};
-ghost use Rattle.semantics.specs.EventViews.{trap_view};
 ghost use Rattle.semantics.specs.Views.{name_of};
 
 use crate::actual::{
@@ -42,8 +39,8 @@ pub fn check(
     function: JniFunction,
     actuals: &[Actual<'_>],
 ) -> Option<Trap>
-    ensures { option_map trap_view result
-        ≡ trap_of scene.entry.classes.now (scene_sight scene.entry function actuals.now) (element_value buffer) (function_value function) }
+    ensures { result
+        ≡ trap_of scene.entry.classes.now (scene_sight scene.entry function actuals.now) buffer function }
 {
     let asked = function.prototype();
     if scene.pending.is_some() && !asked.pending {
@@ -87,7 +84,7 @@ fn is_deleted(actual: Actual<'_>) -> bool
 
 /// Whether some argument is NULL where that isn't allowed.
 fn some_missing(parameters: &[ParameterKind], actuals: &[Actual<'_>]) -> bool
-    ensures { result ≡ list_any lacks (zip (map parameter_value parameters.now) (map actual_view actuals.now)) }
+    ensures { result ≡ list_any lacks (zip parameters.now (map actual_view actuals.now)) }
 {
     match parameters {
         [parameter, parameters @ ..] => match actuals {
@@ -102,7 +99,7 @@ fn some_missing(parameters: &[ParameterKind], actuals: &[Actual<'_>]) -> bool
 
 /// Whether an argument is NULL where that isn't allowed.
 fn is_missing(parameter: ParameterKind, actual: Actual<'_>) -> bool
-    ensures { result ≡ lacks (parameter_value parameter, actual_view actual.entry) }
+    ensures { result ≡ lacks (parameter, actual_view actual.entry) }
 {
     match parameter {
         ParameterKind::Nullable | ParameterKind::AnyReference => false,
@@ -124,7 +121,7 @@ fn some_misfit(
     parameters: &[ParameterKind],
     actuals: &[Actual<'_>],
 ) -> bool
-    ensures { result ≡ list_any (λ c. misfits classes.now (seen_with store.now c)) (zip (map parameter_value parameters.now) (map actual_view actuals.now)) }
+    ensures { result ≡ list_any (λ c. misfits classes.now (seen_with store.now c)) (zip parameters.now (map actual_view actuals.now)) }
 {
     match parameters {
         [parameter, parameters @ ..] => match actuals {
@@ -145,7 +142,7 @@ fn is_misfit(
     parameter: ParameterKind,
     actual: Actual<'_>,
 ) -> bool
-    ensures { result ≡ misfits classes.now (seen_with store.now (parameter_value parameter, actual_view actual.entry)) }
+    ensures { result ≡ misfits classes.now (seen_with store.now (parameter, actual_view actual.entry)) }
 {
     match actual {
         Actual::Reference(_, held) => match held {
@@ -170,7 +167,7 @@ fn go_together(
     actuals: &[Actual<'_>],
 ) -> bool
     ensures { result
-        ≡ go_together scene.entry.classes.now (scene_sight scene.entry function actuals.now) (element_value buffer) (function_value function) }
+        ≡ go_together scene.entry.classes.now (scene_sight scene.entry function actuals.now) buffer function }
 {
     let (classes, store) = (scene.classes, &scene.shared.store);
     let field = field_given(actuals, 1);
@@ -217,7 +214,7 @@ fn go_together(
 /// what it is passed.
 fn calls_well(scene: Scene<'_, '_>, function: JniFunction, actuals: &[Actual<'_>]) -> bool
     ensures { result
-        ≡ calls_well scene.entry.classes.now (scene_sight scene.entry function actuals.now) (is_wanted (function_value function))
+        ≡ calls_well scene.entry.classes.now (scene_sight scene.entry function actuals.now) (is_wanted function)
         (method_given (map actual_view actuals.now) 1) }
 {
     match method_given(actuals, 1) {
@@ -232,7 +229,7 @@ fn calls_well(scene: Scene<'_, '_>, function: JniFunction, actuals: &[Actual<'_>
 
 /// Whether a function that calls a method wants such a result.
 fn is_wanted(function: JniFunction, returned: ResultType) -> bool
-    ensures { result ≡ is_wanted (function_value function) (result_tree returned) }
+    ensures { result ≡ is_wanted function returned }
 {
     match function {
         JniFunction::CallStaticVoidMethod => matches!(returned, ResultType::Void),
@@ -259,7 +256,7 @@ fn all_pass(parameters: &[Parameter], actuals: &[Actual<'_>]) -> bool
 
 /// Whether what is passed to a parameter is a number, or a reference, as it asks.
 fn passes(kind: ParameterType, actual: Actual<'_>) -> bool
-    ensures { (heap : Heap) → result ≡ passes (parameter_type_tree kind) (argument_seen heap (Some (actual_view actual.entry))) }
+    ensures { (heap : Heap) → result ≡ passes kind (argument_seen heap (Some (actual_view actual.entry))) }
 {
     match kind {
         ParameterType::Jint => matches!(actual, Actual::Number(_)),
@@ -325,7 +322,7 @@ fn fits_type(
 
 /// Whether a call puts a local reference into a frame that can hold no more.
 fn lacks_room(function: JniFunction, kind: ResultKind, frames: &Frames) -> bool
-    ensures { result ≡ lacks_room (result_value kind) (slice_get (frames_after (function_value function) frames.now) 0) }
+    ensures { result ≡ lacks_room kind (slice_get (frames_after function frames.now) 0) }
 {
     match kind {
         ResultKind::NewLocal => match function {

@@ -1,11 +1,12 @@
 -- What the table gives of each answer: regions that are there, and calls of methods by functions that call one.
 use Rattle.std.proofs.Common.{◌≡◌, ℕ, ℤ, ◌+◌, ◌≤◌, Bool, true, false, List, length, refl, sym, subst}
 use Rattle.std.proofs.lemmas.Bool.{le-leb}
-use Rattle.base.specs.Element.{ElementType}
+use Rattle.base.specs.declared.element.ElementType.{ElementType}
 use Rattle.syntax.specs.Tree.{SourceUnit}
 use Rattle.class_rules.specs.Class.{Classes}
-use Rattle.jni.specs.JniFunction.{JniFunction, calls_method}
-use Rattle.jni.specs.Prototype.{ResultKind}
+use Rattle.jni.specs.declared.function.JniFunction.{JniFunction}
+use Rattle.jni.specs.JniFunction.{calls_method}
+use Rattle.jni.specs.declared.kinds.ResultKind.{ResultKind}
 use Rattle.semantics.specs.Answer.{Answer, Calls, Region}
 use Rattle.semantics.specs.AnswerTable.{call_answer}
 use Rattle.semantics.specs.CallSight.{CallSight, call_seen}

@@ -2,10 +2,10 @@
 use Rattle.std.specs.Prelude.{◌≡◌, ◌+◌, true, ℤ, List, [], ◌∷◌, ◌++◌, drop, length, map, nat_le, IsTrue, Option, Some, None}
 use Rattle.base.specs.Bytes.{Identifier, lookup}
 use Rattle.class_rules.specs.Class.{Classes}
-use Rattle.jni.specs.JniFunction.{JniFunction, calls_method, prototype}
-use Rattle.jni.specs.Prototype.{ResultKind, NewLocal}
-use Rattle.jni.specs.Table.{function_value}
-use Rattle.jni.specs.declared.function.JniFunction.{JniFunction as FunctionInMemory}
+use Rattle.jni.specs.declared.function.JniFunction.{JniFunction}
+use Rattle.jni.specs.JniFunction.{calls_method, prototype}
+use Rattle.jni.specs.declared.kinds.ResultKind.{ResultKind}
+use Rattle.jni.specs.declared.kinds.ResultKind.TheVariants.{NewLocal}
 use Rattle.syntax.specs.Views.{unit_tree}
 use Rattle.semantics.specs.Answer.{Answer, Calls, Copies, CopiesBack, DeletesGlobal, DeletesLocal, DeletesWeak, Disowns, Ensures, Frees, GetsRegion, Gives, Halts, Makes, MakesGlobal, Owns, Pends, Pops, Pushes, Raises, RaisesWith, RefusesFrames, Region, SetsRegion, Views, Writes, effect_of}
 use Rattle.semantics.specs.AnswerTable.{call_answer}
@@ -13,11 +13,10 @@ use Rattle.semantics.specs.Arguments.{Actual, passed_value, variable_given}
 use Rattle.semantics.specs.CallEffects.{CallResult, ReferenceResult, BufferResult, CallEffect, Throws, Leaves, local_array, with_local}
 use Rattle.semantics.specs.CallEffects as effects
 use Rattle.semantics.specs.CallStep.{failure}
-use Rattle.semantics.specs.EventViews.{trap_view}
 use Rattle.semantics.specs.Heap.{Heap, next_name, values_of}
 use Rattle.semantics.specs.Object.{Object, ObjectValue}
 use Rattle.semantics.specs.Thread.{Frame, Shared, Thread}
-use Rattle.semantics.specs.Value.{Trap}
+use Rattle.semantics.specs.declared.trap.Trap.{Trap}
 use Rattle.semantics.specs.Variable.{Variables}
 use Rattle.semantics.specs.Views.{name_of}
 use Rattle.semantics.specs.World.{fresh_object}
@@ -68,7 +67,7 @@ answer_view classes answer.Frees = Frees 1
 answer_view classes (answer.Owns n count) = Owns n.number count
 answer_view classes (answer.Disowns n) = Disowns n.number
 answer_view classes (answer.Calls m) = Calls (method_view m)
-answer_view classes (answer.Halts trap) = Halts (trap_view trap)
+answer_view classes (answer.Halts trap) = Halts trap
 
 -- what a call does: the run stops by the first check that fails, or else it does what its function answers
 abbrev pub answered : Option Trap → Answer → Answer
@@ -76,9 +75,9 @@ answered (Some trap) a = Halts trap
 answered None a = a
 
 -- the answer of a function to a call that this caller makes in this scene, all checks being passed
-abbrev pub scene_answer : Scene → Caller → FunctionInMemory → List ActualInMemory → Answer
+abbrev pub scene_answer : Scene → Caller → JniFunction → List ActualInMemory → Answer
 scene_answer scene caller f actuals =
-    call_answer (unit_tree caller.unit.now) scene.classes.now caller.thread (scene_sight scene f actuals) (function_value f)
+    call_answer (unit_tree caller.unit.now) scene.classes.now caller.thread (scene_sight scene f actuals) f
 
 -- ---- what the table gives of each answer
 
@@ -139,7 +138,7 @@ abbrev pub done_view : Heap → List Actual → Done → Coming
 done_view heap args (done.Gives g) = Gave (given_view g)
 done_view heap args (done.Lends b) = Gave (BufferResult (lent_view heap b))
 done_view heap args (done.Calls x) = Enters x.now (map passed_value (drop 2 args))
-done_view heap args (done.Halts trap) = Stops (trap_view trap)
+done_view heap args (done.Halts trap) = Stops trap
 
 -- a thread with these variables and frames and this pending exception
 abbrev pub with_locals : Thread → Locals → (pending : Option ObjectId) → Thread

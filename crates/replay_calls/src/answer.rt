@@ -4,13 +4,11 @@ ghost use Rattle.std.specs.Prelude.{◌≡◌, [], false, length, map, pos, slic
 ghost use Rattle.std.specs.Option.{option_map};
 ghost use Rattle.classes.specs.FieldViews.{field_id_view};
 ghost use Rattle.base.specs.Bytes.{lookup};
-ghost use Rattle.base.specs.Element.{element_value};
 ghost use Rattle.class_rules.specs.Class.{Classes, class_kind, element_class};
 ghost use Rattle.class_rules.specs.ClassIds.{number_of};
 ghost use Rattle.class_rules.specs.Fields.{find_field, find_static};
 ghost use Rattle.class_rules.specs.Grown.{IsGrown};
 ghost use Rattle.jni.specs.Subjects.{subject_of};
-ghost use Rattle.jni.specs.Table.{function_value};
 ghost use Rattle.jni.specs.declared.subject.Subject.TheVariants as subject;
 ghost use Rattle.syntax.specs.Views.{unit_tree};
 ghost use Rattle.semantics.specs.AnswerTable.{element_given, element_set, ensured, fits, found_class, found_field, found_method, global_deleted, index_within, local_deleted, method_called, new_array, pushed, weak_deleted};
@@ -154,11 +152,11 @@ pub fn answer_or_trap<'a>(
 ) -> Answer<'a>
     requires { IsGrown scene.classes.now }
     ensures answer { answer_view scene.entry.classes.now result
-        ≡ answered (trap_of scene.entry.classes.now (scene_sight scene.entry function actuals.now) (element_value caller.entry.element)
-        (function_value function))
+        ≡ answered (trap_of scene.entry.classes.now (scene_sight scene.entry function actuals.now) caller.entry.element
+        function)
         (scene_answer scene.entry caller.entry function actuals.now) }
     ensures fits { FitsCall scene.entry.shared.now.store
-        (array_given (variables_view scene.entry.locals.now.variables) (map actual_view actuals.now)) (function_value function)
+        (array_given (variables_view scene.entry.locals.now.variables) (map actual_view actuals.now)) function
         (answer_view scene.entry.classes.now result) }
 {
     match check(scene, caller.element, function, actuals) {
@@ -199,7 +197,7 @@ fn class_answer<'a>(
     function: JniFunction,
     actuals: &[Actual<'a>],
 ) -> Answer<'a>
-    requires { subject_of (function_value function) ≡ subject.Classes }
+    requires { subject_of function ≡ subject.Classes }
     ensures { answer_view scene.entry.classes.now result ≡ scene_answer scene.entry caller.entry function actuals.now }
 {
     let (classes, store) = (scene.classes, &scene.shared.store);
@@ -241,7 +239,7 @@ fn reference_answer<'a>(
     function: JniFunction,
     actuals: &[Actual<'a>],
 ) -> Answer<'a>
-    requires { subject_of (function_value function) ≡ subject.References }
+    requires { subject_of function ≡ subject.References }
     ensures { answer_view scene.entry.classes.now result ≡ scene_answer scene.entry caller.entry function actuals.now }
 {
     match function {
@@ -271,7 +269,7 @@ fn field_answer<'a>(
     function: JniFunction,
     actuals: &[Actual<'a>],
 ) -> Answer<'a>
-    requires subject { subject_of (function_value function) ≡ subject.Fields }
+    requires subject { subject_of function ≡ subject.Fields }
     requires grown { IsGrown scene.classes.now }
     ensures { answer_view scene.entry.classes.now result ≡ scene_answer scene.entry caller.entry function actuals.now }
 {
@@ -313,7 +311,7 @@ fn static_answer<'a>(
     function: JniFunction,
     actuals: &[Actual<'a>],
 ) -> Answer<'a>
-    requires subject { subject_of (function_value function) ≡ subject.Statics }
+    requires subject { subject_of function ≡ subject.Statics }
     requires grown { IsGrown scene.classes.now }
     ensures { answer_view scene.entry.classes.now result ≡ scene_answer scene.entry caller.entry function actuals.now }
 {
@@ -355,7 +353,7 @@ fn array_answer<'a>(
     function: JniFunction,
     actuals: &[Actual<'a>],
 ) -> Answer<'a>
-    requires { subject_of (function_value function) ≡ subject.Arrays }
+    requires { subject_of function ≡ subject.Arrays }
     ensures { answer_view scene.entry.classes.now result ≡ scene_answer scene.entry caller.entry function actuals.now }
 {
     let (classes, store) = (scene.classes, &scene.shared.store);

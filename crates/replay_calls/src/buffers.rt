@@ -5,7 +5,6 @@ ghost use Rattle.std.specs.Option.{option_map};
 ghost use Rattle.base.specs.Limits.{most_copied, most_views};
 ghost use Rattle.class_rules.specs.Class.{Classes};
 ghost use Rattle.jni.specs.Subjects.{subject_of};
-ghost use Rattle.jni.specs.Table.{function_value};
 ghost use Rattle.jni.specs.declared.subject.Subject.TheVariants as subject;
 ghost use Rattle.semantics.specs.Answer.{freed_if, with_copied_back};
 ghost use Rattle.semantics.specs.AnswerTable.{released};
@@ -13,7 +12,6 @@ ghost use Rattle.semantics.specs.CallEffects.{BufferResult};
 ghost use Rattle.semantics.specs.CallStep.{tell_copy};
 ghost use Rattle.semantics.specs.Heap.{Heap, numbers_of};
 ghost use Rattle.semantics.specs.Variable.{Copy, NoBuffer, View};
-ghost use Rattle.semantics.specs.Views.{mode_view};
 ghost use Rattle.replay_calls.specs.Answers.{answer_view, scene_answer};
 ghost use Rattle.replay_terms.specs.Views.{in_use_view, lent_view, variables_view};
 
@@ -36,7 +34,7 @@ pub(crate) fn buffer_answer<'a>(
     function: JniFunction,
     actuals: &[Actual<'a>],
 ) -> Answer<'a>
-    requires { subject_of (function_value function) ≡ subject.Buffers }
+    requires { subject_of function ≡ subject.Buffers }
     ensures { answer_view scene.entry.classes.now result ≡ scene_answer scene.entry caller.entry function actuals.now }
 {
     let object = object_given(actuals, 0);
@@ -55,7 +53,7 @@ pub(crate) fn buffer_answer<'a>(
 
 /// What a release of a copy in this mode does.
 fn released<'a>(object: ObjectId, mode: ReleaseMode) -> Answer<'a>
-    ensures { (cs : Classes) → answer_view cs result ≡ released object.number (mode_view mode) }
+    ensures { (cs : Classes) → answer_view cs result ≡ released object.number mode }
 {
     match mode {
         ReleaseMode::CopyBackAndFree => Answer::CopiesBack {

@@ -4,7 +4,6 @@
 ghost use Rattle.std.specs.Prelude.{◌≡◌, ◌++◌, ℕ, IfOk, List, Some, map, negsuc};
 ghost use Rattle.std.specs.Option.{option_to_list};
 ghost use Rattle.class_rules.specs.Class.{Classes};
-ghost use Rattle.jni.specs.Table.{function_value, result_value};
 ghost use Rattle.semantics.specs.Answer.{effect_of};
 ghost use Rattle.semantics.specs.Arguments.{Actual as ActualOfCall};
 ghost use Rattle.semantics.specs.CallEffects.{ScalarResult, out_of_memory};
@@ -54,8 +53,8 @@ pub fn carry_out<'a>(
     answer: Answer<'a>,
 ) -> Result<Done<'a>, AllocError>
     requires { FitsCall shared.old.store (array_given (variables_view locals.old.variables) (map actual_view actuals.now))
-        (function_value function) (answer_view turn.classes.now answer) }
-    ensures { IfOk result (λ did. CarriesOut turn.entry (function_value function) actuals.now answer.entry shared.old locals.old pending.old did
+        function (answer_view turn.classes.now answer) }
+    ensures { IfOk result (λ did. CarriesOut turn.entry function actuals.now answer.entry shared.old locals.old pending.old did
         shared.new locals.new pending.new) }
 {
     match answer {
@@ -191,7 +190,7 @@ fn refuse_frames<'a>(classes: &ClassTable, pending: &mut Option<ObjectId>) -> Gi
 
 /// Puts what a call of this kind of result gave into the current frame, if it is a new local reference.
 pub fn put_local(frames: &mut Frames, kind: ResultKind, given: Given<'_>) -> Result<(), AllocError>
-    ensures { IfOk result (λ _. frames.new ≡ frames_with (result_value kind) (given_view given.entry) frames.old) }
+    ensures { IfOk result (λ _. frames.new ≡ frames_with kind (given_view given.entry) frames.old) }
 {
     match (kind, given) {
         (ResultKind::NewLocal, Given::Reference(Some(name))) => frames.receive(name),
@@ -227,7 +226,7 @@ pub fn refuse<'a>(
     kind: ResultKind,
 ) -> Given<'a>
     ensures pending { name_of pending.new ≡ Some (out_of_memory classes.now) }
-    ensures given { given_view result ≡ failure (result_value kind) }
+    ensures given { given_view result ≡ failure kind }
 {
     run_out(classes, pending);
     failed(kind)
@@ -244,7 +243,7 @@ fn run_out(classes: &ClassTable, pending: &mut Option<ObjectId>)
 /// What a call of this kind of result gives where it fails: NULL, -1 or nothing (JNI Specification, chapter 2,
 /// "Exceptions and Error Codes").
 fn failed<'a>(kind: ResultKind) -> Given<'a>
-    ensures { given_view result ≡ failure (result_value kind) }
+    ensures { given_view result ≡ failure kind }
 {
     match kind {
         ResultKind::NewLocal | ResultKind::NewGlobal | ResultKind::NewWeak => Given::Null,

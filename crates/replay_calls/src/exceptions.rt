@@ -2,7 +2,6 @@
 
 ghost use Rattle.std.specs.Prelude.{◌≡◌};
 ghost use Rattle.jni.specs.Subjects.{subject_of};
-ghost use Rattle.jni.specs.Table.{function_value};
 ghost use Rattle.jni.specs.declared.subject.Subject.TheVariants as subject;
 ghost use Rattle.replay_calls.specs.Answers.{answer_view, scene_answer};
 
@@ -22,7 +21,7 @@ pub(crate) fn exception_answer<'a>(
     function: JniFunction,
     actuals: &[Actual<'a>],
 ) -> Answer<'a>
-    requires { subject_of (function_value function) ≡ subject.Exceptions }
+    requires { subject_of function ≡ subject.Exceptions }
     ensures { answer_view scene.entry.classes.now result ≡ scene_answer scene.entry caller.entry function actuals.now }
 {
     match function {

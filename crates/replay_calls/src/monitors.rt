@@ -4,7 +4,6 @@ ghost use Rattle.std.specs.Prelude.{◌≡◌};
 ghost use Rattle.std.specs.Option.{option_map};
 ghost use Rattle.class_rules.specs.Class.{Classes};
 ghost use Rattle.jni.specs.Subjects.{subject_of};
-ghost use Rattle.jni.specs.Table.{function_value};
 ghost use Rattle.jni.specs.declared.subject.Subject.TheVariants as subject;
 ghost use Rattle.semantics.specs.AnswerTable.{monitor_entered, monitor_left};
 ghost use Rattle.replay_calls.specs.Answers.{answer_view, scene_answer};
@@ -29,7 +28,7 @@ pub(crate) fn monitor_answer<'a>(
     function: JniFunction,
     actuals: &[Actual<'a>],
 ) -> Answer<'a>
-    requires { subject_of (function_value function) ≡ subject.Monitors }
+    requires { subject_of function ≡ subject.Monitors }
     ensures { answer_view scene.entry.classes.now result ≡ scene_answer scene.entry caller.entry function actuals.now }
 {
     let object = object_given(actuals, 0);

@@ -6,7 +6,6 @@ ghost use Rattle.base.specs.Bytes.{lookup};
 ghost use Rattle.class_rules.specs.BuiltIns.{array_index_out_of_bounds};
 ghost use Rattle.class_rules.specs.Class.{Classes};
 ghost use Rattle.jni.specs.Subjects.{subject_of};
-ghost use Rattle.jni.specs.Table.{function_value};
 ghost use Rattle.jni.specs.declared.subject.Subject.TheVariants as subject;
 ghost use Rattle.semantics.specs.Answer.{GetsRegion, SetsRegion, with_region_got, with_region_set};
 ghost use Rattle.semantics.specs.AnswerTable.{region_with, region_within};
@@ -38,7 +37,7 @@ pub(crate) fn region_answer<'a>(
     function: JniFunction,
     actuals: &[Actual<'a>],
 ) -> Answer<'a>
-    requires { subject_of (function_value function) ≡ subject.Regions }
+    requires { subject_of function ≡ subject.Regions }
     ensures { answer_view scene.entry.classes.now result ≡ scene_answer scene.entry caller.entry function actuals.now }
 {
     let (store, variables) = (&scene.shared.store, &scene.locals.variables);

@@ -33,7 +33,6 @@ use Rattle.replay_tasks.specs.Tasks.{Begins, BegunInRange, branch_task, task_vie
 use Rattle.replay_tasks.proofs.EffectLemmas.{block_tasks}
 use Rattle.replay_tasks.proofs.RangeLemmas.{entered_in_range}
 use Rattle.replay_steps.proofs.TaskLemmas.{same_scene}
-use Rattle.semantics.specs.EventViews.{trap_view}
 use Rattle.replay_terms.specs.Views.{Contents}
 
 -- ---- blocks around the one in progress
@@ -232,7 +231,7 @@ module _ (refused : Bool) (before between : Scene) (statics : Statics) (heap : H
         let same : todo ≡ tasks_left new = sym (left_with (Some left) a.task a.rest a.outer) in
         ap (called_in line x.now todo) (leaves between.shared (with_tasks (within t) todo) (holds t todo))
         ∙ ap (λ (ts : List Task). calling_by shared' (thread_in t ts after) line x.now (Some ts)) same
-    left_in (outcome.Trapped trap line) leaves a = left_alone (Trapped (trap_view trap) line) (task_view left ∷ rest) leaves (left_with (Some left) a.task a.rest a.outer)
+    left_in (outcome.Trapped trap line) leaves a = left_alone (Trapped trap line) (task_view left ∷ rest) leaves (left_with (Some left) a.task a.rest a.outer)
     left_in outcome.Impossible leaves a = refl
 
   -- what the task's step does is done to the call

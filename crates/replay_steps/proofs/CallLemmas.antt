@@ -3,13 +3,16 @@ use Rattle.std.proofs.Common.{◌≡◌, ℕ, Bool, true, false, not, List, [], 
 use Rattle.std.specs.Prelude.{◌&&◌, ◌||◌, pos, drop, map, nat_le, if◌then◌else◌, is_some}
 use Rattle.std.specs.List.{list_any}
 use Rattle.base.specs.Bytes.{Identifier}
-use Rattle.base.specs.Element.{ElementType}
-use Rattle.syntax.specs.Tree.{ResultType, SourceUnit}
+use Rattle.base.specs.declared.element.ElementType.{ElementType}
+use Rattle.syntax.specs.declared.unit.ResultType.{ResultType}
+use Rattle.syntax.specs.Tree.{SourceUnit}
 use Rattle.class_rules.specs.Class.{Classes}
-use Rattle.jni.specs.Access.{ElementsCopy, ArrayView, CharsCopy, CharsView}
-use Rattle.jni.specs.JniFunction.{JniFunction, GetBuffer, ReleaseBuffer, PopLocalFrame, CallStaticVoidMethod, CallStaticIntMethod, CallStaticObjectMethod, calls_method, is_allowed_pending, prototype}
-use Rattle.jni.specs.Prototype.{ResultKind, NewLocal}
-use Rattle.jni.specs.Table.{function_value}
+use Rattle.jni.specs.declared.access.Access.TheVariants.{ElementsCopy, ArrayView, CharsCopy, CharsView}
+use Rattle.jni.specs.declared.function.JniFunction.{JniFunction}
+use Rattle.jni.specs.declared.function.JniFunction.TheVariants.{GetBuffer, ReleaseBuffer, PopLocalFrame, CallStaticVoidMethod, CallStaticIntMethod, CallStaticObjectMethod}
+use Rattle.jni.specs.JniFunction.{calls_method, is_allowed_pending, prototype}
+use Rattle.jni.specs.declared.kinds.ResultKind.{ResultKind}
+use Rattle.jni.specs.declared.kinds.ResultKind.TheVariants.{NewLocal}
 use Rattle.semantics.specs.Answer.{Answer, Calls, Ensures, Halts, Pushes, effect_of}
 use Rattle.semantics.specs.AnswerTable.{call_answer, method_called}
 use Rattle.semantics.specs.CallSight.{ArgumentSight, CallSight, call_seen}
@@ -25,7 +28,9 @@ use Rattle.semantics.specs.Object.{ObjectValue, Reference}
 use Rattle.semantics.specs.Task.{Target, Task}
 use Rattle.semantics.specs.Thread.{BuffersInUse, Frame, Thread, Shared, Quiet, Trapped, Advance, Advances, capacities}
 use Rattle.semantics.specs.ThreadStep.{with_tasks}
-use Rattle.semantics.specs.Value.{Int, Trap, CallsTooDeep, DeletedReference, ExceptionPending, NoCapacity, NullReference, WrongObject}
+use Rattle.semantics.specs.declared.trap.Trap.{Trap}
+use Rattle.semantics.specs.declared.trap.Trap.TheVariants.{CallsTooDeep, DeletedReference, ExceptionPending, NoCapacity, NullReference, WrongObject}
+use Rattle.semantics.specs.Value.{Int}
 use Rattle.semantics.specs.Variable.{Buffer, Variables}
 use Rattle.semantics.proofs.CheckLaws.{lacks_without, passed, together_without}
 use Rattle.replay_calls.specs.Answers.{answered, Coming, Gave, Left, Stops, FitsCall, array_given, frames_with, left_of}
@@ -48,8 +53,6 @@ use Rattle.replay_terms.specs.declared.given.Given.{Given}
 use Rattle.replay_terms.specs.declared.given.Given.TheVariants as given
 use Rattle.replay_terms.specs.declared.given.Lent.{Lent}
 use Rattle.std.specs.Borrow.{Bor}
-use Rattle.semantics.specs.EventViews.{trap_view}
-use Rattle.semantics.specs.declared.trap.Trap.{Trap as TrapInMemory}
 
 -- ---- the depth of calls
 
@@ -274,7 +277,7 @@ module _ (unit : SourceUnit) (classes : Classes) (in_use : BuffersInUse) (k : �
   before = scene_with unit classes in_use k s vs frames pending
 
   abbrev f : JniFunction
-  f = function_value i.function
+  f = i.function
 
   abbrev target : Target
   target = purpose_view line i.purpose
@@ -361,13 +364,13 @@ module _ (unit : SourceUnit) (classes : Classes) (in_use : BuffersInUse) (k : �
       ∙ ap (λ (us : Variables). left_by k s' (in_locals t us under pending') rest (lent_outcome line i.purpose b) new) (sym varied))
 
   -- the run stops
-  pub call_halts : (refused : Bool) (trap : TrapInMemory) (s' : Shared) (vs' : Contents) (frames' : List Frame) (pending' : Reference) → HasAnswer before i args a → refused ≡ false
-      → IsLeft s' vs' frames' pending' (Stops (trap_view trap))
+  pub call_halts : (refused : Bool) (trap : Trap) (s' : Shared) (vs' : Contents) (frames' : List Frame) (pending' : Reference) → HasAnswer before i args a → refused ≡ false
+      → IsLeft s' vs' frames' pending' (Stops trap)
       → MakesCall refused before line i.purpose f args (outcome.Trapped trap line) (scene_with unit classes in_use k s' vs' frames' pending')
   call_halts refused trap s' vs' frames' pending' has possible left =
       rw possible (λ t rest new sees todo finds.
-      goes_on has t rest sees (record { shared = s'; thread = in_locals t (variables_view vs') frames' pending'; coming = Stops (trap_view trap) }) (left t)
-      ∙ ap (λ (u : Thread). Advances s' u (Trapped (trap_view trap) line)) (same_thread (in_locals t (variables_view vs') frames' pending') (task_view new ∷ rest) todo))
+      goes_on has t rest sees (record { shared = s'; thread = in_locals t (variables_view vs') frames' pending'; coming = Stops trap }) (left t)
+      ∙ ap (λ (u : Thread). Advances s' u (Trapped trap line)) (same_thread (in_locals t (variables_view vs') frames' pending') (task_view new ∷ rest) todo))
 
   -- where a method is called, nothing else is done
   same_before : (u : Thread) (e : CallEffect) (l : Left) (x : Identifier) (values : List ObjectValue) → left_of classes (prototype f).result s u e ≡ l → l.coming ≡ replay.Enters x values → (l.shared ≡ s) × (l.thread ≡ u)

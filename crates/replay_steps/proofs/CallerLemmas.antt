@@ -5,8 +5,7 @@ use Rattle.base.specs.Bytes.{Identifier}
 use Rattle.base.specs.Limits.{most_activations}
 use Rattle.syntax.specs.declared.stmt.Stmt.{Stmt}
 use Rattle.jni.specs.JniFunction.{prototype}
-use Rattle.jni.specs.Prototype.{ResultKind}
-use Rattle.jni.specs.Table.{function_value}
+use Rattle.jni.specs.declared.kinds.ResultKind.{ResultKind}
 use Rattle.semantics.specs.CallEffects.{CallResult}
 use Rattle.semantics.specs.CallStep.{put, received}
 use Rattle.semantics.specs.Heap.{Heap}
@@ -15,7 +14,7 @@ use Rattle.semantics.specs.Return.{given_back, return_into, resumed_in}
 use Rattle.semantics.specs.Sight.{seen}
 use Rattle.semantics.specs.Task.{Target, Task, SetScalar, SetElement, SetNull, MakeArray, Invoke, Print, Branch, EndIf, Loop, EndTurn, Return, ReturnValue, Impossible}
 use Rattle.semantics.specs.Thread.{Advance, Advances, Caller, Frame, NoAdvance, Quiet, Shared, Thread, Trapped}
-use Rattle.semantics.specs.Value.{CallsTooDeep}
+use Rattle.semantics.specs.declared.trap.Trap.TheVariants.{CallsTooDeep}
 use Rattle.semantics.specs.Variable.{Statics, Variables}
 use Rattle.replay_calls.specs.Answers.{frames_with}
 use Rattle.replay_arguments.specs.Shares.{sight_in}
@@ -41,7 +40,7 @@ module _ (s : Shared) (pending : Reference) (given : CallResult) (old new : Acti
   abbrev result : CallResult
   result = given_view g
 
-  pub resumes : kind ≡ (prototype (function_value i.function)).result → result ≡ given_back pending kind given → fs ≡ frames_with kind result old.locals.frames
+  pub resumes : kind ≡ (prototype i.function).result → result ≡ given_back pending kind given → fs ≡ frames_with kind result old.locals.frames
       → ((line : ℕ) (heap : Heap) → LeavesVariables (length fs) s.statics heap old.locals.variables (put (purpose_view line i.purpose) result) statics heap new.locals.variables)
       → new.locals.frames ≡ fs → tasks_left new.work ≡ tasks_after old.work.rest old.work.outer.items
       → Resumes s pending given old (record s { statics = statics }) new
@@ -102,11 +101,11 @@ none_called s a line x at none = λ t. by_task s t line x a.work.task a.work.res
 
 -- another makes the one that it asks for
 module _ (s : Shared) (a : Activation) (line : ℕ) (x : Identifier) (i : Invocation) (is : a.work.task ≡ Some (task.Invoke i)) (at : IsAtStatement a.work) (passed : List ObjectValue)
-    (given : passed ≡ values_passed (sight_in s a.locals.variables) (function_value i.function) (operands_view i.operands)) where
+    (given : passed ≡ values_passed (sight_in s a.locals.variables) i.function (operands_view i.operands)) where
   abbrev waits : Caller
   waits = record {
     target = purpose_view i.line i.purpose;
-    result = (prototype (function_value i.function)).result;
+    result = (prototype i.function).result;
     tasks = tasks_after a.work.rest a.work.outer.items;
     variables = variables_view a.locals.variables;
     frames = a.locals.frames;
@@ -125,7 +124,7 @@ module _ (s : Shared) (a : Activation) (line : ℕ) (x : Identifier) (i : Invoca
     stands = record { call = subst (λ (o : Option TaskInMemory). CallStands o waits) (sym is) (refl, refl); tasks = refl; variables = refl; frames = refl };
     calls = λ t held framed.
         ap (λ (o : Option TaskInMemory). calling_by s t line x (Some (tasks_from o (tasks_after a.work.rest a.work.outer.items)))) is
-        ∙ ap (λ (vs : Variables). waits_with t vs t.frames (values_passed (seen vs s.statics s.heap) (function_value i.function) (operands_view i.operands))) held
-        ∙ ap (λ (fs : List Frame). waits_with t (variables_view a.locals.variables) fs (values_passed (sight_in s a.locals.variables) (function_value i.function) (operands_view i.operands))) framed
+        ∙ ap (λ (vs : Variables). waits_with t vs t.frames (values_passed (seen vs s.statics s.heap) i.function (operands_view i.operands))) held
+        ∙ ap (λ (fs : List Frame). waits_with t (variables_view a.locals.variables) fs (values_passed (sight_in s a.locals.variables) i.function (operands_view i.operands))) framed
         ∙ ap (waits_with t (variables_view a.locals.variables) a.locals.frames) (sym given);
   }

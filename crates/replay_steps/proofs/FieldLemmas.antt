@@ -1,14 +1,12 @@
 -- Calls that read or write a number of an object take their step in one go.
 use Rattle.std.proofs.Common.{◌≡◌, ℕ, ℤ, Bool, true, false, List, [], ◌∷◌, ◌++◌, map, Some, None, Option, refl, sym, ap, ◌∙◌, append-nil}
 use Rattle.base.specs.Bytes.{Identifier}
-use Rattle.base.specs.Element.{ElementType, element_value}
-use Rattle.base.specs.declared.element.ElementType.{ElementType as ElementInMemory}
+use Rattle.base.specs.declared.element.ElementType.{ElementType}
 use Rattle.syntax.specs.Tree.{SourceUnit}
 use Rattle.class_rules.specs.Class.{Classes}
 use Rattle.class_rules.specs.Fields.{FieldId}
-use Rattle.jni.specs.JniFunction.{JniFunction, GetField, SetField}
-use Rattle.jni.specs.Table.{function_value}
-use Rattle.jni.specs.declared.function.JniFunction.{JniFunction as FunctionInMemory}
+use Rattle.jni.specs.declared.function.JniFunction.{JniFunction}
+use Rattle.jni.specs.declared.function.JniFunction.TheVariants.{GetField, SetField}
 use Rattle.jni.specs.declared.function.JniFunction.TheVariants as function
 use Rattle.semantics.specs.Answer.{effect_of}
 use Rattle.semantics.specs.AnswerTable.{call_answer, call_effect}
@@ -24,7 +22,8 @@ use Rattle.semantics.specs.Task.{Invoke, NumberOperand, Operand, Target, Task}
 use Rattle.semantics.specs.Term.{Done}
 use Rattle.semantics.specs.Thread.{Advance, Advances, BuffersInUse, Frame, Quiet, Shared, Thread, sight_of}
 use Rattle.semantics.specs.ThreadStep.{step_within}
-use Rattle.semantics.specs.Value.{Int, Trap, convert}
+use Rattle.semantics.specs.declared.trap.Trap.{Trap}
+use Rattle.semantics.specs.Value.{Int, convert}
 use Rattle.semantics.specs.Variable.{Live}
 use Rattle.replay_steps.specs.declared.activation.Activation.{Activation}
 use Rattle.replay_steps.specs.declared.activation.Work.{Work}
@@ -164,15 +163,15 @@ module _ (classes : Classes) (s : Shared) (vs : Contents) (T : ElementType) (x y
         ∙ write_steps unit classes in_use k s it refl line (target_view targets.Dropped) rest x n names.field T names.has z
         ∙ ap (λ (p : ℕ). let s' : Shared = record s { heap = with_value_at s.heap n p (Number (convert T z)) } in Advances s' over Quiet) (sym names.is)
 
-module _ (classes : Classes) (s : Shared) (vs : Contents) (element : ElementInMemory) (x y : Identifier) (n place : ℕ) (names : NamesNumber classes s vs (element_value element) x y n place) (i : Invocation) where
+module _ (classes : Classes) (s : Shared) (vs : Contents) (element : ElementType) (x y : Identifier) (n place : ℕ) (names : NamesNumber classes s vs element x y n place) (i : Invocation) where
   abbrev T : ElementType
-  T = element_value element
+  T = element
 
   -- the call as the language has it
   abbrev call_with : Purpose → JniFunction → List Operand → Task
   call_with p f operands = Invoke i.line (purpose_view i.line p) f operands
 
-  call_is : (p : Purpose) (f : FunctionInMemory) (operands : List Operand) → i.purpose ≡ p → i.function ≡ f → operands_view i.operands ≡ operands → task_view (task.Invoke i) ≡ call_with p (function_value f) operands
+  call_is : (p : Purpose) (f : JniFunction) (operands : List Operand) → i.purpose ≡ p → i.function ≡ f → operands_view i.operands ≡ operands → task_view (task.Invoke i) ≡ call_with p f operands
   call_is p f operands of_purpose of_function with = rw (of_purpose, of_function, with) refl
 
   -- the step of a thread of the scene is that of the thread in it, whose task is told so

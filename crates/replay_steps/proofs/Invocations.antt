@@ -8,7 +8,6 @@ use Rattle.base.specs.Bytes.{Identifier}
 use Rattle.base.proofs.Lists.{set_same}
 use Rattle.std.proofs.lemmas.Bool.Decides.{nat_tests}
 use Rattle.class_rules.specs.Class.{Classes}
-use Rattle.jni.specs.Table.{function_value}
 use Rattle.semantics.specs.Arguments.{Actual, actuals}
 use Rattle.semantics.specs.Effect.{Becomes, Calls, effect_of, goes_on, is_no_number, is_ready, reduce_first, reduce_name, reduce_number, is_given}
 use Rattle.semantics.specs.Sight.{Sight}
@@ -214,7 +213,7 @@ module _ (sight : Sight) where
 
   module _ (i i' : Invocation) (line : i'.line ≡ i.line) (purpose : i'.purpose ≡ i.purpose) (function : i'.function ≡ i.function) where
     abbrev whole : List source.Operand → source.Task
-    whole os = source.Invoke i.line (purpose_view i.line i.purpose) (function_value i.function) os
+    whole os = source.Invoke i.line (purpose_view i.line i.purpose) i.function os
 
     abbrev before : List source.Operand
     before = operands_view i.operands
@@ -244,17 +243,17 @@ module _ (scene : Scene) where
   variables = scene.variables
 
   module _ (i i' : Invocation) (scene' : Scene) (same : task_view (task.Invoke i') ≡ task_view (task.Invoke i)) (ready : is_ready (sight_in s variables).number (operands_view i.operands) ≡ true)
-      (args : List Actual) (looked_up : args ≡ actuals (sight_in s variables) (function_value i.function) (operands_view i.operands)) where
-    calls : (t : Thread) → Sees scene t → effect_of (sight_of s t) (task_view (task.Invoke i)) ≡ Calls i.line (purpose_view i.line i.purpose) (function_value i.function) args
+      (args : List Actual) (looked_up : args ≡ actuals (sight_in s variables) i.function (operands_view i.operands)) where
+    calls : (t : Thread) → Sees scene t → effect_of (sight_of s t) (task_view (task.Invoke i)) ≡ Calls i.line (purpose_view i.line i.purpose) i.function args
     calls t sees =
         ap (λ (sight : Sight). effect_of sight (task_view (task.Invoke i))) (sees_so scene t sees)
         ∙ rw (ready, looked_up) refl
 
-    finds : FindsArguments scene i.line i.purpose (function_value i.function) args (task_view (task.Invoke i'))
+    finds : FindsArguments scene i.line i.purpose i.function args (task_view (task.Invoke i'))
     finds = record { operands = operands_view i.operands; is = same; found = looked_up }
 
     -- the call's own step is the step of the task
-    pub call_does : (refused : Bool) (took : Outcome) → MakesCall refused scene i.line i.purpose (function_value i.function) args took scene' → Does refused scene (task.Invoke i) took scene' (task.Invoke i')
+    pub call_does : (refused : Bool) (took : Outcome) → MakesCall refused scene i.line i.purpose i.function args took scene' → Does refused scene (task.Invoke i) took scene' (task.Invoke i')
     call_does false took makes = λ t rest sees has.
         ap (after_effect scene.unit classes scene.in_use scene.thread s t rest) (calls t sees)
         ∙ makes t rest (task.Invoke i') sees (has ∙ ap (λ (u : source.Task). let o : Option (List source.Task) = Some (u ∷ rest) in o) (sym same)) finds
@@ -268,4 +267,4 @@ module _ (scene : Scene) where
   invocation_does i i' scene' line purpose function operands ready refused took makes =
       let before = operands_view i.operands in
       let same = same_call (sight_in s variables) i i' line purpose function before (ap operands_view operands) in
-      call_does i i' scene' same ready (actuals (sight_in s variables) (function_value i.function) before) refl refused took (rw (line, purpose, function, operands) at makes)
+      call_does i i' scene' same ready (actuals (sight_in s variables) i.function before) refl refused took (rw (line, purpose, function, operands) at makes)

@@ -15,7 +15,6 @@ use Rattle.replay_tasks.specs.Effects.{effect_by, HasEffect}
 use Rattle.replay_steps.specs.Steps.{Scene, Sees, in_scene, left_by, Does}
 use Rattle.replay_tasks.specs.Tasks.{task_view}
 use Rattle.replay_arguments.specs.Shares.{sight_in}
-use Rattle.semantics.specs.EventViews.{trap_view}
 use Rattle.replay_terms.specs.Views.{variables_view}
 
 -- what a thread can see, where it is so
@@ -74,8 +73,8 @@ module _ (scene : Scene) (old new : TaskInMemory) where
   does (outcome.Returned given) h = by_effect (outcome.Returned given) h (λ t rest has. refl)
   does (outcome.Calls line x) h = absurd h
   does (outcome.Trapped trap line) h = by_effect (outcome.Trapped trap line) h.0 (λ t rest has.
-      ap (λ (u : Thread). Advances shared u (Trapped (trap_view trap) line)) (same_thread t (task_view old ∷ rest) has)
-      ∙ ap (λ (u : Task). Advances shared (with_tasks t (u ∷ rest)) (Trapped (trap_view trap) line)) (sym h.1))
+      ap (λ (u : Thread). Advances shared u (Trapped trap line)) (same_thread t (task_view old ∷ rest) has)
+      ∙ ap (λ (u : Task). Advances shared (with_tasks t (u ∷ rest)) (Trapped trap line)) (sym h.1))
   does outcome.Impossible h = by_effect outcome.Impossible h (λ t rest has. refl)
 
   by_refusal : (took : Outcome) → effect_of sight (task_view old) ≡ effect_by took new

@@ -1,6 +1,7 @@
 -- A thread with other variables, frames and another pending exception.
 use Rattle.std.proofs.Common.{◌≡◌, List, Some, None, refl, ap, ◌∙◌}
-use Rattle.jni.specs.Prototype.{ResultKind, NewLocal}
+use Rattle.jni.specs.declared.kinds.ResultKind.{ResultKind}
+use Rattle.jni.specs.declared.kinds.ResultKind.TheVariants.{NewLocal}
 use Rattle.semantics.specs.CallStep.{received}
 use Rattle.semantics.specs.Object.{Reference}
 use Rattle.semantics.specs.Thread.{Frame, Thread}

@@ -3,10 +3,11 @@ use Rattle.std.proofs.Common.{◌≡◌, ℕ, ℤ, Bool, true, false, cond, List
 use Rattle.std.specs.Prelude.{◌&&◌, is_none}
 use Rattle.base.specs.Bytes.{Identifier}
 use Rattle.syntax.specs.declared.stmt.Stmt.{Stmt as StmtInMemory}
-use Rattle.syntax.specs.Tree.{SourceUnit, Expr, Block, True, False, Commit, Abort, Null}
+use Rattle.syntax.specs.declared.expr.Constant.TheVariants.{True, False, Commit, Abort, Null}
+use Rattle.syntax.specs.Tree.{SourceUnit, Expr, Block}
 use Rattle.class_rules.specs.Class.{Classes}
-use Rattle.jni.specs.JniFunction.{JniFunction, MonitorEnter}
-use Rattle.jni.specs.Table.{function_value}
+use Rattle.jni.specs.declared.function.JniFunction.{JniFunction}
+use Rattle.jni.specs.declared.function.JniFunction.TheVariants.{MonitorEnter}
 use Rattle.semantics.specs.Arguments.{Actual, actuals, object_given}
 use Rattle.semantics.specs.CallStep.{is_owned_by_other, target_element, waits_with}
 use Rattle.semantics.specs.Effect.{Effect, Becomes, Sets, SetsNull, SetsElement, MakesArray, Prints, Calls, Returns, TrapsAt, NoEffect, at_line, goes_on, with_value, print_effect, branch_effect, loop_effect, element_effect, returned_name, return_effect, call_effect_of, effect_of, is_ready, reduce_first}
@@ -17,7 +18,8 @@ use Rattle.semantics.specs.Term.{Term, Done, Number, Named, Read, Element, IsNul
 use Rattle.semantics.specs.Thread.{BuffersInUse, Frame, Thread, Shared, monitor_of}
 use Rattle.semantics.specs.ThreadStep.{next_effect, waits}
 use Rattle.semantics.specs.Variable.{StaticReference}
-use Rattle.semantics.specs.Value.{Value, Word, Int, Flag, Truth, Outcome, Gives, Traps, Stuck, Trap}
+use Rattle.semantics.specs.declared.trap.Trap.{Trap}
+use Rattle.semantics.specs.Value.{Value, Word, Int, Flag, Truth, Outcome, Gives, Traps, Stuck}
 use Rattle.replay_arguments.specs.Shares.{sight_in}
 use Rattle.replay_steps.specs.Activations.{tasks_from, tasks_around, tasks_after}
 use Rattle.replay_steps.specs.Steps.{scene_with}
@@ -27,7 +29,7 @@ use Rattle.replay_steps.specs.declared.activation.Work.{Work}
 use Rattle.replay_steps.proofs.ThreadLocals.{as_it_is, in_locals}
 use Rattle.semantics.specs.CallSight.{call_seen, sight_of_call}
 use Rattle.semantics.specs.Checks.{go_together, trap_of}
-use Rattle.base.specs.Element.{JInt}
+use Rattle.base.specs.declared.element.ElementType.TheVariants.{Int as JInt}
 use Rattle.replay_tasks.specs.Outcomes.{purpose_view}
 use Rattle.replay_tasks.specs.Tasks.{end_view, tasks_of_statements, task_view}
 use Rattle.replay_tasks.specs.declared.outcome.End.{End}
@@ -213,7 +215,7 @@ module _ (classes : Classes) (k : ℕ) (s : Shared) (vs : Contents) (frames : Li
   task_is (task.SetElement a) = free_task (task_view (task.SetElement a)) tt
   task_is (task.SetNull to) = free_task (task_view (task.SetNull to)) tt
   task_is (task.MakeArray T x n) = free_task (task_view (task.MakeArray T x n)) tt
-  task_is (task.Invoke i) = call_is i.line (purpose_view i.line i.purpose) (function_value i.function) (operands_view i.operands)
+  task_is (task.Invoke i) = call_is i.line (purpose_view i.line i.purpose) i.function (operands_view i.operands)
   task_is (task.Branch c) = free_task (task_view (task.Branch c)) tt
   task_is (task.Loop i) = free_task (task_view (task.Loop i)) tt
   task_is task.Return = free_task (task_view task.Return) tt

@@ -27,7 +27,6 @@ use Rattle.replay_tasks.specs.Outcomes.{result_view, variable_step, LeavesVariab
 use Rattle.replay_tasks.specs.Tasks.{branch_task, BegunInRange, task_view, end_view, statements_in, tasks_of_statements, StatementsInRange, TaskInRange, EndInRange}
 use Rattle.replay_terms.specs.declared.term.Term.TheVariants as term
 use Rattle.replay_terms.specs.declared.value.Value.TheVariants as value
-use Rattle.semantics.specs.EventViews.{trap_view}
 use Rattle.semantics.specs.declared.object_id.ObjectId.{ObjectId}
 
 -- the task that is begun, if there is one, and those after it
@@ -74,7 +73,7 @@ abbrev pub advance_by : (k : ℕ) → Shared → Thread → Outcome → Advance
 advance_by k s t (outcome.Printed z) = thread.Advances s t (PrintedNumber z)
 advance_by k s t (outcome.Returned given) = return_step k s t (result_view given)
 advance_by k s t (outcome.Calls line x) = calling_by s t line x.now t.tasks
-advance_by k s t (outcome.Trapped trap line) = thread.Advances s t (Trapped (trap_view trap) line)
+advance_by k s t (outcome.Trapped trap line) = thread.Advances s t (Trapped trap line)
 advance_by k s t outcome.Impossible = NoAdvance
 advance_by k s t took = thread.Advances s t Quiet
 

@@ -3,12 +3,11 @@ use Rattle.std.specs.Prelude.{◌≡◌, ◌+◌, if◌then◌else◌, nat_le, �
 use Rattle.base.specs.Bytes.{Identifier}
 use Rattle.base.specs.Limits.{most_activations}
 use Rattle.jni.specs.JniFunction.{prototype}
-use Rattle.jni.specs.Table.{function_value}
 use Rattle.semantics.specs.CallEffects.{CallResult}
 use Rattle.semantics.specs.Object.{Reference}
 use Rattle.semantics.specs.Return.{given_back, return_into}
 use Rattle.semantics.specs.Thread.{Advance, Advances, Caller, NoAdvance, Quiet, Shared, Thread, Trapped}
-use Rattle.semantics.specs.Value.{CallsTooDeep}
+use Rattle.semantics.specs.declared.trap.Trap.TheVariants.{CallsTooDeep}
 use Rattle.semantics.specs.Views.{object_value_view}
 use Rattle.semantics.specs.World.{Invocation}
 use Rattle.replay_steps.specs.Activations.{IsInRange, tasks_after, tasks_left}
@@ -34,7 +33,7 @@ pub record IsCalling (w : Work) : Type 0 where
 -- the task that is begun is the call whose result a caller waits for
 abbrev pub CallStands : Option TaskInMemory → Caller → Type 0
 CallStands (Some (task.Invoke i)) c =
-    (c.target ≡ purpose_view i.line i.purpose) × (c.result ≡ (prototype (function_value i.function)).result)
+    (c.target ≡ purpose_view i.line i.purpose) × (c.result ≡ (prototype i.function).result)
 CallStands o c = ⊥
 
 -- a call in memory stands for a caller: what is to do once the other is over comes after the task that is begun

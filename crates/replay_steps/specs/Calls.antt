@@ -1,9 +1,8 @@
 -- What a call in memory does.
 use Rattle.std.specs.Prelude.{◌≡◌, ℕ, Bool, true, false, List, ◌∷◌, map, Option, Some, None}
-use Rattle.jni.specs.JniFunction.{JniFunction}
-use Rattle.jni.specs.Table.{function_value}
+use Rattle.jni.specs.declared.function.JniFunction.{JniFunction}
 use Rattle.semantics.specs.Arguments.{Actual, actuals}
-use Rattle.base.specs.Element.{ElementType}
+use Rattle.base.specs.declared.element.ElementType.{ElementType}
 use Rattle.semantics.specs.CallStep.{call_step, target_element}
 use Rattle.semantics.specs.Effect.{is_given, is_ready, reduce_first}
 use Rattle.semantics.specs.Sight.{Sight}
@@ -28,7 +27,6 @@ use Rattle.semantics.specs.AnswerTable.{call_answer}
 use Rattle.semantics.specs.CallSight.{CallSight, call_seen}
 use Rattle.semantics.specs.Checks.{trap_of}
 use Rattle.replay_steps.specs.Steps.{Scene, Sees, in_scene, left_by}
-use Rattle.semantics.specs.EventViews.{trap_view}
 use Rattle.replay_terms.specs.Views.{Contents, operand_view, operands_view, variables_view}
 use Rattle.replay_arguments.specs.Shares.{sight_in}
 use Rattle.replay_tasks.specs.Tasks.{task_view}
@@ -38,7 +36,7 @@ abbrev pub ReducesFirstBy : {T : Type 0} → (T → List OperandOfCall) → Sigh
 ReducesFirstBy view sight old None new = (is_ready sight.number (view old) ≡ true) × (new ≡ old)
 ReducesFirstBy view sight old (Some reduction.Reduced) new = (is_ready sight.number (view old) ≡ false) × (reduce_first sight (view old) ≡ Gives (view new))
 ReducesFirstBy view sight old (Some (reduction.Trapped trap)) new =
-    (is_ready sight.number (view old) ≡ false) × (reduce_first sight (view old) ≡ Traps (trap_view trap)) × (new ≡ old)
+    (is_ready sight.number (view old) ≡ false) × (reduce_first sight (view old) ≡ Traps trap) × (new ≡ old)
 ReducesFirstBy view sight old (Some reduction.Stuck) new = (is_ready sight.number (view old) ≡ false) × (reduce_first sight (view old) ≡ Stuck)
 
 -- that of all of a call, and that of a list
@@ -73,13 +71,13 @@ MakesCall refused before line purpose f args took after =
 -- the same for an invocation with these arguments
 abbrev pub MakesCallOf : (refused : Bool) → Scene → Invocation → List Actual → Outcome → Scene → Type 0
 MakesCallOf refused before i args took after =
-    MakesCall refused before i.line i.purpose (function_value i.function) args took after
+    MakesCall refused before i.line i.purpose i.function args took after
 
 -- the same with its own arguments, which are looked up before it
 abbrev pub MakesInvocation : (refused : Bool) → Scene → Invocation → Outcome → Scene → Type 0
 MakesInvocation refused before i took after =
     MakesCallOf refused before i
-    (actuals (sight_in before.shared before.variables) (function_value i.function) (operands_view i.operands))
+    (actuals (sight_in before.shared before.variables) i.function (operands_view i.operands))
     took after
 
 -- what a call does with the buffer that it gives
@@ -94,11 +92,11 @@ wanted_element vs p = target_element (variables_view vs) (purpose_view 0 p)
 -- what an invocation with these arguments sees in this scene, where no other call waits for it
 abbrev pub seen_by : Scene → Invocation → List Actual → CallSight
 seen_by scene i args =
-    call_seen scene.shared (variables_view scene.variables) scene.frames 0 scene.pending (function_value i.function) args
+    call_seen scene.shared (variables_view scene.variables) scene.frames 0 scene.pending i.function args
 
 -- this is the answer to an invocation with these arguments, in this scene
 pub record HasAnswer (scene : Scene) (i : Invocation) (args : List Actual) (a : Answer) : Type 0 where
   pub is : a
-      ≡ answered (trap_of scene.classes (seen_by scene i args) (wanted_element scene.variables i.purpose) (function_value i.function))
-      (call_answer scene.unit scene.classes scene.thread (seen_by scene i args) (function_value i.function))
-  pub fits : FitsCall scene.shared.heap (array_given (variables_view scene.variables) args) (function_value i.function) a
+      ≡ answered (trap_of scene.classes (seen_by scene i args) (wanted_element scene.variables i.purpose) i.function)
+      (call_answer scene.unit scene.classes scene.thread (seen_by scene i args) i.function)
+  pub fits : FitsCall scene.shared.heap (array_given (variables_view scene.variables) args) i.function a

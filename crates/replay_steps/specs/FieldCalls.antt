@@ -1,7 +1,7 @@
 -- Calls that read or write a number of an object in one go, where names tell the object and the field.
 use Rattle.std.specs.Prelude.{◌≡◌, ℕ, ℤ, Bool, true, false, List, ◌∷◌, Some, None}
 use Rattle.base.specs.Bytes.{Identifier}
-use Rattle.base.specs.Element.{ElementType}
+use Rattle.base.specs.declared.element.ElementType.{ElementType}
 use Rattle.syntax.specs.Tree.{SourceUnit, Value, Variable}
 use Rattle.class_rules.specs.Class.{Classes, assignable}
 use Rattle.class_rules.specs.Fields.{FieldId}

@@ -2,7 +2,8 @@
 use Rattle.std.specs.Prelude.{◌≡◌, ◌+◌, ℕ, Bool, if◌then◌else◌, nat_le, List, [], ◌∷◌, ◌++◌, drop, length, map, Option, Some, None}
 use Rattle.base.specs.Bytes.{Identifier}
 use Rattle.base.specs.Limits.{most_activations}
-use Rattle.jni.specs.JniFunction.{JniFunction, prototype}
+use Rattle.jni.specs.declared.function.JniFunction.{JniFunction}
+use Rattle.jni.specs.JniFunction.{prototype}
 use Rattle.syntax.specs.Tree.{SourceUnit}
 use Rattle.syntax.specs.Views.{block_tree, unit_tree}
 use Rattle.class_rules.specs.Class.{Classes}
@@ -12,7 +13,8 @@ use Rattle.semantics.specs.Object.{ObjectValue, Reference}
 use Rattle.semantics.specs.Sight.{Sight}
 use Rattle.semantics.specs.Task.{Task, Branch, Invoke, Operand}
 use Rattle.semantics.specs.Term.{Done}
-use Rattle.semantics.specs.Value.{CallsTooDeep, Truth}
+use Rattle.semantics.specs.declared.trap.Trap.TheVariants.{CallsTooDeep}
+use Rattle.semantics.specs.Value.{Truth}
 use Rattle.semantics.specs.World.{Invocation}
 use Rattle.semantics.specs.Thread.{Caller, Frame, Thread, Shared, BuffersInUse, Quiet, PrintedNumber, Trapped, Advance, Advances, NoAdvance, sight_of}
 use Rattle.semantics.specs.ThreadStep.{step_within, with_tasks}
@@ -26,7 +28,6 @@ use Rattle.replay_tasks.specs.declared.outcome.Outcome.TheVariants as outcome
 use Rattle.replay_tasks.specs.declared.task.Task.{Task as TaskInMemory}
 use Rattle.replay_tasks.specs.Outcomes.{else_tree, result_view, variable_step}
 use Rattle.replay_tasks.specs.Tasks.{task_view, end_view, statements_in, tasks_of_statements}
-use Rattle.semantics.specs.EventViews.{trap_view}
 use Rattle.semantics.specs.Views.{name_of}
 use Rattle.semantics.specs.declared.object_id.ObjectId.{ObjectId}
 use Rattle.replay_terms.specs.Views.{Contents, variables_view}
@@ -104,7 +105,7 @@ left_by k s t rest (outcome.Tests line zero b other) new = Advances s
 left_by k s t rest (outcome.Returned given) new = return_step k s t (result_view given)
 left_by k s t rest (outcome.Calls line x) new = calling_by s (with_tasks t (task_view new ∷ rest)) line x.now (Some (task_view new ∷ rest))
 left_by k s t rest (outcome.Trapped trap line) new = Advances s
-    (with_tasks t (task_view new ∷ rest)) (Trapped (trap_view trap) line)
+    (with_tasks t (task_view new ∷ rest)) (Trapped trap line)
 left_by k s t rest outcome.Impossible new = NoAdvance
 left_by k s t rest took new = variable_step took s (with_tasks t rest)
 

@@ -1,9 +1,9 @@
 -- Whether a thread waits for a monitor, by the task that is begun.
 use Rattle.std.specs.Prelude.{◌≡◌, ℕ, Bool, false, ◌&&◌, List, Option, Some, is_none, map}
-use Rattle.base.specs.Element.{JInt}
+use Rattle.base.specs.declared.element.ElementType.TheVariants.{Int as JInt}
 use Rattle.class_rules.specs.Class.{Classes}
-use Rattle.jni.specs.JniFunction.{JniFunction, MonitorEnter}
-use Rattle.jni.specs.Table.{function_value}
+use Rattle.jni.specs.declared.function.JniFunction.{JniFunction}
+use Rattle.jni.specs.declared.function.JniFunction.TheVariants.{MonitorEnter}
 use Rattle.semantics.specs.Arguments.{Actual, actuals, object_given}
 use Rattle.semantics.specs.CallStep.{is_owned_by_other}
 use Rattle.semantics.specs.Effect.{is_ready}
@@ -41,7 +41,7 @@ module _ (classes : Classes) (k : ℕ) (s : Shared) (vs : Contents) (frames : Li
 
   -- the task that is begun is such a call
   abbrev pub task_waits : Option TaskInMemory → Bool
-  task_waits (Some (task.Invoke i)) = call_waits (function_value i.function) (operands_view i.operands)
+  task_waits (Some (task.Invoke i)) = call_waits i.function (operands_view i.operands)
   task_waits o = false
 
 -- whether each thread of this scene with this work waits

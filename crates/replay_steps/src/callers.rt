@@ -1,7 +1,6 @@
 //! Calls that wait for one that they made, and go on once it has returned.
 
 ghost use Rattle.std.specs.Prelude.{◌≡◌, ℕ, IfOk, drop, length, map};
-ghost use Rattle.jni.specs.Table.{result_value};
 ghost use Rattle.semantics.specs.CallStep.{put};
 ghost use Rattle.semantics.specs.Heap.{Heap};
 ghost use Rattle.semantics.specs.Return.{fitted, given_back, nothing_of};
@@ -62,7 +61,7 @@ pub fn entering_of<'a>(
 
 /// What a caller that wants a result of this kind is given with an exception pending: 0, NULL or nothing.
 fn nothing_of<'a>(kind: ResultKind) -> Given<'a>
-    ensures { given_view result ≡ nothing_of (result_value kind) }
+    ensures { given_view result ≡ nothing_of kind }
 {
     match kind {
         ResultKind::NewLocal => Given::Null,
@@ -75,7 +74,7 @@ fn nothing_of<'a>(kind: ResultKind) -> Given<'a>
 
 /// What a caller that wants a result of this kind is given where none is pending. In accepted programs it fits.
 fn fitted<'a>(kind: ResultKind, returned: CallResult) -> Given<'a>
-    ensures { given_view result ≡ fitted (result_value kind) (result_view returned) }
+    ensures { given_view result ≡ fitted kind (result_view returned) }
 {
     match kind {
         ResultKind::NewLocal => match returned {
@@ -97,7 +96,7 @@ fn fitted<'a>(kind: ResultKind, returned: CallResult) -> Given<'a>
 
 /// What a caller that wants a result of this kind is given.
 fn given_back<'a>(pending: Option<ObjectId>, kind: ResultKind, returned: CallResult) -> Given<'a>
-    ensures { given_view result ≡ given_back (name_of pending) (result_value kind) (result_view returned) }
+    ensures { given_view result ≡ given_back (name_of pending) kind (result_view returned) }
 {
     match pending {
         Some(_) => nothing_of(kind),

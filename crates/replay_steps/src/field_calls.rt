@@ -2,7 +2,6 @@
 
 ghost use Rattle.std.specs.Prelude.{◌≡◌, ◌∷◌, [], IfOk, IfSome, Some, true};
 ghost use Rattle.base.specs.Bytes.{lookup};
-ghost use Rattle.base.specs.Element.{element_value};
 ghost use Rattle.class_rules.specs.Grown.{IsGrown};
 ghost use Rattle.classes.specs.FieldViews.{field_id_view};
 ghost use Rattle.jni.specs.declared.function.JniFunction.TheVariants as function;
@@ -146,7 +145,7 @@ fn has_number(
     field: &FieldId<'_>,
     element: ElementType,
 ) -> bool
-    ensures { (result ≡ true) → HasNumber classes.now class.number (field_id_view field.now) (element_value element) }
+    ensures { (result ≡ true) → HasNumber classes.now class.number (field_id_view field.now) element }
 {
     !field.is_static
         && holds_number(element, field.field.field_type)
@@ -164,7 +163,7 @@ fn named_place(
     names: Names<'_>,
 ) -> Option<Place>
     requires { IsGrown classes.now }
-    ensures { IfSome result (λ at. NamesNumber classes.now (shared_view shared.now) variables.now (element_value element)
+    ensures { IfSome result (λ at. NamesNumber classes.now (shared_view shared.now) variables.now element
         names.entry.object.now names.entry.field.now at.object.number at.place) }
 {
     let object = object_in(shared, variables, names.object)?;

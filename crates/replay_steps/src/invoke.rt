@@ -2,7 +2,6 @@
 
 ghost use Rattle.std.specs.Prelude.{◌≡◌, IfOk, List, if◌then◌else◌, map, true, false};
 ghost use Rattle.class_rules.specs.Grown.{IsGrown};
-ghost use Rattle.jni.specs.Table.{function_value};
 ghost use Rattle.replay_tasks.specs.declared.outcome.Outcome.TheVariants as outcome;
 ghost use Rattle.replay_tasks.specs.declared.task.Task.TheVariants as task;
 ghost use Rattle.semantics.specs.Arguments.{Actual as ActualOfCall, address_given};
@@ -20,7 +19,6 @@ ghost use Rattle.replay_terms.specs.Views.{NumbersInRange, lent_view, variables_
 ghost use Rattle.semantics.specs.CallEffects.{BufferResult};
 ghost use Rattle.semantics.specs.CallStep.{tell_copy};
 ghost use Rattle.semantics.specs.Heap.{Heap};
-ghost use Rattle.base.specs.Element.{element_value};
 
 use replay_arguments::actual::{Actual, actuals, address_given};
 use replay_arguments::{Locals, Scene, Shared, Turn};
@@ -267,7 +265,7 @@ fn call<'a>(
 
 /// The element type of the buffer that a call is to fill; `jint` where there is none.
 fn wanted_element(variables: &Variables<'_>, purpose: Purpose<'_>) -> ElementType
-    ensures { element_value result ≡ wanted_element variables.now purpose.entry }
+    ensures { result ≡ wanted_element variables.now purpose.entry }
 {
     match purpose {
         Purpose::Put(Target::Declared(VariableKind::Buffer(kind), _)) => kind,

@@ -2,7 +2,6 @@
 
 ghost use Rattle.std.specs.Prelude.{◌≡◌, map};
 ghost use Rattle.std.specs.Option.{option_map};
-ghost use Rattle.jni.specs.Table.{function_value};
 ghost use Rattle.syntax.specs.Tree.{SourceUnit};
 ghost use Rattle.semantics.specs.CallStep.{is_owned_by_other};
 ghost use Rattle.semantics.specs.Effect.{is_given, is_ready};
@@ -113,7 +112,7 @@ fn call_waits<'a>(
 ) -> bool
     ensures { result ≡ call_waits scene.entry.classes.now thread (shared_view scene.entry.shared.now)
         scene.entry.locals.now.variables scene.entry.locals.now.frames (name_of scene.entry.pending)
-        (function_value function) (operands_view operands.now) }
+        function (operands_view operands.now) }
 {
     match function {
         JniFunction::MonitorEnter => waits_to_enter(scene, thread, operands),

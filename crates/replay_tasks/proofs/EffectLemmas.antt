@@ -6,7 +6,7 @@ use Rattle.syntax.specs.declared.expr.Constant.{Constant}
 use Rattle.syntax.specs.declared.expr.Constant.TheVariants as constant
 use Rattle.syntax.specs.declared.expr.Expr.{Expr as ExprInMemory}
 use Rattle.syntax.specs.declared.stmt.Block.{Block as BlockInMemory, out-Block}
-use Rattle.syntax.specs.Views.{constant_tree, expr_tree, block_tree}
+use Rattle.syntax.specs.Views.{expr_tree, block_tree}
 use Rattle.syntax.proofs.Blocks.{block_is}
 use Rattle.semantics.specs.Effect.{Effect, Becomes, Sets, SetsElement, at_line, goes_on, with_value, print_effect, branch_effect, loop_effect, element_effect, returned_name, return_effect, effect_of}
 use Rattle.semantics.specs.Heap.{Heap}
@@ -92,7 +92,7 @@ else_entered line None end' = refl
 else_entered line (Some b) end' = block_entered b end'
 
 -- a constant is evaluated, or it is NULL
-pub constant_returned : (sight : Sight) (line : ℕ) (c : Constant) → return_effect sight line (tree.Named (constant_tree c)) ≡ returned_name line (tree.constant (constant_tree c)) Empty
+pub constant_returned : (sight : Sight) (line : ℕ) (c : Constant) → return_effect sight line (tree.Named c) ≡ returned_name line (tree.constant c) Empty
 constant_returned sight line constant.True = refl
 constant_returned sight line constant.False = refl
 constant_returned sight line constant.Commit = refl

@@ -6,8 +6,11 @@ use Rattle.std.proofs.lemmas.Bool.{and_from}
 use Rattle.std.proofs.lemmas.List.Folds.{list_all-append}
 use Rattle.base.specs.Bytes.{Identifier}
 use Rattle.syntax.specs.Parts.{functions_of, line_of, names_declared, parameter_names, statements_of, statements_within}
-use Rattle.syntax.specs.Tree.{ResultType, Void, Stmt, If, IfElse, While, Block, End, Next, Function, Item, StaticItem, FunctionItem, SourceUnit}
-use Rattle.type_rules.specs.ExprTypes.{Ref, Scope}
+use Rattle.syntax.specs.declared.unit.ResultType.{ResultType}
+use Rattle.syntax.specs.declared.unit.ResultType.TheVariants.{Void}
+use Rattle.syntax.specs.Tree.{Stmt, If, IfElse, While, Block, End, Next, Function, Item, StaticItem, FunctionItem, SourceUnit}
+use Rattle.type_rules.specs.declared.ty.ExprType.TheVariants.{Ref}
+use Rattle.type_rules.specs.ExprTypes.{Scope}
 use Rattle.type_rules.specs.declared.rule.TypeRule.{TypeRule}
 use Rattle.type_rules.specs.declared.rule.TypeRule.TheVariants.{UnknownName, DeclaredTwice, TypeMisfit, UnknownFunction, ArgumentCount, ReferenceCopied, BadMode, ReadOnlyWrite}
 use Rattle.type_rules.specs.TypeRules.{typing_rules, Place, StaticForm, HeadForm, StatementForm, breaks, broken_at, parameter_type, with_declared, places_within, places_of, function_places, item_places, IsWellTyped, static_type}

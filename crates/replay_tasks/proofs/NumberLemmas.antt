@@ -3,8 +3,10 @@ use Rattle.std.proofs.Common.{◌≡◌, ◌+◌, ℕ, Bool, true, false, List, 
 use Rattle.std.specs.Prelude.{◌&&◌, zip}
 use Rattle.std.specs.List.{list_all}
 use Rattle.std.proofs.lemmas.List.{length-map, map-append}
-use Rattle.jni.specs.JniFunction.{JniFunction, parameters_for}
-use Rattle.jni.specs.Prototype.{ParameterKind, IntNumber, Passed}
+use Rattle.jni.specs.declared.function.JniFunction.{JniFunction}
+use Rattle.jni.specs.JniFunction.{parameters_for}
+use Rattle.jni.specs.declared.kinds.ParameterKind.{ParameterKind}
+use Rattle.jni.specs.declared.kinds.ParameterKind.TheVariants.{IntNumber, Passed}
 use Rattle.syntax.specs.Limits.{numbers_in_range}
 use Rattle.syntax.specs.Tree.{Argument, Expr, Value}
 use Rattle.syntax.specs.Views.{argument_tree}

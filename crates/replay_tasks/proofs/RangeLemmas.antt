@@ -9,8 +9,7 @@ use Rattle.std.proofs.lemmas.List.{map-append, take_all}
 use Rattle.std.proofs.lemmas.List.Concat.{flat_map-cons}
 use Rattle.std.proofs.lemmas.List.Folds.{list_all-append}
 use Rattle.jni.specs.declared.kinds.ParameterKind.{ParameterKind}
-use Rattle.jni.specs.Prototype.{Passed}
-use Rattle.jni.specs.Table.{parameter_value}
+use Rattle.jni.specs.declared.kinds.ParameterKind.TheVariants.{Passed}
 use Rattle.syntax.specs.declared.call.Argument.{Argument as ArgumentInMemory}
 use Rattle.syntax.specs.declared.stmt.Block.{Block as BlockInMemory, out-Block}
 use Rattle.syntax.specs.declared.stmt.Stmt.{Stmt}
@@ -157,15 +156,15 @@ first_is (x ∷ xs) d low = ap (λ l. x ∷ l) (rest_is x xs)
 
 -- an operand, and then those of the further arguments
 pub operand_first : (before : List Operand) (o : Operand) (p : ParameterKind) (a : ArgumentInMemory) (ps : List ParameterKind) (arguments : List ArgumentInMemory)
-    → operand_view o ≡ operand (parameter_value p, argument_tree a) → p ∷ after_first ps ≡ ps → a ∷ after_first arguments ≡ arguments
-    → map operand_view (before ++ o ∷ []) ++ map operand (zip (map parameter_value (after_first ps)) (map argument_tree (after_first arguments)))
-    ≡ map operand_view before ++ map operand (zip (map parameter_value ps) (map argument_tree arguments))
+    → operand_view o ≡ operand (p, argument_tree a) → p ∷ after_first ps ≡ ps → a ∷ after_first arguments ≡ arguments
+    → map operand_view (before ++ o ∷ []) ++ map operand (zip ((after_first ps)) (map argument_tree (after_first arguments)))
+    ≡ map operand_view before ++ map operand (zip ps (map argument_tree arguments))
 operand_first before o p a ps arguments is parameters_are arguments_are =
-    let more = map operand (zip (map parameter_value (after_first ps)) (map argument_tree (after_first arguments))) in
+    let more = map operand (zip ((after_first ps)) (map argument_tree (after_first arguments))) in
     ap (λ l. l ++ more) (map-append operand_view before (o ∷ []))
     ∙ append_assoc (map operand_view before) (operand_view o ∷ []) more
     ∙ ap (λ v. map operand_view before ++ v ∷ more) is
-    ∙ (λ i. map operand_view before ++ map operand (zip (map parameter_value (parameters_are i)) (map argument_tree (arguments_are i))))
+    ∙ (λ i. map operand_view before ++ map operand (zip ((parameters_are i)) (map argument_tree (arguments_are i))))
 
 pub shorter : {A : Type 0} (xs : List A) → 1 ≤ length xs → length (take (length xs - 1) (drop 1 xs)) < length xs
 shorter {A = A} [] low = absurd (omega arith)

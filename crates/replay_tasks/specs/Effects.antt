@@ -1,6 +1,5 @@
 -- What a step of a task that is no call does.
 use Rattle.std.specs.Prelude.{◌≡◌, ℕ, [], ◌∷◌, ◌++◌}
-use Rattle.base.specs.Element.{element_value}
 use Rattle.semantics.specs.Effect.{Effect, Becomes, Sets, SetsNull, SetsElement, MakesArray, Prints, Returns, TrapsAt, NoEffect, effect_of}
 use Rattle.semantics.specs.Sight.{Sight}
 use Rattle.replay_tasks.specs.declared.outcome.Outcome.{Outcome}
@@ -11,7 +10,6 @@ use Rattle.replay_tasks.specs.declared.task.Task.{Task as TaskInMemory}
 use Rattle.replay_tasks.specs.declared.task.Task.TheVariants as task
 use Rattle.replay_tasks.specs.Outcomes.{result_view, target_view}
 use Rattle.replay_tasks.specs.Tasks.{task_view, end_view, statements_in, tasks_of_statements}
-use Rattle.semantics.specs.EventViews.{trap_view}
 use Rattle.replay_terms.specs.Views.{value_view}
 
 -- what a step does that reduces a term, which has no value yet
@@ -30,12 +28,12 @@ effect_by (outcome.Gives to g) new = NoEffect
 effect_by (outcome.Lends to b) new = NoEffect
 effect_by (outcome.Tests line zero b other) new = NoEffect
 effect_by (outcome.SetsElement x i z) new = SetsElement x.now i z
-effect_by (outcome.Makes T x n) new = MakesArray (element_value T) x.now n
+effect_by (outcome.Makes T x n) new = MakesArray T x.now n
 effect_by (outcome.Enters block e) new = Becomes (tasks_of_statements (statements_in block) ++ end_view e ∷ [])
 effect_by outcome.Ends new = Becomes []
 effect_by (outcome.Returned given) new = Returns (result_view given)
 effect_by (outcome.Calls line x) new = NoEffect
-effect_by (outcome.Trapped trap line) new = TrapsAt (trap_view trap) line
+effect_by (outcome.Trapped trap line) new = TrapsAt trap line
 effect_by outcome.Impossible new = NoEffect
 
 -- it sets a variable or an element to a value
@@ -62,5 +60,5 @@ HasEffect sight old (outcome.Gives to g) new = ⊥
 HasEffect sight old (outcome.Lends to b) new = ⊥
 HasEffect sight old (outcome.Tests line zero b other) new = ⊥
 HasEffect sight old (outcome.Calls line x) new = ⊥
-HasEffect sight old (outcome.Trapped trap line) new = (effect_of sight (task_view old) ≡ TrapsAt (trap_view trap) line) × (task_view new ≡ task_view old)
+HasEffect sight old (outcome.Trapped trap line) new = (effect_of sight (task_view old) ≡ TrapsAt trap line) × (task_view new ≡ task_view old)
 HasEffect sight old took new = effect_of sight (task_view old) ≡ effect_by took new

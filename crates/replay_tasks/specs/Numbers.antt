@@ -1,8 +1,10 @@
 -- Where the arguments of a call are that aren't looked up in the call's own step.
 use Rattle.std.specs.Prelude.{◌≡◌, ℕ, Bool, true, false, List, [], ◌∷◌, ◌++◌, length, map, zip}
 use Rattle.std.specs.List.{list_all}
-use Rattle.jni.specs.JniFunction.{JniFunction, parameters_for}
-use Rattle.jni.specs.Prototype.{ParameterKind, IntNumber, Passed}
+use Rattle.jni.specs.declared.function.JniFunction.{JniFunction}
+use Rattle.jni.specs.JniFunction.{parameters_for}
+use Rattle.jni.specs.declared.kinds.ParameterKind.{ParameterKind}
+use Rattle.jni.specs.declared.kinds.ParameterKind.TheVariants.{IntNumber, Passed}
 use Rattle.syntax.specs.Tree.{Argument}
 use Rattle.semantics.specs.Task.{Operand, Target, Task, Invoke, operand}
 use Rattle.replay_tasks.specs.declared.task.Numbers.{Numbers}

@@ -5,7 +5,7 @@ use Rattle.base.specs.Bytes.{lookup}
 use Rattle.syntax.specs.declared.stmt.Block.{Block as BlockInMemory}
 use Rattle.syntax.specs.Tree.{Block, End}
 use Rattle.syntax.specs.Views.{block_tree}
-use Rattle.base.specs.Element.{ElementType, element_value}
+use Rattle.base.specs.declared.element.ElementType.{ElementType}
 use Rattle.semantics.specs.CallEffects.{CallResult, NoResult, BufferResult, NullResult, ReferenceResult, ScalarResult}
 use Rattle.semantics.specs.CallStep.{put, is_zero}
 use Rattle.semantics.specs.Heap.{Heap}
@@ -32,7 +32,7 @@ kind_view kind.Number = ScalarKind
 kind_view kind.Reference = ReferenceKind
 kind_view kind.Field = FieldKind
 kind_view kind.Method = MethodKind
-kind_view (kind.Buffer T) = BufferKind (element_value T)
+kind_view (kind.Buffer T) = BufferKind T
 
 abbrev pub target_view : TargetInMemory → Target
 target_view (target.Declared kind x) = Declared (kind_view kind) x.now
@@ -67,7 +67,7 @@ variable_step (outcome.SetsNull to) s t = put (target_view to) NullResult s t
 variable_step (outcome.Gives to g) s t = put (target_view to) (given_view g) s t
 variable_step (outcome.Lends to b) s t = put (target_view to) (BufferResult (lent_view s.heap b)) s t
 variable_step (outcome.SetsElement x i z) s t = set_element s t x.now i z (lookup x.now t.variables)
-variable_step (outcome.Makes T x n) s t = set_variable s t x.now (LocalArray (element_value T) (replicate n (pos 0)))
+variable_step (outcome.Makes T x n) s t = set_variable s t x.now (LocalArray T (replicate n (pos 0)))
 variable_step took s t = Advances s t Quiet
 
 -- it is a buffer of this element type

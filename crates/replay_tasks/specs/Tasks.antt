@@ -13,10 +13,8 @@ use Rattle.syntax.specs.declared.stmt.Stmt.{Stmt as StmtInMemory}
 use Rattle.syntax.specs.Limits.{numbers_in_range}
 use Rattle.syntax.specs.Parts.{argument_expressions, statements_of, own_call, own_expressions, right_side_expressions, test_expressions, call_of_right_side}
 use Rattle.syntax.specs.Tree.{Argument, Call, Expr, RightSide, Test, TestExpr, TestCall, Stmt, If, IfElse, While, Block}
-use Rattle.base.specs.Element.{element_value}
 use Rattle.syntax.specs.Views.{expr_tree, stmt_tree, block_tree}
 use Rattle.jni.specs.JniFunction.{function_named}
-use Rattle.jni.specs.Table.{function_value}
 use Rattle.semantics.specs.Task.{Task, SetScalar, SetElement, SetNull, MakeArray, Invoke, Print, Branch, EndIf, Loop, EndTurn, Return, ReturnValue, task_of}
 use Rattle.replay_tasks.specs.declared.outcome.End.{End as EndInMemory}
 use Rattle.replay_tasks.specs.declared.outcome.End.TheVariants as end
@@ -39,8 +37,8 @@ task_view (task.Print e) = Print e.line (term_view e.term)
 task_view (task.Set a) = SetScalar a.line a.name.now (term_view a.term)
 task_view (task.SetElement a) = SetElement a.line a.name.now (term_view a.index) (term_view a.number)
 task_view (task.SetNull to) = SetNull (target_view to)
-task_view (task.MakeArray T x n) = MakeArray (element_value T) x.now n
-task_view (task.Invoke i) = Invoke i.line (purpose_view i.line i.purpose) (function_value i.function) (operands_view i.operands)
+task_view (task.MakeArray T x n) = MakeArray T x.now n
+task_view (task.Invoke i) = Invoke i.line (purpose_view i.line i.purpose) i.function (operands_view i.operands)
 task_view (task.Branch c) = Branch c.line (term_view c.test) (block_tree c.block.now) (else_tree c.line c.otherwise)
 task_view (task.Loop i) = Loop i.line (expr_tree i.test.now) (term_view i.term) (block_tree i.body.now)
 task_view task.Return = Return

@@ -1,7 +1,6 @@
 //! What a step of a task does.
 
 ghost use Rattle.std.specs.Prelude.{◌≡◌};
-ghost use Rattle.syntax.specs.Views.{variable_type_tree};
 ghost use Rattle.semantics.specs.Task.{kind_of};
 ghost use Rattle.replay_tasks.specs.Outcomes.{kind_view};
 
@@ -116,7 +115,7 @@ pub enum Outcome<'a> {
 
 /// What a declaration of this type makes.
 pub(crate) fn kind_of(t: VariableType) -> VariableKind
-    ensures { kind_view result ≡ kind_of (variable_type_tree t) }
+    ensures { kind_view result ≡ kind_of t }
 {
     match t {
         VariableType::Uint32 | VariableType::Jint => VariableKind::Number,

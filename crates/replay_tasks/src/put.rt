@@ -1,7 +1,6 @@
 //! What tasks do to variables and statics.
 
 ghost use Rattle.std.specs.Prelude.{◌≡◌, ℕ, IfNone, IfOk, IfSome, pos, replicate};
-ghost use Rattle.base.specs.Element.{element_value};
 ghost use Rattle.semantics.specs.CallEffects.{BufferResult};
 ghost use Rattle.semantics.specs.CallStep.{blank, filled, put};
 ghost use Rattle.semantics.specs.Heap.{Heap};
@@ -127,7 +126,7 @@ fn lent<'a>(
     kind: ElementType,
     lent: Lent,
 ) -> Result<Content<'a>, AllocError>
-    ensures { IfOk result (λ c. content_view c ≡ Elements (element_value kind) (lent_view store.now lent)) }
+    ensures { IfOk result (λ c. content_view c ≡ Elements kind (lent_view store.now lent)) }
 {
     match lent {
         Lent::Nothing => Ok(Content::Buffer(kind)),
@@ -148,7 +147,7 @@ fn lent<'a>(
 
 /// The element type of a buffer.
 fn buffer_type(content: &Content<'_>) -> Option<ElementType>
-    ensures some { IfSome result (λ kind. IsBuffer (element_value kind) (content_view content.now)) }
+    ensures some { IfSome result (λ kind. IsBuffer kind (content_view content.now)) }
     ensures none { IfNone result ((b : Buffer) → filled (content_view content.now) (BufferResult b) ≡ content_view content.now) }
 {
     match content {
@@ -241,7 +240,7 @@ fn make_array<'a>(
     size: u32,
 ) -> Result<(), AllocError>
     ensures { IfOk result (λ _. variables_view variables.new
-        ≡ assign name.entry.now (LocalArray (element_value kind) (replicate size (pos 0)))
+        ≡ assign name.entry.now (LocalArray kind (replicate size (pos 0)))
         (variables_view variables.old)) }
 {
     let numbers = zeros(alloc, size)?;

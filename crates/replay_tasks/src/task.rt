@@ -1,11 +1,10 @@
 //! Tasks: statements that are begun.
 
 ghost use Rattle.std.specs.Prelude.{◌≡◌, ◌++◌, ◌∷◌, [], IfOk, IfSome, IsTrue, None, Some, length, map, not, zip};
-ghost use Rattle.jni.specs.Prototype.{Passed};
+ghost use Rattle.jni.specs.declared.kinds.ParameterKind.TheVariants.{Passed};
 ghost use Rattle.std.specs.List.{list_all};
 ghost use Rattle.std.specs.Option.{option_map};
 ghost use Rattle.jni.specs.JniFunction.{function_named, parameters_for};
-ghost use Rattle.jni.specs.Table.{function_value, parameter_value};
 ghost use Rattle.syntax.specs.Views.{argument_tree, call_tree, stmt_tree, expr_tree, right_side_tree, test_tree, block_tree};
 ghost use Rattle.syntax.specs.Limits.{numbers_in_range};
 ghost use Rattle.syntax.specs.Parts.{argument_expressions};
@@ -274,8 +273,8 @@ fn begin_call<'a>(
     requires none { place.old ≡ None }
     requires numbers { ArgumentsInRange (map argument_tree arguments.now) }
     requires branches { PurposeInRange purpose }
-    ensures view { IfOk result (λ _. Begins (Invoke line (purpose_view line purpose.entry) (function_value function)
-        (operands_for (function_value function) (map argument_tree arguments.entry.now))) place.new) }
+    ensures view { IfOk result (λ _. Begins (Invoke line (purpose_view line purpose.entry) function
+        (operands_for function (map argument_tree arguments.entry.now))) place.new) }
     ensures range { IfOk result (λ _. BegunInRange place.new) }
 {
     match numbers_of(function, arguments.len()) {
@@ -299,7 +298,7 @@ fn given_task<'a>(
 )
     requires none { place.old ≡ None }
     requires branches { PurposeInRange purpose }
-    ensures view { Begins (Invoke line (purpose_view line purpose.entry) (function_value function) (map looked_up arguments.entry.now)) place.new }
+    ensures view { Begins (Invoke line (purpose_view line purpose.entry) function (map looked_up arguments.entry.now)) place.new }
     ensures range { BegunInRange place.new }
 {
     let operands = Operands::Given(arguments);
@@ -327,9 +326,9 @@ fn last_task<'a>(
     requires none { place.old ≡ None }
     requires numbers { ArgumentsInRange (map argument_tree arguments.now) }
     requires branches { PurposeInRange purpose }
-    requires last { AreNumbers (length arguments.now) (parameters_for (function_value function) (length arguments.now)) numbers.Last }
-    ensures view { IfOk result (λ _. Begins (Invoke line (purpose_view line purpose.entry) (function_value function)
-        (operands_for (function_value function) (map argument_tree arguments.entry.now))) place.new) }
+    requires last { AreNumbers (length arguments.now) (parameters_for function (length arguments.now)) numbers.Last }
+    ensures view { IfOk result (λ _. Begins (Invoke line (purpose_view line purpose.entry) function
+        (operands_for function (map argument_tree arguments.entry.now))) place.new) }
     ensures range { IfOk result (λ _. BegunInRange place.new) }
 {
     let Some((before, number)) = last_number(arguments) else {
@@ -362,8 +361,8 @@ fn listed_task<'a>(
     requires none { place.old ≡ None }
     requires numbers { ArgumentsInRange (map argument_tree arguments.now) }
     requires branches { PurposeInRange purpose }
-    ensures view { IfOk result (λ _. Begins (Invoke line (purpose_view line purpose.entry) (function_value function)
-        (operands_for (function_value function) (map argument_tree arguments.entry.now))) place.new) }
+    ensures view { IfOk result (λ _. Begins (Invoke line (purpose_view line purpose.entry) function
+        (operands_for function (map argument_tree arguments.entry.now))) place.new) }
     ensures range { IfOk result (λ _. BegunInRange place.new) }
 {
     let mut operands = Vec::new(alloc);
@@ -393,7 +392,7 @@ pub enum Numbers {
 /// in an object, and those are known.
 #[inline]
 fn numbers_of(function: JniFunction, count: usize) -> Numbers
-    ensures { AreNumbers count (parameters_for (function_value function) count) result }
+    ensures { AreNumbers count (parameters_for function count) result }
 {
     match function {
         JniFunction::GetField(_) => {
@@ -432,7 +431,7 @@ fn last_number(arguments: &[Argument]) -> Option<(&[Argument], ExprRef<'_>)>
 #[inline]
 #[tactic(auto, unfolding(jni::specs::JniFunction::function_named))]
 fn likely_function(name: &[u8]) -> Option<(JniFunction, &'static [u8])>
-    ensures { IfSome result (λ r. function_named r.1.now ≡ Some (function_value r.0)) }
+    ensures { IfSome result (λ r. function_named r.1.now ≡ Some r.0) }
 {
     let [first, _, _, letter, ..] = name else {
         return None;
@@ -453,7 +452,7 @@ fn likely_function(name: &[u8]) -> Option<(JniFunction, &'static [u8])>
 /// The function of a name. Most calls that are made again and again read or write a number in an object: these are found at once.
 #[inline]
 fn function_of(name: &[u8]) -> Option<JniFunction>
-    ensures { option_map function_value result ≡ function_named name.now }
+    ensures { result ≡ function_named name.now }
 {
     if let Some((function, its_name)) = likely_function(name) {
         if is_same(name, its_name) {
@@ -473,7 +472,7 @@ fn push_arguments<'a>(
     requires numbers { ArgumentsInRange (map argument_tree arguments.now) }
     requires range { ListedInRange operands.old.items }
     ensures view { IfOk result (λ _. map operand_view operands.new.items ≡ map operand_view operands.old.items
-        ++ map operand (zip (parameters_for (function_value function) (length (map argument_tree arguments.entry.now)))
+        ++ map operand (zip (parameters_for function (length (map argument_tree arguments.entry.now)))
         (map argument_tree arguments.entry.now))) }
     ensures range { IfOk result (λ _. ListedInRange operands.new.items) }
 {
@@ -494,7 +493,7 @@ fn push_operands<'a>(
     requires numbers { ArgumentsInRange (map argument_tree arguments.now) }
     requires range { ListedInRange operands.old.items }
     ensures view { IfOk result (λ _. map operand_view operands.new.items ≡ map operand_view operands.old.items
-        ++ map operand (zip (map parameter_value parameters.entry.now) (map argument_tree arguments.entry.now))) }
+        ++ map operand (zip parameters.entry.now (map argument_tree arguments.entry.now))) }
     ensures range { IfOk result (λ _. ListedInRange operands.new.items) }
 {
     match parameters {
@@ -555,7 +554,7 @@ fn operand_of<'a>(
     argument: &'a Argument,
 ) -> Result<Operand<'a>, AllocError>
     requires { IsTrue (list_all numbers_in_range (argument_expressions (argument_tree argument.now))) }
-    ensures view { IfOk result (λ o. operand_view o ≡ operand (parameter_value parameter, argument_tree argument.entry.now)) }
+    ensures view { IfOk result (λ o. operand_view o ≡ operand (parameter, argument_tree argument.entry.now)) }
     ensures range { IfOk result OperandInRange }
 {
     match parameter {

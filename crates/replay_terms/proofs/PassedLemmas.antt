@@ -1,8 +1,10 @@
 -- The arguments of a call with their parameters: what a method is given comes after the function's own.
 use Rattle.std.proofs.Common.{◌≡◌, ◌-◌, Bool, true, false, List, [], ◌∷◌, ◌++◌, length, map, drop, refl, sym, ap, ◌∙◌, append-nil, arith}
 use Rattle.std.specs.Prelude.{if◌then◌else◌, replicate, zip}
-use Rattle.jni.specs.JniFunction.{JniFunction, calls_method, parameters_for, prototype}
-use Rattle.jni.specs.Prototype.{ParameterKind, Passed}
+use Rattle.jni.specs.declared.function.JniFunction.{JniFunction}
+use Rattle.jni.specs.JniFunction.{calls_method, parameters_for, prototype}
+use Rattle.jni.specs.declared.kinds.ParameterKind.{ParameterKind}
+use Rattle.jni.specs.declared.kinds.ParameterKind.TheVariants.{Passed}
 use Rattle.jni.proofs.MethodCalls.{own_are_two}
 
 -- an argument that a method is given

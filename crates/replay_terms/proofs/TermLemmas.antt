@@ -2,7 +2,6 @@
 use Rattle.std.proofs.Common.{◌≡◌, None, refl}
 use Rattle.syntax.specs.declared.expr.BinaryOp.{BinaryOp}
 use Rattle.syntax.specs.declared.expr.BinaryOp.TheVariants as binary
-use Rattle.syntax.specs.Views.{binary_tree}
 use Rattle.semantics.specs.Sight.{Sight}
 use Rattle.semantics.specs.Term as tree
 use Rattle.semantics.specs.Term.{binary_term, done, reduce}
@@ -15,7 +14,7 @@ use Rattle.replay_terms.specs.Views.{evaluated_view, value_view, IsReplacedBy, R
 -- ---- operators
 
 -- an operator that isn't `&&` or `||`
-pub operator_term : (op : BinaryOp) → (op ≡ binary.LogicalAnd → ⊥) → (op ≡ binary.LogicalOr → ⊥) → (s t : tree.Term) → binary_term (binary_tree op) None s t ≡ tree.Binary (binary_tree op) s t
+pub operator_term : (op : BinaryOp) → (op ≡ binary.LogicalAnd → ⊥) → (op ≡ binary.LogicalOr → ⊥) → (s t : tree.Term) → binary_term op None s t ≡ tree.Binary op s t
 operator_term binary.LogicalOr no_and no_or s t = absurd (no_or refl)
 operator_term binary.LogicalAnd no_and no_or s t = absurd (no_and refl)
 operator_term binary.BitOr no_and no_or s t = refl

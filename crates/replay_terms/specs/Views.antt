@@ -4,13 +4,12 @@ use Rattle.std.specs.Option.{option_map}
 use Rattle.std.specs.Borrow.{Bor}
 use Rattle.base.specs.Limits.{most_copied, most_views}
 use Rattle.base.specs.Bytes.{Identifier, ByName, lookup}
-use Rattle.base.specs.Element.{ElementType, element_value}
+use Rattle.base.specs.declared.element.ElementType.{ElementType}
 use Rattle.syntax.specs.declared.call.Argument.{Argument as ArgumentInMemory}
-use Rattle.syntax.specs.Views.{argument_tree, constant_tree, function_tree, prefix_tree, binary_tree}
+use Rattle.syntax.specs.Views.{argument_tree, function_tree}
 use Rattle.syntax.specs.Limits.{number_limit}
 use Rattle.classes.specs.FieldViews.{field_id_view}
 use Rattle.semantics.specs.CallEffects.{CallResult, NoResult, NullResult, ScalarResult, ReferenceResult, WeakResult, FieldResult, MethodResult}
-use Rattle.semantics.specs.EventViews.{trap_view}
 use Rattle.semantics.specs.Heap.{Heap, number_in, numbers_of}
 use Rattle.semantics.specs.Method.{MethodId}
 use Rattle.semantics.specs.Sight.{Sight, in_range}
@@ -64,12 +63,12 @@ value_view (value.Truth b) = Truth b
 
 abbrev pub evaluated_view : Evaluated → Outcome Value
 evaluated_view (evaluated.Gives v) = Gives (value_view v)
-evaluated_view (evaluated.Traps trap) = Traps (trap_view trap)
+evaluated_view (evaluated.Traps trap) = Traps trap
 evaluated_view evaluated.Stuck = Stuck
 
 abbrev pub indexed_view : Indexed → Outcome ℕ
 indexed_view (indexed.At i) = Gives i
-indexed_view (indexed.Traps trap) = Traps (trap_view trap)
+indexed_view (indexed.Traps trap) = Traps trap
 indexed_view indexed.Stuck = Stuck
 
 -- ---- variables
@@ -83,10 +82,10 @@ content_view (content.Number v) = Scalar (value_view v)
 content_view (content.Reference level r) = LocalRef level.number (name_of r)
 content_view (content.Field f) = FieldHandle (option_map field_id_view f)
 content_view (content.Method m) = MethodHandle (option_map method_view m)
-content_view (content.Buffer T) = Elements (element_value T) NoBuffer
-content_view (content.Copy T n numbers) = Elements (element_value T) (Copy n.number numbers.items)
-content_view (content.View T n) = Elements (element_value T) (View n.number)
-content_view (content.Array T numbers) = LocalArray (element_value T) numbers.items
+content_view (content.Buffer T) = Elements T NoBuffer
+content_view (content.Copy T n numbers) = Elements T (Copy n.number numbers.items)
+content_view (content.View T n) = Elements T (View n.number)
+content_view (content.Array T numbers) = LocalArray T numbers.items
 
 -- the entries of a hash map, by name
 abbrev pub by_name : {A : Type 0} → List (Bor Identifier × A) → ByName A
@@ -224,14 +223,14 @@ abbrev mutual
   pub term_view : TermInMemory → Term
   term_view (term.Done v) = Done (value_view v)
   term_view (term.Number n unsigned) = Number n unsigned
-  term_view (term.Named c) = Named (constant_tree c)
+  term_view (term.Named c) = Named c
   term_view (term.Read x) = Read x.now
   term_view (term.Element x i) = Element x.now (part_view i)
   term_view (term.IsNull wanted x) = IsNull wanted x.now
-  term_view (term.Prefix op t) = Prefix (prefix_tree op) (part_view t)
+  term_view (term.Prefix op t) = Prefix op (part_view t)
   term_view (term.And' p s q t) = And (term_view s) (term_view t)
   term_view (term.Or' p s q t) = Or (term_view s) (term_view t)
-  term_view (term.Binary op s t) = Binary (binary_tree op) (part_view s) (part_view t)
+  term_view (term.Binary op s t) = Binary op (part_view s) (part_view t)
 
   pub part_view : Part → Term
   part_view (part.Done v) = Done (value_view v)
@@ -326,7 +325,7 @@ IsPartReplaced old value took new = IsReplacedBy part.Done old value took new
 -- where this can be seen, what a step in memory did is what a step of the language does
 abbrev pub ReducesBy : {T : Type 0} → (T → Term) → Sight → T → ReductionInMemory → T → Type 0
 ReducesBy view sight old reduction.Reduced new = reduce sight (view old) ≡ Gives (view new)
-ReducesBy view sight old (reduction.Trapped trap) new = (reduce sight (view old) ≡ Traps (trap_view trap)) × (new ≡ old)
+ReducesBy view sight old (reduction.Trapped trap) new = (reduce sight (view old) ≡ Traps trap) × (new ≡ old)
 ReducesBy view sight old reduction.Stuck new = reduce sight (view old) ≡ Stuck
 
 -- that of a term, and that of a part of one

@@ -1,7 +1,6 @@
 //! Steps of terms.
 
 ghost use Rattle.std.specs.Prelude.{◌≡◌, ◌↔◌, IfNone, IfSome, IsTrue};
-ghost use Rattle.syntax.specs.Views.{binary_tree};
 ghost use Rattle.semantics.specs.Heap.{Heap};
 ghost use Rattle.semantics.specs.Sight.{Sight, seen};
 ghost use Rattle.semantics.specs.Variable.{Statics as StaticsOfUnit};
@@ -152,8 +151,8 @@ fn replace_by_right(term: &mut Term<'_>)
 /// The value of an operator between two parts that have theirs; none where one has none.
 fn operator_value(op: BinaryOp, left: &Part<'_>, right: &Part<'_>) -> Option<Evaluated>
     ensures { HasValue (part_view left.now) → HasValue (part_view right.now) → (sight : Sight)
-        → reduce sight (Binary (binary_tree op) (part_view left.now) (part_view right.now))
-        ≡ decided result (Binary (binary_tree op) (part_view left.now) (part_view right.now)) }
+        → reduce sight (Binary op (part_view left.now) (part_view right.now))
+        ≡ decided result (Binary op (part_view left.now) (part_view right.now)) }
 {
     match value_in(left) {
         Some(v) => match value_in(right) {

@@ -5,7 +5,6 @@ ghost use Rattle.syntax.specs.Limits.{numbers_in_range};
 ghost use Rattle.syntax.specs.Parts.{null_tested};
 ghost use Rattle.syntax.specs.Shapes.{ref_tree};
 ghost use Rattle.syntax.specs.Tree.{Binary};
-ghost use Rattle.syntax.specs.Views.{binary_tree};
 ghost use Rattle.semantics.specs.Term.{term_of, binary_term};
 ghost use Rattle.replay_terms.specs.declared.term.Term.TheVariants as term;
 ghost use Rattle.replay_terms.specs.declared.term.Part.TheVariants as part;
@@ -149,8 +148,8 @@ fn operation_of<'a>(
 ) -> Result<Term<'a>, AllocError>
     requires left { IsTrue (numbers_in_range (ref_tree left)) }
     requires right { IsTrue (numbers_in_range (ref_tree right)) }
-    requires untested { null_tested (Binary (binary_tree op) (ref_tree left) (ref_tree right)) ≡ None }
-    ensures view { IfOk result (λ t. term_view t ≡ term_of (Binary (binary_tree op) (ref_tree left.entry) (ref_tree right.entry))) }
+    requires untested { null_tested (Binary op (ref_tree left) (ref_tree right)) ≡ None }
+    ensures view { IfOk result (λ t. term_view t ≡ term_of (Binary op (ref_tree left.entry) (ref_tree right.entry))) }
     ensures numbers { IfOk result NumbersInRange }
 {
     match op {

@@ -2,8 +2,6 @@
 
 ghost use Rattle.std.specs.Prelude.{◌≡◌, ◌<◌};
 ghost use Rattle.syntax.specs.Limits.{number_limit};
-ghost use Rattle.base.specs.Element.{element_value};
-ghost use Rattle.syntax.specs.Views.{constant_tree, prefix_tree, binary_tree};
 ghost use Rattle.semantics.specs.Term.{literal, constant};
 ghost use Rattle.semantics.specs.Value.{Word, Truth, Gives, convert, prefix_value, binary_value};
 ghost use Rattle.replay_terms.specs.Views.{value_view, evaluated_view};
@@ -47,7 +45,7 @@ pub(crate) fn literal(value: u32, unsigned: bool) -> Value
 
 /// The value of a named constant; NULL has none.
 pub fn constant(c: Constant) -> Evaluated
-    ensures { evaluated_view result ≡ constant (constant_tree c) }
+    ensures { evaluated_view result ≡ constant c }
 {
     match c {
         Constant::True => Evaluated::Gives(Value::Flag(true)),
@@ -60,7 +58,7 @@ pub fn constant(c: Constant) -> Evaluated
 
 /// What is left of a number in an element type.
 pub fn convert(kind: ElementType, number: i32) -> i32
-    ensures { result ≡ convert (element_value kind) number }
+    ensures { result ≡ convert kind number }
 {
     let word = number.cast_unsigned();
     match kind {
@@ -73,7 +71,7 @@ pub fn convert(kind: ElementType, number: i32) -> i32
 
 /// What a prefix makes of a value.
 pub(crate) fn prefix_value(op: PrefixOp, v: Value) -> Evaluated
-    ensures { evaluated_view result ≡ prefix_value (prefix_tree op) (value_view v) }
+    ensures { evaluated_view result ≡ prefix_value op (value_view v) }
 {
     match (op, v) {
         (PrefixOp::LogicalNot, Value::Truth(b)) => Evaluated::Gives(Value::Truth(!b)),
@@ -107,7 +105,7 @@ pub(crate) fn truth(b: bool) -> Evaluated
 
 /// What an operator makes of two words.
 fn word_value(op: BinaryOp, a: u32, b: u32) -> Evaluated
-    ensures { evaluated_view result ≡ binary_value (binary_tree op) (value_view (Value.Word a)) (value_view (Value.Word b)) }
+    ensures { evaluated_view result ≡ binary_value op (value_view (Value.Word a)) (value_view (Value.Word b)) }
 {
     match op {
         BinaryOp::BitOr => word(a | b),
@@ -135,7 +133,7 @@ fn word_value(op: BinaryOp, a: u32, b: u32) -> Evaluated
 
 /// What an operator makes of two numbers of type `jint`, which are only compared.
 fn int_value(op: BinaryOp, a: i32, b: i32) -> Evaluated
-    ensures { evaluated_view result ≡ binary_value (binary_tree op) (value_view (Value.Int a)) (value_view (Value.Int b)) }
+    ensures { evaluated_view result ≡ binary_value op (value_view (Value.Int a)) (value_view (Value.Int b)) }
 {
     match op {
         BinaryOp::Equal => truth(a == b),
@@ -154,7 +152,7 @@ fn int_value(op: BinaryOp, a: i32, b: i32) -> Evaluated
 
 /// What an operator makes of two values of type `jboolean`.
 fn flag_value(op: BinaryOp, a: bool, b: bool) -> Evaluated
-    ensures { evaluated_view result ≡ binary_value (binary_tree op) (value_view (Value.Flag a)) (value_view (Value.Flag b)) }
+    ensures { evaluated_view result ≡ binary_value op (value_view (Value.Flag a)) (value_view (Value.Flag b)) }
 {
     match op {
         BinaryOp::Equal => truth(a == b),
@@ -171,7 +169,7 @@ fn flag_value(op: BinaryOp, a: bool, b: bool) -> Evaluated
 
 /// What an operator, other than `&&` and `||`, makes of two values.
 pub(crate) fn binary_value(op: BinaryOp, a: Value, b: Value) -> Evaluated
-    ensures { evaluated_view result ≡ binary_value (binary_tree op) (value_view a) (value_view b) }
+    ensures { evaluated_view result ≡ binary_value op (value_view a) (value_view b) }
 {
     match a {
         Value::Word(a) => match b {

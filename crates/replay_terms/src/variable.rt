@@ -5,7 +5,6 @@ ghost use Rattle.std.specs.Option.{option_map};
 ghost use Rattle.base.specs.Bytes.{lookup};
 ghost use Rattle.std.specs.Str.{bytes_eq};
 ghost use Rattle.indexmap.specs.IndexMap.{get_by, index_map_len, index_of_by, values};
-ghost use Rattle.base.specs.Element.{element_value};
 ghost use Rattle.semantics.specs.CallEffects.{begun_with, copied_elements, freed, local_array};
 ghost use Rattle.semantics.specs.CallStep.{element_type};
 ghost use Rattle.semantics.specs.Heap.{number_in};
@@ -221,7 +220,7 @@ impl<'a> Variables<'a> {
 
     /// The element type of the buffer of this name; `jint` where there is none.
     pub fn element_type(&self, name: &[u8]) -> ElementType
-        ensures { element_value result ≡ element_type (lookup name.now (variables_view self.now)) }
+        ensures { result ≡ element_type (lookup name.now (variables_view self.now)) }
     {
         match self.content_named(name) {
             Some(
@@ -417,7 +416,7 @@ pub fn zeros(alloc: Global, size: u32) -> Result<Vec<i32>, AllocError>
 
 /// Writes an element that is there, converted to its type.
 fn write(kind: ElementType, numbers: &mut [i32], index: usize, number: i32)
-    ensures { numbers.new ≡ slice_set numbers.old index (convert (element_value kind) number) }
+    ensures { numbers.new ≡ slice_set numbers.old index (convert kind number) }
 {
     if index < numbers.len() {
         numbers[index] = convert(kind, number);

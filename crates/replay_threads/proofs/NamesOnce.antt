@@ -7,8 +7,10 @@ use Rattle.std.proofs.lemmas.Cmp.{nat_list_eq_equiv}
 use Rattle.std.proofs.lemmas.List.{map-append}
 use Rattle.base.specs.Bytes.{Identifier, ByName, lookup}
 use Rattle.syntax.specs.Parts.{functions_of, parameter_names}
-use Rattle.syntax.specs.Tree.{Void, Parameter, Function, Item, StaticItem, FunctionItem, SourceUnit}
-use Rattle.type_rules.specs.ExprTypes.{Ref, Scope}
+use Rattle.syntax.specs.declared.unit.ResultType.TheVariants.{Void}
+use Rattle.syntax.specs.Tree.{Parameter, Function, Item, StaticItem, FunctionItem, SourceUnit}
+use Rattle.type_rules.specs.declared.ty.ExprType.TheVariants.{Ref}
+use Rattle.type_rules.specs.ExprTypes.{Scope}
 use Rattle.type_rules.specs.TypeRules.{Place, StaticForm, HeadForm, has_name, has_repeated, broken_at, parameter_type, places_of, function_places, item_places, IsWellTyped, static_type}
 use Rattle.semantics.specs.Activation.{function_at, parameter_variables}
 use Rattle.semantics.specs.Object.{ObjectValue, Number, Refers}

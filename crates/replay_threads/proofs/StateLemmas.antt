@@ -26,7 +26,7 @@ use Rattle.semantics.specs.ReportOf.{report, standing_at, standing_of}
 use Rattle.replay_arguments.specs.Shares.{shared_view}
 use Rattle.semantics.specs.State.{State, thread_at, set_thread, copied, in_use, with_event, advanced}
 use Rattle.semantics.specs.Step.{turn_step, can_step, step_of, is_blocked, is_live, is_unfinished, is_waiting}
-use Rattle.jni.specs.JniFunction.{MonitorEnter}
+use Rattle.jni.specs.declared.function.JniFunction.TheVariants.{MonitorEnter}
 use Rattle.semantics.specs.CallStep.{trap_of_call, waits_with}
 use Rattle.semantics.specs.Effect.{Effect, Calls}
 use Rattle.semantics.specs.Thread.{BuffersInUse, copied_by, lengths_copied, viewed_by, objects_viewed, Caller, Ending, Monitor, Thread, Shared, Unfinished, Ended, Uncaught, Quiet, PrintedNumber, Trapped}
@@ -37,7 +37,7 @@ use Rattle.replay_threads.specs.declared.thread.Thread.{Thread as ThreadInMemory
 use Rattle.semantics.specs.declared.event.Event.{Event}
 use Rattle.semantics.specs.declared.event.Event.TheVariants as event
 use Rattle.semantics.specs.declared.event.Stop.{Stop as StopInMemory}
-use Rattle.semantics.specs.EventViews.{ending_view, printed_after, stop_after, stop_view, trap_view}
+use Rattle.semantics.specs.EventViews.{ending_view, printed_after, stop_after, stop_view}
 use Rattle.replay_threads.specs.States.{ThreadsStand, AreInRange, Stands, call_copies, call_views, variables_of, copied_in, viewed_in, in_use_by, Leads, standing_in, standings_of, EachInRange}
 use Rattle.replay_threads.specs.Threads.{ThreadInRange, ThreadStands, ThreadWaits, WorkStands, StepIs, TakesStep, last_first}
 use Rattle.replay_steps.specs.Callers.{CallerStands}
@@ -305,7 +305,7 @@ module _ (unit : SourceUnit) (w : World) (m : StateInMemory) (s : State) (h : St
       },
     )
     by_step (Some (event.Trapped trap line)) l printed stop = (
-      with_event (record s { shared = after_it; threads = set_thread s.threads (suc i) l.next }) (suc i) (Trapped (trap_view trap) line),
+      with_event (record s { shared = after_it; threads = set_thread s.threads (suc i) l.next }) (suc i) (Trapped trap line),
       step_is ∙ ap (advanced s (suc i)) l.advances,
       record { world = same_world; shared = refl; threads = all_stand l.next l.stands; printed = h.printed ∙ sym printed; stop = ap (option_map stop_view) (sym stop) },
     )

@@ -6,7 +6,8 @@ use Rattle.std.specs.List.{list_all}
 use Rattle.std.proofs.lemmas.Bool.Decides.{nat_tests}
 use Rattle.base.specs.Bytes.{Identifier}
 use Rattle.base.specs.Limits.{most_activations}
-use Rattle.semantics.specs.Value.{CallsTooDeep, Trap}
+use Rattle.semantics.specs.declared.trap.Trap.{Trap}
+use Rattle.semantics.specs.declared.trap.Trap.TheVariants.{CallsTooDeep}
 use Rattle.semantics.specs.declared.event.Event.TheVariants as event
 use Rattle.semantics.specs.declared.trap.Trap.TheVariants as traps
 use Rattle.std.specs.Option.{option_map}
@@ -37,7 +38,7 @@ use Rattle.replay_steps.specs.Callers.{CallerStands, MakesCaller, entering_view,
 use Rattle.replay_steps.specs.declared.callers.Entering.{Entering}
 use Rattle.replay_steps.specs.Steps.{Scene, Sees, calling_by, scene_with, waiting}
 use Rattle.replay_steps.specs.Waits.{WaitsIn}
-use Rattle.semantics.specs.EventViews.{ending_view, trap_view}
+use Rattle.semantics.specs.EventViews.{ending_view}
 use Rattle.replay_tasks.specs.declared.outcome.Outcome.{Outcome}
 use Rattle.semantics.specs.declared.event.Event.{Event as EventInMemory}
 use Rattle.replay_threads.proofs.CallerLists.{last_is_first}
@@ -248,7 +249,7 @@ module _ (unit : SourceUnit) (classes : Classes) (in_use : BuffersInUse) (k : �
     goes outcome.Ends other calls_none does = on Quiet (advances_so outcome.Ends does)
     goes (outcome.Returned given) other calls_none does = absurd (other given refl)
     goes (outcome.Calls line x) other calls_none does = absurd (calls_none line x refl)
-    goes (outcome.Trapped trap line) other calls_none does = on (Trapped (trap_view trap) line) (advances_so (outcome.Trapped trap line) does)
+    goes (outcome.Trapped trap line) other calls_none does = on (Trapped trap line) (advances_so (outcome.Trapped trap line) does)
     goes outcome.Impossible other calls_none does = advances_so outcome.Impossible does
 
     -- the call is over, and so is what the thread called
@@ -345,7 +346,7 @@ module _ (unit : SourceUnit) (classes : Classes) (in_use : BuffersInUse) (k : �
     calls_so line x None left e does = does ∙ e.0 next
     calls_so line x (Some event.Quiet) left e does = waits_for line x left e does
     calls_so line x (Some (event.Trapped trap at)) left e does =
-        subst (λ (l : ℕ). Leaves unit classes after left (Trapped (trap_view trap) l) (thread_step unit classes in_use k shared s refused)) (sym e.2)
+        subst (λ (l : ℕ). Leaves unit classes after left (Trapped trap l) (thread_step unit classes in_use k shared s refused)) (sym e.2)
         (subst (λ (found : Trap). Leaves unit classes after left (Trapped found line) (thread_step unit classes in_use k shared s refused)) (sym e.1) (stops_at line x left e.0 does))
     calls_so line x (Some (event.Printed z)) left e does = absurd e
 

@@ -16,7 +16,8 @@ use Rattle.semantics.specs.Task.{Task, tasks_of}
 use Rattle.semantics.specs.CallEffects.{CallResult}
 use Rattle.semantics.specs.Thread.{Unfinished, Caller, Thread, Shared, BuffersInUse, Event, Advance, Advances, NoAdvance}
 use Rattle.semantics.specs.ThreadStep.{thread_step, waits}
-use Rattle.semantics.specs.Value.{CallsTooDeep, Int}
+use Rattle.semantics.specs.declared.trap.Trap.TheVariants.{CallsTooDeep}
+use Rattle.semantics.specs.Value.{Int}
 use Rattle.semantics.specs.Variable.{Variable, Scalar, LocalRef}
 use Rattle.semantics.specs.Views.{name_of}
 use Rattle.replay_steps.specs.declared.activation.Activation.{Activation}
@@ -33,7 +34,7 @@ use Rattle.replay_arguments.specs.declared.scene.Turn.{Turn}
 use Rattle.replay_terms.specs.Views.{in_use_view}
 use Rattle.semantics.specs.declared.event.Event.{Event as EventInMemory}
 use Rattle.semantics.specs.declared.event.Event.TheVariants as event
-use Rattle.semantics.specs.EventViews.{ending_view, event_view, trap_view}
+use Rattle.semantics.specs.EventViews.{ending_view, event_view}
 use Rattle.replay_terms.specs.Views.{assign_all, variables_view}
 use Rattle.semantics.specs.declared.object_value.ObjectValue.{ObjectValue as ObjectValueInMemory}
 use Rattle.world_values.specs.Views.{object_value_view}
@@ -194,7 +195,7 @@ abbrev pub HasCalled : Shared → ThreadInMemory → Option Activation → (line
 HasCalled s old None line x took new = (took ≡ None) × (new ≡ old)
 HasCalled s old (Some a) line x None new = MakesCaller s a line x None × (new ≡ old)
 HasCalled s old (Some a) line x (Some event.Quiet) new = HasWaited s old a line x new
-HasCalled s old (Some a) line x (Some (event.Trapped trap at)) new = IsStopped s old a line x new × (trap_view trap ≡ CallsTooDeep) × (at ≡ line)
+HasCalled s old (Some a) line x (Some (event.Trapped trap at)) new = IsStopped s old a line x new × (trap ≡ CallsTooDeep) × (at ≡ line)
 HasCalled s old (Some a) line x (Some (event.Printed z)) new = ⊥
 
 -- what others see of what a call in progress did, which was left if it returned, and waits if it called a method

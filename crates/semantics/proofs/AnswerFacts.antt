@@ -1,18 +1,25 @@
 -- What is known of the answers of a call: what is given, what is written, made and raised, by what the call sees and what its checks let through.
 use Rattle.std.specs.Prelude.{◌≡◌, ℕ, ◌+◌, ◌≤◌, ℤ, pos, Bool, true, false, List, length, replicate, slice_get, Some}
 use Rattle.std.specs.Option.{option_map_or}
-use Rattle.base.specs.Element.{ElementType, JChar}
+use Rattle.base.specs.declared.element.ElementType.{ElementType}
+use Rattle.base.specs.declared.element.ElementType.TheVariants.{Char as JChar}
 use Rattle.syntax.specs.Tree.{SourceUnit}
 use Rattle.class_rules.specs.BuiltIns.{array_index_out_of_bounds, array_store_exception, has_own_making, illegal_monitor_state, negative_array_size, no_class_def_found_error, no_such_field_error, no_such_method_error, number_array, string_index_out_of_bounds}
 use Rattle.class_rules.specs.Class.{Classes, array_class_of, class_kind, element_class, is_plain}
 use Rattle.class_rules.specs.Fields.{FieldId, find_field, find_static, layout}
-use Rattle.jni.specs.JniFunction.{JniFunction, GetStaticMethodID, parameters_for}
-use Rattle.jni.specs.Prototype.{ParameterKind, ArrayVariable, ClassObject, FieldID, NumberArray, ObjectArray, StringObject, TextBytes, ResultKind, NewLocal, NewWeak, GivesFlag, GivesInt, GivesField, GivesMethod, GivesNothing}
+use Rattle.jni.specs.declared.function.JniFunction.{JniFunction}
+use Rattle.jni.specs.declared.function.JniFunction.TheVariants.{GetStaticMethodID}
+use Rattle.jni.specs.JniFunction.{parameters_for}
+use Rattle.jni.specs.declared.kinds.ParameterKind.{ParameterKind}
+use Rattle.jni.specs.declared.kinds.ParameterKind.TheVariants.{ArrayVariable, ClassObject, FieldID, NumberArray, ObjectArray, StringObject, TextBytes}
+use Rattle.jni.specs.declared.kinds.ResultKind.{ResultKind}
+use Rattle.jni.specs.declared.kinds.ResultKind.TheVariants.{NewLocal, NewWeak, GivesFlag, GivesInt, GivesField, GivesMethod, GivesNothing}
 use Rattle.semantics.specs.Answer.{Region}
 use Rattle.semantics.specs.AnswerTable.{fits}
 use Rattle.semantics.specs.CallSight.{CallSight, name_of_first, name_of_second}
 use Rattle.semantics.specs.Checks.{fits_field, has_field, has_static}
-use Rattle.semantics.specs.Arguments.{ReleaseMode, CopyBackAndFree, CopyBack, FreeUncopied}
+use Rattle.jni.specs.declared.mode.ReleaseMode.{ReleaseMode}
+use Rattle.jni.specs.declared.mode.ReleaseMode.TheVariants.{CopyBackAndFree, CopyBack, FreeUncopied}
 use Rattle.semantics.specs.CallEffects.{CallResult, NoResult, ScalarResult, ReferenceResult, WeakResult, FieldResult, MethodResult, string_object}
 use Rattle.semantics.specs.Heap.{holds_number, place_in, static_place}
 use Rattle.semantics.specs.Method.{MethodId, find_method}

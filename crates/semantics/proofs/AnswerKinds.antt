@@ -3,27 +3,36 @@
 use Rattle.std.specs.Prelude.{◌≡◌, ◌⊎◌, ◌&&◌, ℕ, ◌+◌, ◌≤◌, ◌==◌, ℤ, pos, negsuc, Bool, true, false, nat_le, nat_lt, if◌then◌else◌, List, [], ◌∷◌, length, replicate, Option, Some, None, refl}
 use Rattle.std.proofs.Common.{ap, inl, inr, ◌∙◌, subst}
 use Rattle.std.proofs.lemmas.Bool.{and_parts, cond_both, leb-true, not-true}
-use Rattle.base.specs.Element.{ElementType, JChar}
+use Rattle.base.specs.declared.element.ElementType.{ElementType}
+use Rattle.base.specs.declared.element.ElementType.TheVariants.{Char as JChar}
 use Rattle.base.specs.Limits.{most_monitor_entries}
 use Rattle.syntax.specs.Tree.{SourceUnit}
 use Rattle.class_rules.specs.BuiltIns.{array_index_out_of_bounds, string_index_out_of_bounds, throwable_class}
 use Rattle.class_rules.specs.Class.{Classes, assignable, class_kind, is_plain}
 use Rattle.class_rules.specs.Fields.{FieldId, layout}
-use Rattle.jni.specs.Access.{Access, ElementsCopy, ArrayView, CharsCopy, CharsView, is_critical}
-use Rattle.jni.specs.JniFunction as jni
-use Rattle.jni.specs.JniFunction.{JniFunction, calls_method, parameters_for, prototype}
-use Rattle.jni.specs.Prototype.{ResultKind, NewLocal, NewGlobal, GivesInt, GivesField, GivesMethod, GivesNothing, GivesBuffer, ParameterKind, ClassObject, FieldID, IntNumber, TextBytes, ArrayVariable, NumberArray, StringObject}
+use Rattle.jni.specs.declared.access.Access.{Access}
+use Rattle.jni.specs.declared.access.Access.TheVariants.{ElementsCopy, ArrayView, CharsCopy, CharsView}
+use Rattle.jni.specs.Access.{is_critical}
+use Rattle.jni.specs.declared.function.JniFunction.TheVariants as functions
+use Rattle.jni.specs.declared.function.JniFunction.{JniFunction}
+use Rattle.jni.specs.JniFunction.{calls_method, parameters_for, prototype}
+use Rattle.jni.specs.declared.kinds.ParameterKind.{ParameterKind}
+use Rattle.jni.specs.declared.kinds.ParameterKind.TheVariants.{ClassObject, FieldID, IntNumber, TextBytes, ArrayVariable, NumberArray, StringObject}
+use Rattle.jni.specs.declared.kinds.ResultKind.{ResultKind}
+use Rattle.jni.specs.declared.kinds.ResultKind.TheVariants.{NewLocal, NewGlobal, GivesInt, GivesField, GivesMethod, GivesNothing, GivesBuffer}
 use Rattle.semantics.specs.Answer.{Answer, Calls, Copies, CopiesBack, DeletesGlobal, DeletesLocal, DeletesWeak, Disowns, Ensures, Frees, GetsRegion, Gives, Halts, Makes, MakesGlobal, Owns, Pends, Pops, Pushes, Raises, RaisesWith, RefusesFrames, Region, SetsRegion, Views, Writes}
 use Rattle.semantics.specs.AnswerTable.{call_answer, element_given, element_set, ensured, found_class, found_field, found_method, fits, global_deleted, local_deleted, method_called, monitor_entered, monitor_left, new_array, pushed, region, region_with, region_within, released, weak_deleted}
 use Rattle.semantics.specs.CallSight.{CallSight, name_of_first, name_of_second, sight_of_call}
 use Rattle.semantics.specs.Checks.{go_together, has_field, has_static}
-use Rattle.semantics.specs.Arguments.{Actual, ReleaseMode, CopyBackAndFree, CopyBack, FreeUncopied}
+use Rattle.jni.specs.declared.mode.ReleaseMode.{ReleaseMode}
+use Rattle.jni.specs.declared.mode.ReleaseMode.TheVariants.{CopyBackAndFree, CopyBack, FreeUncopied}
+use Rattle.semantics.specs.Arguments.{Actual}
 use Rattle.semantics.specs.CallEffects.{CallResult, NoResult}
 use Rattle.semantics.specs.Heap.{place_in, static_place}
 use Rattle.semantics.specs.Method.{MethodId, find_method}
 use Rattle.semantics.specs.Object.{Object, ObjectValue, Reference, Refers}
 use Rattle.semantics.specs.Thread.{Monitor, Shared, Thread}
-use Rattle.semantics.specs.Value.{Trap}
+use Rattle.semantics.specs.declared.trap.Trap.{Trap}
 use Rattle.semantics.specs.Variable.{StaticReference, Empty, Live, Weakly, Cleared, Deleted, Statics}
 use Rattle.semantics.specs.WeakArguments.{takes_weak}
 use Rattle.semantics.proofs.AnswerFacts.{AsField, AsNumber, AsReference, AsStatic, FitsField, IsFound, IsMade, IsOfKind, IsRaised, IsRegion, IsWrite, NoClass, NoElement, NoField, NoMethod, NoOwner, NoSize, NoStore, NoUnit, OfArray, OfClass, OfField, OfFlag, OfInt, OfMethod, OfNothing, OfNumbers, OfReference, OfReferences, OfString, OfText, OfWeak, Takes, TakesNumbers, frees_in, ToElement, ToField, ToStatic}
@@ -35,18 +44,18 @@ pub data CallKind : Type 0 where
 
 -- the kind of a function
 abbrev pub call_kind : JniFunction → CallKind
-call_kind jni.DeleteLocalRef = EndsLocal
-call_kind jni.DeleteGlobalRef = EndsStatic
-call_kind jni.DeleteWeakGlobalRef = EndsStatic
-call_kind jni.PushLocalFrame = PushesFrame
-call_kind jni.PopLocalFrame = PopsFrame
-call_kind (jni.GetArrayRegion T) = FillsArray
-call_kind jni.GetStringRegion = FillsArray
-call_kind (jni.GetBuffer access) = GetsBuffer access
-call_kind (jni.ReleaseBuffer access) = ReleasesBuffer access
-call_kind jni.CallStaticVoidMethod = CallsMethod
-call_kind jni.CallStaticIntMethod = CallsMethod
-call_kind jni.CallStaticObjectMethod = CallsMethod
+call_kind functions.DeleteLocalRef = EndsLocal
+call_kind functions.DeleteGlobalRef = EndsStatic
+call_kind functions.DeleteWeakGlobalRef = EndsStatic
+call_kind functions.PushLocalFrame = PushesFrame
+call_kind functions.PopLocalFrame = PopsFrame
+call_kind (functions.GetArrayRegion T) = FillsArray
+call_kind functions.GetStringRegion = FillsArray
+call_kind (functions.GetBuffer access) = GetsBuffer access
+call_kind (functions.ReleaseBuffer access) = ReleasesBuffer access
+call_kind functions.CallStaticVoidMethod = CallsMethod
+call_kind functions.CallStaticIntMethod = CallsMethod
+call_kind functions.CallStaticObjectMethod = CallsMethod
 call_kind f = Quiet
 
 -- the arguments of the call go together
@@ -80,11 +89,11 @@ pub data AnswersAs (unit : SourceUnit) (classes : Classes) (sight : CallSight) (
   Popping : (r : Reference) → AnswersAs unit classes sight f PopsFrame NewLocal (Pops r)
   Filling : (r : Region) → IsRegion classes sight f r → AnswersAs unit classes sight f FillsArray GivesNothing (GetsRegion r)
   FillingNone : (class : ℕ) → IsRaised f class → AnswersAs unit classes sight f FillsArray GivesNothing (Raises class)
-  Copying : {access : Access} → f ≡ jni.GetBuffer access → is_critical access ≡ false
+  Copying : {access : Access} → f ≡ functions.GetBuffer access → is_critical access ≡ false
       → AnswersAs unit classes sight f (GetsBuffer access) (GivesBuffer access) (Copies (name_of_first sight))
-  Viewing : {access : Access} → f ≡ jni.GetBuffer access → is_critical access ≡ true
+  Viewing : {access : Access} → f ≡ functions.GetBuffer access → is_critical access ≡ true
       → AnswersAs unit classes sight f (GetsBuffer access) (GivesBuffer access) (Views (name_of_first sight))
-  CopyingBack : (T : ElementType) (frees : Bool) → f ≡ jni.ReleaseBuffer (ElementsCopy T) → frees_in sight.third.mode ≡ frees
+  CopyingBack : (T : ElementType) (frees : Bool) → f ≡ functions.ReleaseBuffer (ElementsCopy T) → frees_in sight.third.mode ≡ frees
       → AnswersAs unit classes sight f (ReleasesBuffer (ElementsCopy T)) GivesNothing (CopiesBack (name_of_first sight) 1 frees)
   Freeing : {access : Access} → ((T : ElementType) → access ≡ ElementsCopy T → frees_in sight.third.mode ≡ true)
       → AnswersAs unit classes sight f (ReleasesBuffer access) GivesNothing (Frees 1)
@@ -119,7 +128,7 @@ module _ (unit : SourceUnit) (classes : Classes) (sight : CallSight) (f : JniFun
   field_as None h = Raising _ NoField
   field_as (Some x) h = Giving (OfField x (h x refl))
 
-  method_as : f ≡ jni.GetStaticMethodID → (class : ℕ) (name text : List ℕ) (o : Option MethodId) → find_method unit classes class name text ≡ o
+  method_as : f ≡ functions.GetStaticMethodID → (class : ℕ) (name text : List ℕ) (o : Option MethodId) → find_method unit classes class name text ≡ o
       → As Quiet GivesMethod (found_method o)
   method_as of class name text None is = Raising _ (NoMethod of)
   method_as of class name text (Some m) is = Giving (OfMethod m class name text is)
@@ -188,7 +197,7 @@ module _ (unit : SourceUnit) (classes : Classes) (sight : CallSight) (f : JniFun
           cond_both (nat_le r.count sight.elements) _ _ (As kind GivesNothing)
           (λ e. there r within.0 within.1 (leb-true r.count sight.elements e)) (λ e. Halting _)
 
-  released_as : (T : ElementType) → f ≡ jni.ReleaseBuffer (ElementsCopy T) → (mode : ReleaseMode) → sight.third.mode ≡ mode
+  released_as : (T : ElementType) → f ≡ functions.ReleaseBuffer (ElementsCopy T) → (mode : ReleaseMode) → sight.third.mode ≡ mode
       → As (ReleasesBuffer (ElementsCopy T)) GivesNothing (released (name_of_first sight) mode)
   released_as T of CopyBackAndFree is = CopyingBack T true of (ap frees_in is)
   released_as T of CopyBack is = CopyingBack T false of (ap frees_in is)
@@ -233,76 +242,76 @@ module _ (unit : SourceUnit) (classes : Classes) (k : ℕ) (sight : CallSight) w
 
   pub answers_as : (f : JniFunction) → AnswersAs unit classes sight f (call_kind f) (prototype f).result (call_answer unit classes k sight f)
   unfolding call_answer go_together
-  answers_as jni.FindClass = class_as unit classes sight jni.FindClass _
-  answers_as jni.GetSuperclass = Giving (OfReference _)
-  answers_as jni.GetObjectClass = Giving (OfReference _)
-  answers_as jni.IsInstanceOf = Giving (OfFlag _)
-  answers_as jni.IsAssignableFrom = Giving (OfFlag _)
-  answers_as jni.AllocObject = Making _ (λ checked. OfClass (λ n. refl) (not-true _ checked.1))
-  answers_as jni.NewLocalRef = Giving (OfReference _)
-  answers_as jni.NewGlobalRef = MakingGlobal _
-  answers_as jni.NewWeakGlobalRef = Giving (OfWeak _)
-  answers_as jni.DeleteLocalRef = local_as unit classes sight jni.DeleteLocalRef sight.first.reference refl
-  answers_as jni.DeleteGlobalRef = global_as unit classes sight jni.DeleteGlobalRef sight.held
-  answers_as jni.DeleteWeakGlobalRef = weak_as unit classes sight jni.DeleteWeakGlobalRef sight.held
-  answers_as jni.IsSameObject = Giving (OfFlag _)
-  answers_as jni.EnsureLocalCapacity = ensured_as unit classes sight jni.EnsureLocalCapacity sight.first.number
-  answers_as jni.PushLocalFrame = pushed_as unit classes sight jni.PushLocalFrame sight.first.number
-  answers_as jni.PopLocalFrame = Popping _
-  answers_as jni.GetFieldID =
-      field_as unit classes sight jni.GetFieldID _
+  answers_as functions.FindClass = class_as unit classes sight functions.FindClass _
+  answers_as functions.GetSuperclass = Giving (OfReference _)
+  answers_as functions.GetObjectClass = Giving (OfReference _)
+  answers_as functions.IsInstanceOf = Giving (OfFlag _)
+  answers_as functions.IsAssignableFrom = Giving (OfFlag _)
+  answers_as functions.AllocObject = Making _ (λ checked. OfClass (λ n. refl) (not-true _ checked.1))
+  answers_as functions.NewLocalRef = Giving (OfReference _)
+  answers_as functions.NewGlobalRef = MakingGlobal _
+  answers_as functions.NewWeakGlobalRef = Giving (OfWeak _)
+  answers_as functions.DeleteLocalRef = local_as unit classes sight functions.DeleteLocalRef sight.first.reference refl
+  answers_as functions.DeleteGlobalRef = global_as unit classes sight functions.DeleteGlobalRef sight.held
+  answers_as functions.DeleteWeakGlobalRef = weak_as unit classes sight functions.DeleteWeakGlobalRef sight.held
+  answers_as functions.IsSameObject = Giving (OfFlag _)
+  answers_as functions.EnsureLocalCapacity = ensured_as unit classes sight functions.EnsureLocalCapacity sight.first.number
+  answers_as functions.PushLocalFrame = pushed_as unit classes sight functions.PushLocalFrame sight.first.number
+  answers_as functions.PopLocalFrame = Popping _
+  answers_as functions.GetFieldID =
+      field_as unit classes sight functions.GetFieldID _
       (λ f is. AsField (name_of_first sight) sight.second.text sight.third.text is)
-  answers_as jni.GetStaticFieldID =
-      field_as unit classes sight jni.GetStaticFieldID _
+  answers_as functions.GetStaticFieldID =
+      field_as unit classes sight functions.GetStaticFieldID _
       (λ f is. AsStatic (name_of_first sight) sight.second.text sight.third.text is)
-  answers_as (jni.SetField T) = Writing _ _ _ (λ checked. to_field (jni.SetField T) (λ n. refl) _ _ (λ fits. AsNumber T _ fits) checked.1)
-  answers_as jni.GetObjectField = Giving (OfReference _)
-  answers_as jni.SetObjectField = Writing _ _ _ (λ checked. to_field jni.SetObjectField (λ n. refl) _ _ (λ fits. AsReference fits) checked.1)
-  answers_as (jni.SetStaticField T) = Writing _ _ _ (λ checked. to_static (jni.SetStaticField T) (λ n. refl) _ _ (λ fits. AsNumber T _ fits) checked.1)
-  answers_as jni.GetStaticObjectField = Giving (OfReference _)
-  answers_as jni.SetStaticObjectField = Writing _ _ _ (λ checked. to_static jni.SetStaticObjectField (λ n. refl) _ _ (λ fits. AsReference fits) checked.1)
-  answers_as (jni.NewArray T) = array_as unit classes sight (jni.NewArray T) _ sight.first.number _ (λ n checked. OfNumbers T n)
-  answers_as jni.NewObjectArray =
-      array_as unit classes sight jni.NewObjectArray _ sight.first.number _ (λ n checked.
+  answers_as (functions.SetField T) = Writing _ _ _ (λ checked. to_field (functions.SetField T) (λ n. refl) _ _ (λ fits. AsNumber T _ fits) checked.1)
+  answers_as functions.GetObjectField = Giving (OfReference _)
+  answers_as functions.SetObjectField = Writing _ _ _ (λ checked. to_field functions.SetObjectField (λ n. refl) _ _ (λ fits. AsReference fits) checked.1)
+  answers_as (functions.SetStaticField T) = Writing _ _ _ (λ checked. to_static (functions.SetStaticField T) (λ n. refl) _ _ (λ fits. AsNumber T _ fits) checked.1)
+  answers_as functions.GetStaticObjectField = Giving (OfReference _)
+  answers_as functions.SetStaticObjectField = Writing _ _ _ (λ checked. to_static functions.SetStaticObjectField (λ n. refl) _ _ (λ fits. AsReference fits) checked.1)
+  answers_as (functions.NewArray T) = array_as unit classes sight (functions.NewArray T) _ sight.first.number _ (λ n checked. OfNumbers T n)
+  answers_as functions.NewObjectArray =
+      array_as unit classes sight functions.NewObjectArray _ sight.first.number _ (λ n checked.
       let both = and_parts (is_plain (class_kind classes (name_of_second sight))) (fits classes sight.third (name_of_second sight)) checked.1 in
       OfReferences n (λ n. refl) both.0 both.1)
-  answers_as jni.GetObjectArrayElement = element_as unit classes sight jni.GetObjectArrayElement _ _
-  answers_as jni.SetObjectArrayElement = set_as unit classes sight jni.SetObjectArrayElement _ _ _ _ (λ fits i. ToElement i (λ n. refl) fits)
-  answers_as (jni.GetArrayRegion T) =
-      regions (jni.GetArrayRegion T) FillsArray GetsRegion array_index_out_of_bounds T (OfArray T (λ n. refl)) (λ n. refl) Filling (FillingNone _ NoElement)
-  answers_as (jni.SetArrayRegion T) =
-      regions (jni.SetArrayRegion T) Quiet SetsRegion array_index_out_of_bounds T (OfArray T (λ n. refl)) (λ n. refl) SettingRegion (Raising _ NoElement)
-  answers_as jni.GetStringRegion =
-      regions jni.GetStringRegion FillsArray GetsRegion string_index_out_of_bounds JChar (OfString (λ n. refl)) (λ n. refl) Filling (FillingNone _ NoUnit)
-  answers_as (jni.GetBuffer (ElementsCopy T)) = Copying refl refl
-  answers_as (jni.GetBuffer ArrayView) = Viewing refl refl
-  answers_as (jni.GetBuffer CharsCopy) = Copying refl refl
-  answers_as (jni.GetBuffer CharsView) = Viewing refl refl
-  answers_as (jni.ReleaseBuffer (ElementsCopy T)) = released_as unit classes sight (jni.ReleaseBuffer (ElementsCopy T)) T refl sight.third.mode refl
-  answers_as (jni.ReleaseBuffer ArrayView) = freed_as unit classes sight (jni.ReleaseBuffer ArrayView) ArrayView (λ T is. cc)
-  answers_as (jni.ReleaseBuffer CharsCopy) = freed_as unit classes sight (jni.ReleaseBuffer CharsCopy) CharsCopy (λ T is. cc)
-  answers_as (jni.ReleaseBuffer CharsView) = freed_as unit classes sight (jni.ReleaseBuffer CharsView) CharsView (λ T is. cc)
-  answers_as jni.NewStringUTF = Making _ (λ checked. OfText (λ n. refl))
-  answers_as jni.Throw = Pending _ (OfInt _)
-  answers_as jni.ThrowNew = RaisingWith (λ n. refl) (λ n. refl) (λ checked. checked.1)
-  answers_as jni.ExceptionOccurred = Giving (OfReference _)
-  answers_as jni.ExceptionCheck = Giving (OfFlag _)
-  answers_as jni.ExceptionClear = Pending None OfNothing
-  answers_as jni.FatalError = Halting _
-  answers_as jni.MonitorEnter = entered_as unit classes sight jni.MonitorEnter _ sight.monitor
-  answers_as jni.MonitorExit = left_as unit classes sight jni.MonitorExit k _ sight.monitor
-  answers_as jni.GetStaticMethodID = method_as unit classes sight jni.GetStaticMethodID refl (name_of_first sight) sight.second.text sight.third.text _ refl
-  answers_as jni.CallStaticVoidMethod = called_as unit classes sight jni.CallStaticVoidMethod GivesNothing sight.second.method refl
-  answers_as jni.CallStaticIntMethod = called_as unit classes sight jni.CallStaticIntMethod GivesInt sight.second.method refl
-  answers_as jni.CallStaticObjectMethod = called_as unit classes sight jni.CallStaticObjectMethod NewLocal sight.second.method refl
+  answers_as functions.GetObjectArrayElement = element_as unit classes sight functions.GetObjectArrayElement _ _
+  answers_as functions.SetObjectArrayElement = set_as unit classes sight functions.SetObjectArrayElement _ _ _ _ (λ fits i. ToElement i (λ n. refl) fits)
+  answers_as (functions.GetArrayRegion T) =
+      regions (functions.GetArrayRegion T) FillsArray GetsRegion array_index_out_of_bounds T (OfArray T (λ n. refl)) (λ n. refl) Filling (FillingNone _ NoElement)
+  answers_as (functions.SetArrayRegion T) =
+      regions (functions.SetArrayRegion T) Quiet SetsRegion array_index_out_of_bounds T (OfArray T (λ n. refl)) (λ n. refl) SettingRegion (Raising _ NoElement)
+  answers_as functions.GetStringRegion =
+      regions functions.GetStringRegion FillsArray GetsRegion string_index_out_of_bounds JChar (OfString (λ n. refl)) (λ n. refl) Filling (FillingNone _ NoUnit)
+  answers_as (functions.GetBuffer (ElementsCopy T)) = Copying refl refl
+  answers_as (functions.GetBuffer ArrayView) = Viewing refl refl
+  answers_as (functions.GetBuffer CharsCopy) = Copying refl refl
+  answers_as (functions.GetBuffer CharsView) = Viewing refl refl
+  answers_as (functions.ReleaseBuffer (ElementsCopy T)) = released_as unit classes sight (functions.ReleaseBuffer (ElementsCopy T)) T refl sight.third.mode refl
+  answers_as (functions.ReleaseBuffer ArrayView) = freed_as unit classes sight (functions.ReleaseBuffer ArrayView) ArrayView (λ T is. cc)
+  answers_as (functions.ReleaseBuffer CharsCopy) = freed_as unit classes sight (functions.ReleaseBuffer CharsCopy) CharsCopy (λ T is. cc)
+  answers_as (functions.ReleaseBuffer CharsView) = freed_as unit classes sight (functions.ReleaseBuffer CharsView) CharsView (λ T is. cc)
+  answers_as functions.NewStringUTF = Making _ (λ checked. OfText (λ n. refl))
+  answers_as functions.Throw = Pending _ (OfInt _)
+  answers_as functions.ThrowNew = RaisingWith (λ n. refl) (λ n. refl) (λ checked. checked.1)
+  answers_as functions.ExceptionOccurred = Giving (OfReference _)
+  answers_as functions.ExceptionCheck = Giving (OfFlag _)
+  answers_as functions.ExceptionClear = Pending None OfNothing
+  answers_as functions.FatalError = Halting _
+  answers_as functions.MonitorEnter = entered_as unit classes sight functions.MonitorEnter _ sight.monitor
+  answers_as functions.MonitorExit = left_as unit classes sight functions.MonitorExit k _ sight.monitor
+  answers_as functions.GetStaticMethodID = method_as unit classes sight functions.GetStaticMethodID refl (name_of_first sight) sight.second.text sight.third.text _ refl
+  answers_as functions.CallStaticVoidMethod = called_as unit classes sight functions.CallStaticVoidMethod GivesNothing sight.second.method refl
+  answers_as functions.CallStaticIntMethod = called_as unit classes sight functions.CallStaticIntMethod GivesInt sight.second.method refl
+  answers_as functions.CallStaticObjectMethod = called_as unit classes sight functions.CallStaticObjectMethod NewLocal sight.second.method refl
   -- a number of a field or an array
   answers_as f = Giving (OfInt _)
 
 -- the parameters of a function that fills a local array: its last one is the array
 pub filled_last : (f : JniFunction) → call_kind f ≡ FillsArray
     → (owner : ParameterKind) × ((T : ElementType) × ((n : ℕ) → parameters_for f n ≡ owner ∷ IntNumber ∷ IntNumber ∷ ArrayVariable T ∷ []))
-filled_last (jni.GetArrayRegion T) is = (NumberArray T, (T, λ n. refl))
-filled_last jni.GetStringRegion is = (StringObject, (JChar, λ n. refl))
+filled_last (functions.GetArrayRegion T) is = (NumberArray T, (T, λ n. refl))
+filled_last functions.GetStringRegion is = (StringObject, (JChar, λ n. refl))
 filled_last f is = absurd (cc)
 
 -- ---- calls of methods
@@ -313,9 +322,9 @@ is_of_method CallsMethod = true
 is_of_method kind = false
 
 methods_are : (f : JniFunction) → is_of_method (call_kind f) ≡ calls_method f
-methods_are jni.CallStaticVoidMethod = refl
-methods_are jni.CallStaticIntMethod = refl
-methods_are jni.CallStaticObjectMethod = refl
+methods_are functions.CallStaticVoidMethod = refl
+methods_are functions.CallStaticIntMethod = refl
+methods_are functions.CallStaticObjectMethod = refl
 methods_are f = refl
 
 one_kind : (kind : CallKind) → is_of_method kind ≡ true → kind ≡ CallsMethod
@@ -370,10 +379,10 @@ module _ (unit : SourceUnit) (classes : Classes) (k : ℕ) where
   -- functions that take weak references leave the heap as it was
   pub weak_leaves : (sight : CallSight) (f : JniFunction) → takes_weak f ≡ true → LeavesHeap (call_answer unit classes k sight f)
   unfolding call_answer
-  weak_leaves sight jni.NewLocalRef is = tt
-  weak_leaves sight jni.NewGlobalRef is = tt
-  weak_leaves sight jni.IsSameObject is = tt
-  weak_leaves sight jni.DeleteWeakGlobalRef is = static_leaves (weak_as unit classes sight jni.DeleteWeakGlobalRef sight.held)
+  weak_leaves sight functions.NewLocalRef is = tt
+  weak_leaves sight functions.NewGlobalRef is = tt
+  weak_leaves sight functions.IsSameObject is = tt
+  weak_leaves sight functions.DeleteWeakGlobalRef is = static_leaves (weak_as unit classes sight functions.DeleteWeakGlobalRef sight.held)
   weak_leaves sight f is = absurd (cc)
 
   -- where only statics differ, the answers are the same, or both leave the heap as it was
@@ -381,8 +390,8 @@ module _ (unit : SourceUnit) (classes : Classes) (k : ℕ) where
       → let now = call_answer unit classes k (sight_of_call s t f args) f in
       let other = call_answer unit classes k (sight_of_call (record s { statics = statics }) t f args) f in
       (other ≡ now) ⊎ (LeavesHeap other × LeavesHeap now)
-  by_statics s statics t args jni.DeleteGlobalRef =
-      inr (static_leaves (answers_as unit classes k _ jni.DeleteGlobalRef), static_leaves (answers_as unit classes k _ jni.DeleteGlobalRef))
-  by_statics s statics t args jni.DeleteWeakGlobalRef =
-      inr (static_leaves (answers_as unit classes k _ jni.DeleteWeakGlobalRef), static_leaves (answers_as unit classes k _ jni.DeleteWeakGlobalRef))
+  by_statics s statics t args functions.DeleteGlobalRef =
+      inr (static_leaves (answers_as unit classes k _ functions.DeleteGlobalRef), static_leaves (answers_as unit classes k _ functions.DeleteGlobalRef))
+  by_statics s statics t args functions.DeleteWeakGlobalRef =
+      inr (static_leaves (answers_as unit classes k _ functions.DeleteWeakGlobalRef), static_leaves (answers_as unit classes k _ functions.DeleteWeakGlobalRef))
   by_statics s statics t args f = inl refl

@@ -2,16 +2,22 @@
 use Rattle.std.proofs.Common.{◌≡◌, ℕ, ◌+◌, Bool, true, false, not, List, ◌∷◌, [], Option, None, refl, ◌≤◌, length, Some, arith}
 use Rattle.std.specs.Prelude.{◌&&◌, ◌||◌, nat_le, is_some, ⊤}
 use Rattle.std.specs.List.{list_any}
-use Rattle.base.specs.Element.{ElementType}
+use Rattle.base.specs.declared.element.ElementType.{ElementType}
 use Rattle.base.specs.Bytes.{Identifier, lookup}
 use Rattle.class_rules.specs.Class.{Classes}
-use Rattle.jni.specs.Access.{ElementsCopy, ArrayView, CharsCopy, CharsView}
-use Rattle.jni.specs.JniFunction.{JniFunction, GetBuffer, PopLocalFrame, calls_method, is_allowed_pending, prototype}
-use Rattle.jni.specs.Prototype.{ResultKind, NewLocal, ParameterKind, ArrayVariable}
+use Rattle.jni.specs.declared.access.Access.TheVariants.{ElementsCopy, ArrayView, CharsCopy, CharsView}
+use Rattle.jni.specs.declared.function.JniFunction.{JniFunction}
+use Rattle.jni.specs.declared.function.JniFunction.TheVariants.{GetBuffer, PopLocalFrame}
+use Rattle.jni.specs.JniFunction.{calls_method, is_allowed_pending, prototype}
+use Rattle.jni.specs.declared.kinds.ParameterKind.{ParameterKind}
+use Rattle.jni.specs.declared.kinds.ParameterKind.TheVariants.{ArrayVariable}
+use Rattle.jni.specs.declared.kinds.ResultKind.{ResultKind}
+use Rattle.jni.specs.declared.kinds.ResultKind.TheVariants.{NewLocal}
 use Rattle.semantics.specs.CallSight.{ArgumentSight, CallSight, elements_seen}
 use Rattle.semantics.specs.Checks.{first_trap, go_together, lacks_room, misfits, misses, trap_of, with_kinds}
 use Rattle.semantics.specs.Thread.{Monitor}
-use Rattle.semantics.specs.Value.{Trap, NullReference, ExceptionPending, WrongObject, DeletedReference, NoCapacity, CallsTooDeep}
+use Rattle.semantics.specs.declared.trap.Trap.{Trap}
+use Rattle.semantics.specs.declared.trap.Trap.TheVariants.{NullReference, ExceptionPending, WrongObject, DeletedReference, NoCapacity, CallsTooDeep}
 use Rattle.semantics.specs.CallEffects.{local_array}
 use Rattle.semantics.specs.Variable.{StaticReference, Variables}
 

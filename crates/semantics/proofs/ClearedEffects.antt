@@ -10,7 +10,7 @@ use Rattle.semantics.specs.Heap.{Heap}
 use Rattle.semantics.specs.Sight.{Sight, seen, holds_null, held_reference, static_is_null}
 use Rattle.semantics.specs.Task.{Task, SetScalar, SetElement, SetNull, MakeArray, Invoke, Print, Branch, EndIf, Loop, EndTurn, Return, ReturnValue, Impossible, Operand, NumberOperand, Given, PassedName}
 use Rattle.semantics.specs.Arguments.{actuals}
-use Rattle.syntax.specs.Tree.{Null, True, False, Commit, Abort}
+use Rattle.syntax.specs.declared.expr.Constant.TheVariants.{Null, True, False, Commit, Abort}
 use Rattle.semantics.specs.Term.{Term, Done, Number, Named, Read, Element, IsNull, Prefix, And, Or, Binary, reduce, done, with_part, and_then, or_else, index_of}
 use Rattle.semantics.specs.Value.{Value, Word, Flag, Outcome, Gives, Traps, Stuck, Int, Truth, outcome_then, outcome_map, prefix_value}
 use Rattle.semantics.specs.Variable.{Variable, Scalar, LocalRef, FieldHandle, MethodHandle, Elements, LocalArray, Variables, StaticReference, Empty, Live, Weakly, Cleared, Deleted, Statics}

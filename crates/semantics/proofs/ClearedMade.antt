@@ -6,8 +6,9 @@ use Rattle.std.proofs.lemmas.List.{append-nil}
 use Rattle.base.specs.Bytes.{Identifier, lookup}
 use Rattle.base.specs.Limits.{most_references}
 use Rattle.class_rules.specs.Class.{Classes}
-use Rattle.jni.specs.JniFunction as jni
-use Rattle.jni.specs.JniFunction.{JniFunction, parameters_for}
+use Rattle.jni.specs.declared.function.JniFunction.TheVariants as functions
+use Rattle.jni.specs.declared.function.JniFunction.{JniFunction}
+use Rattle.jni.specs.JniFunction.{parameters_for}
 use Rattle.syntax.specs.Tree.{SourceUnit}
 use Rattle.semantics.specs.Activation.{enter, entry_advance}
 use Rattle.semantics.specs.Answer.{Answer, DeletesGlobal, DeletesWeak, Ensures, MakesGlobal, Pushes}
@@ -29,7 +30,8 @@ use Rattle.semantics.specs.Task.{Task, Invoke, ReturnValue, Target, Declared, As
 use Rattle.semantics.specs.Term.{Term, Read}
 use Rattle.semantics.specs.Thread.{Thread, Caller, Shared, BuffersInUse, Frame, Quiet, Trapped, PrintedNumber, Advance, Advances, NoAdvance, capacities, sight_of}
 use Rattle.semantics.specs.ThreadStep.{next_effect, after_effect, set_element, step_within}
-use Rattle.semantics.specs.Value.{Value, Trap, Outcome, Gives, Traps, Stuck}
+use Rattle.semantics.specs.declared.trap.Trap.{Trap}
+use Rattle.semantics.specs.Value.{Value, Outcome, Gives, Traps, Stuck}
 use Rattle.semantics.specs.Variable.{Variable, Scalar, LocalRef, FieldHandle, MethodHandle, Elements, LocalArray, NoBuffer, Copy, View, StaticReference, Statics}
 use Rattle.semantics.specs.WeakReferences.{cleared_statics, with_cleared}
 use Rattle.semantics.specs.World.{World, fresh_object}
@@ -203,7 +205,7 @@ thread_stays s names (suc i) = refl
 
 waits_equal : (classes : Classes) (k : ℕ) (names : List ℕ) (s : State) (t : Thread) (e : Effect)
     → waits_with classes k (with_cleared names s).shared t e ≡ waits_with classes k s.shared t e
-waits_equal classes k names s t (Calls line target jni.MonitorEnter args) = refl
+waits_equal classes k names s t (Calls line target functions.MonitorEnter args) = refl
 waits_equal classes k names s t e = refl
 
 module _ (unit : SourceUnit) (w : World) (s : State) (k : ℕ) (t : Thread) (names : List ℕ) (here : thread_at s k ≡ Some t)
@@ -257,7 +259,7 @@ module _ (classes : Classes) (k : ℕ) (s : Shared) (t : Thread) where
   moved_on line target f Stuck = refl
 
   called : (line : ℕ) (target : Target) (f : JniFunction) (args : List Actual) → takes_weak f ≡ true → waits_with classes k s t (Calls line target f args) ≡ false
-  called line target jni.MonitorEnter args h = absurd (false≢true h)
+  called line target functions.MonitorEnter args h = absurd (false≢true h)
   called line target f args h = refl
 
   called_or_moved : (b : Bool) (e e' : Effect) → waits_with classes k s t e ≡ false → waits_with classes k s t e' ≡ false → waits_with classes k s t (cond b e e') ≡ false

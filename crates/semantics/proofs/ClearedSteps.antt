@@ -7,8 +7,10 @@ use Rattle.std.proofs.Math.Seq.{drop-length}
 use Rattle.std.proofs.lemmas.List.{append-nil}
 use Rattle.base.specs.Bytes.{Identifier, lookup}
 use Rattle.class_rules.specs.Class.{Classes}
-use Rattle.jni.specs.JniFunction.{JniFunction, parameters_for}
-use Rattle.jni.specs.Prototype.{ParameterKind, FieldID, MethodID, ArrayVariable, BufferVariable, Mode, IsCopy}
+use Rattle.jni.specs.declared.function.JniFunction.{JniFunction}
+use Rattle.jni.specs.JniFunction.{parameters_for}
+use Rattle.jni.specs.declared.kinds.ParameterKind.{ParameterKind}
+use Rattle.jni.specs.declared.kinds.ParameterKind.TheVariants.{FieldID, MethodID, ArrayVariable, BufferVariable, Mode, IsCopy}
 use Rattle.syntax.specs.Tree as tree
 use Rattle.syntax.specs.Tree.{SourceUnit, AddressOf}
 use Rattle.semantics.specs.Answer.{Answer, DeletesGlobal, DeletesWeak, MakesGlobal}
@@ -30,7 +32,8 @@ use Rattle.semantics.specs.Task.{Task, Invoke, ReturnValue, Target, Declared, As
 use Rattle.semantics.specs.Term.{Term, Done, Read}
 use Rattle.semantics.specs.Thread.{Caller, Thread, Shared, BuffersInUse, Quiet, Trapped, PrintedNumber, Advance, Advances, NoAdvance, sight_of}
 use Rattle.semantics.specs.ThreadStep.{next_effect, after_effect, step_within}
-use Rattle.semantics.specs.Value.{Value, Int, Trap, Outcome, Gives, Traps, Stuck}
+use Rattle.semantics.specs.declared.trap.Trap.{Trap}
+use Rattle.semantics.specs.Value.{Value, Int, Outcome, Gives, Traps, Stuck}
 use Rattle.semantics.specs.Variable.{Variable, Variables, StaticReference, Statics, as_reference}
 use Rattle.semantics.specs.WeakArguments.{takes_weak, NamesNoWeak, WeakAreTaken}
 use Rattle.semantics.specs.WeakReferences.{cleared_statics, with_cleared}

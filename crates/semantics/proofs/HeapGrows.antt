@@ -5,7 +5,7 @@ use lib.ListN.{length-set}
 use Rattle.base.specs.Limits.{most_references}
 use Rattle.syntax.specs.Tree.{SourceUnit}
 use Rattle.class_rules.specs.Class.{Classes}
-use Rattle.jni.specs.JniFunction.{JniFunction}
+use Rattle.jni.specs.declared.function.JniFunction.{JniFunction}
 use Rattle.semantics.specs.Answer.{Answer, Calls, Copies, CopiesBack, DeletesGlobal, DeletesLocal, DeletesWeak, Disowns, Ensures, Frees, GetsRegion, Gives, Makes, MakesGlobal, Owns, Pends, Pops, Pushes, Raises, RaisesWith, RefusesFrames, SetsRegion, Views, Writes, effect_of}
 use Rattle.semantics.specs.Answer as answer
 use Rattle.semantics.specs.AnswerTable.{call_answer, call_effect}

@@ -7,7 +7,7 @@ use Rattle.std.proofs.lemmas.Bool.{cond_both}
 use Rattle.base.specs.Bytes.{Identifier, lookup}
 use Rattle.base.specs.Limits.{most_references}
 use Rattle.class_rules.specs.Class.{Classes}
-use Rattle.jni.specs.JniFunction.{JniFunction}
+use Rattle.jni.specs.declared.function.JniFunction.{JniFunction}
 use Rattle.semantics.specs.Answer.{Answer, DeletesGlobal, DeletesWeak, Ensures, Pushes, Raises}
 use Rattle.semantics.specs.Answer as answer
 use Rattle.semantics.specs.AnswerTable.{call_answer, call_effect}
@@ -26,7 +26,7 @@ use Rattle.semantics.specs.Step.{turn_step, step_of, can_step}
 use Rattle.semantics.specs.Task.{Task, Target, Declared, Assigned, Tested, Dropped}
 use Rattle.semantics.specs.Thread.{Caller, Event, Quiet, Trapped, PrintedNumber, Advance, Advances, NoAdvance, sight_of}
 use Rattle.semantics.specs.ThreadStep.{set_element, after_effect, after_refused_effect, step_within, thread_step, with_tasks}
-use Rattle.semantics.specs.Value.{Trap}
+use Rattle.semantics.specs.declared.trap.Trap.{Trap}
 use Rattle.semantics.specs.Variable.{Variable, Scalar, LocalRef, FieldHandle, MethodHandle, Elements, LocalArray, NoBuffer, Copy, View, StaticReference, Empty, Live, Weakly, Cleared, Deleted, Statics, assign}
 use Rattle.semantics.specs.WeakReferences.{weak_object, weakly_held}
 use Rattle.syntax.specs.Tree.{SourceUnit}

@@ -10,7 +10,7 @@ use Rattle.semantics.specs.Heap.{Heap, numbers_of, with_numbers, with_value_at}
 use Rattle.semantics.specs.Method.{MethodId}
 use Rattle.semantics.specs.Object.{Object, ObjectValue, Reference}
 use Rattle.semantics.specs.Thread.{BuffersInUse, Shared, Thread, without_monitor}
-use Rattle.semantics.specs.Value.{Trap}
+use Rattle.semantics.specs.declared.trap.Trap.{Trap}
 use Rattle.semantics.specs.Variable.{Deleted, Variables, assign, change}
 
 -- values of an array or a string from a start on, and the local array of the fourth argument, whose first elements are as many

@@ -2,12 +2,10 @@
 use Rattle.std.specs.Prelude.{ℕ, false, ℤ, pos, List, [], length, map, zip, slice_get, Option, Some, None}
 use Rattle.syntax.specs.Tree as tree
 use Rattle.base.specs.Bytes.{Identifier}
-use Rattle.base.specs.Element.{JInt}
-use Rattle.syntax.specs.Tree.{Commit, Abort, Expr, Argument, AddressOf}
+use Rattle.syntax.specs.Tree.{Expr, Argument, AddressOf}
 use Rattle.class_rules.specs.Class.{NumberField}
 use Rattle.class_rules.specs.Fields.{FieldId}
-use Rattle.jni.specs.JniFunction.{JniFunction, parameters_for}
-use Rattle.jni.specs.Prototype.{FieldID, MethodID, ArrayVariable, BufferVariable, Mode, IsCopy, ParameterKind}
+use Rattle.jni.specs.JniFunction.{parameters_for}
 use Rattle.semantics.specs.Method.{MethodId}
 use Rattle.semantics.specs.Object.{ObjectValue, Number, Refers, Reference}
 use Rattle.semantics.specs.Sight.{Sight}
@@ -15,10 +13,13 @@ use Rattle.semantics.specs.Task.{Operand, NumberOperand, PassedName, Given}
 use Rattle.semantics.specs.Term.{Done}
 use Rattle.semantics.specs.Value.{Int}
 use Rattle.semantics.specs.Variable.{StaticReference, Empty, Live, as_reference}
-
--- how a buffer of copied elements is released
-pub data ReleaseMode : Type 0 where
-  CopyBackAndFree CopyBack FreeUncopied : ReleaseMode
+use Rattle.base.specs.declared.element.ElementType.TheVariants.{Int as JInt}
+use Rattle.jni.specs.declared.function.JniFunction.{JniFunction}
+use Rattle.jni.specs.declared.kinds.ParameterKind.{ParameterKind}
+use Rattle.jni.specs.declared.kinds.ParameterKind.TheVariants.{FieldID, MethodID, ArrayVariable, BufferVariable, Mode, IsCopy}
+use Rattle.syntax.specs.declared.expr.Constant.TheVariants.{Commit, Abort}
+use Rattle.jni.specs.declared.mode.ReleaseMode.{ReleaseMode}
+use Rattle.jni.specs.declared.mode.ReleaseMode.TheVariants.{CopyBackAndFree, CopyBack, FreeUncopied}
 
 -- an argument, looked up; a reference with the variable that holds it, and a variable itself, not its value
 pub data Actual : Type 0 where

@@ -3,9 +3,13 @@ use Rattle.std.specs.Prelude.{ℕ, ℤ, Bool, true, false, List, drop, length, m
 use Rattle.std.specs.Option.{option_map_or}
 use Rattle.base.specs.Bytes.{Identifier, lookup}
 use Rattle.class_rules.specs.Fields.{FieldId}
-use Rattle.jni.specs.JniFunction.{JniFunction, DeleteGlobalRef, DeleteWeakGlobalRef, prototype}
-use Rattle.jni.specs.Prototype.{ParameterKind, ArrayVariable}
-use Rattle.semantics.specs.Arguments.{Actual, ReferenceActual, FieldActual, MethodActual, NumberActual, ReleaseMode, field_in_actual, method_in_actual, mode_in_actual, name_or_zero, number_in_actual, reference_in_actual, text_in_actual, variable_given}
+use Rattle.jni.specs.declared.function.JniFunction.{JniFunction}
+use Rattle.jni.specs.declared.function.JniFunction.TheVariants.{DeleteGlobalRef, DeleteWeakGlobalRef}
+use Rattle.jni.specs.JniFunction.{prototype}
+use Rattle.jni.specs.declared.kinds.ParameterKind.{ParameterKind}
+use Rattle.jni.specs.declared.kinds.ParameterKind.TheVariants.{ArrayVariable}
+use Rattle.jni.specs.declared.mode.ReleaseMode.{ReleaseMode}
+use Rattle.semantics.specs.Arguments.{Actual, ReferenceActual, FieldActual, MethodActual, NumberActual, field_in_actual, method_in_actual, mode_in_actual, name_or_zero, number_in_actual, reference_in_actual, text_in_actual, variable_given}
 use Rattle.semantics.specs.CallEffects.{local_array}
 use Rattle.semantics.specs.Heap.{Heap, class_of, values_of}
 use Rattle.semantics.specs.Method.{MethodId}

@@ -1,20 +1,30 @@
 -- What is checked before a call of a JNI function does anything, in which order, and which trap stops it, by what the call asks.
 use Rattle.std.specs.Prelude.{ℕ, ◌+◌, Bool, true, false, not, ◌&&◌, ◌||◌, ◌==◌, nat_le, List, [], ◌∷◌, drop, length, zip, is_some, Option, Some, None}
 use Rattle.std.specs.List.{list_any}
-use Rattle.base.specs.Element.{ElementType}
+use Rattle.base.specs.declared.element.ElementType.{ElementType}
 use Rattle.base.specs.Limits.{most_activations}
-use Rattle.syntax.specs.Tree.{ResultType, Void, IntResult, ReferenceResult, ParameterType, IntParameter, ReferenceParameter, Parameter}
+use Rattle.syntax.specs.declared.declared_type.ParameterType.{ParameterType}
+use Rattle.syntax.specs.declared.declared_type.ParameterType.TheVariants.{Jint as IntParameter, Reference as ReferenceParameter}
+use Rattle.syntax.specs.declared.unit.ResultType.{ResultType}
+use Rattle.syntax.specs.declared.unit.ResultType.TheVariants.{Void, Jint as IntResult, Reference as ReferenceResult}
+use Rattle.syntax.specs.Tree.{Parameter}
 use Rattle.class_rules.specs.BuiltIns.{class_class, has_own_making, number_array, string_class, throwable_class}
 use Rattle.class_rules.specs.Class.{Classes, FieldType, NumberField, ReferenceField, assignable, class_kind, is_object_array, is_plain}
-use Rattle.jni.specs.Access.{ArrayView}
-use Rattle.jni.specs.JniFunction.{JniFunction, AllocObject, CallStaticIntMethod, CallStaticObjectMethod, CallStaticVoidMethod, GetBuffer, GetField, GetObjectField, GetStaticField, GetStaticObjectField, NewObjectArray, PopLocalFrame, SetField, SetObjectField, SetStaticField, SetStaticObjectField, Throw, ThrowNew, calls_method, is_allowed_pending, parameters_for, prototype}
-use Rattle.jni.specs.Prototype.{ParameterKind, Nullable, AnyReference, LocalVariable, StaticVariable, WeakVariable, Passed, ClassObject, NumberArray, AnyArray, ObjectArray, StringObject, ResultKind, NewLocal}
+use Rattle.jni.specs.declared.access.Access.TheVariants.{ArrayView}
+use Rattle.jni.specs.declared.function.JniFunction.{JniFunction}
+use Rattle.jni.specs.declared.function.JniFunction.TheVariants.{AllocObject, CallStaticIntMethod, CallStaticObjectMethod, CallStaticVoidMethod, GetBuffer, GetField, GetObjectField, GetStaticField, GetStaticObjectField, NewObjectArray, PopLocalFrame, SetField, SetObjectField, SetStaticField, SetStaticObjectField, Throw, ThrowNew}
+use Rattle.jni.specs.JniFunction.{calls_method, is_allowed_pending, parameters_for, prototype}
+use Rattle.jni.specs.declared.kinds.ParameterKind.{ParameterKind}
+use Rattle.jni.specs.declared.kinds.ParameterKind.TheVariants.{Nullable, AnyReference, LocalVariable, StaticVariable, WeakVariable, Passed, ClassObject, NumberArray, AnyArray, ObjectArray, StringObject}
+use Rattle.jni.specs.declared.kinds.ResultKind.{ResultKind}
+use Rattle.jni.specs.declared.kinds.ResultKind.TheVariants.{NewLocal}
 use Rattle.semantics.specs.AnswerTable.{fits}
 use Rattle.semantics.specs.CallSight.{ArgumentSight, CallSight, name_of_first, name_of_second}
 use Rattle.semantics.specs.Heap.{holds_number, holds_reference}
 use Rattle.semantics.specs.Method.{MethodId}
 use Rattle.semantics.specs.Thread.{Frame}
-use Rattle.semantics.specs.Value.{Trap, NullReference, ExceptionPending, WrongObject, DeletedReference, NoCapacity, CallsTooDeep}
+use Rattle.semantics.specs.declared.trap.Trap.{Trap}
+use Rattle.semantics.specs.declared.trap.Trap.TheVariants.{NullReference, ExceptionPending, WrongObject, DeletedReference, NoCapacity, CallsTooDeep}
 
 -- ---- single arguments
 

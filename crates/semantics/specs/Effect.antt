@@ -2,15 +2,17 @@
 use Rattle.std.specs.Prelude.{ℕ, Bool, true, false, if◌then◌else◌, ℤ, List, [], ◌∷◌, ◌++◌, None}
 use Rattle.std.specs.List.{list_all}
 use Rattle.base.specs.Bytes.{Identifier}
-use Rattle.base.specs.Element.{ElementType}
-use Rattle.syntax.specs.Tree.{Null, Expr, Block}
-use Rattle.jni.specs.JniFunction.{JniFunction}
+use Rattle.base.specs.declared.element.ElementType.{ElementType}
+use Rattle.syntax.specs.declared.expr.Constant.TheVariants.{Null}
+use Rattle.syntax.specs.Tree.{Expr, Block}
+use Rattle.jni.specs.declared.function.JniFunction.{JniFunction}
 use Rattle.semantics.specs.Arguments.{Actual, actuals}
 use Rattle.semantics.specs.CallEffects.{CallResult, NoResult, ScalarResult, ReferenceResult}
 use Rattle.semantics.specs.Sight.{Sight}
 use Rattle.semantics.specs.Task.{Task, SetScalar, SetElement, SetNull, MakeArray, Invoke, Print, Branch, EndIf, Loop, EndTurn, Return, ReturnValue, Impossible, Target, Tested, Operand, NumberOperand, PassedName, Given, tasks_of}
 use Rattle.semantics.specs.Term.{Term, Done, Named, Read, term_of, index_of, reduce}
-use Rattle.semantics.specs.Value.{Value, Int, Truth, Trap, Outcome, Gives, Traps, Stuck, outcome_map}
+use Rattle.semantics.specs.declared.trap.Trap.{Trap}
+use Rattle.semantics.specs.Value.{Value, Int, Truth, Outcome, Gives, Traps, Stuck, outcome_map}
 use Rattle.semantics.specs.Variable.{StaticReference, as_reference}
 
 -- What a step of a task does. Where it becomes no others and no trap stops it, it is over then.

@@ -6,34 +6,19 @@ use Rattle.semantics.specs.declared.event.Event.{Event}
 use Rattle.semantics.specs.declared.event.Event.TheVariants.{Quiet, Printed, Trapped}
 use Rattle.semantics.specs.declared.event.Stop.{Stop}
 use Rattle.semantics.specs.declared.printed.Printed as printed
-use Rattle.semantics.specs.declared.trap.Trap.{Trap}
-use Rattle.semantics.specs.declared.trap.Trap.TheVariants.{DivisionByZero, ShiftTooFar, OutOfRange, NullReference, ExceptionPending, WrongObject, DeletedReference, NoCapacity, Fatal, CallsTooDeep}
 use Rattle.semantics.specs.State as state
 use Rattle.semantics.specs.Thread as source
 use Rattle.semantics.specs.Value as value
-
--- a trap
-abbrev pub trap_view : Trap → value.Trap
-trap_view DivisionByZero = value.DivisionByZero
-trap_view ShiftTooFar = value.ShiftTooFar
-trap_view OutOfRange = value.OutOfRange
-trap_view NullReference = value.NullReference
-trap_view ExceptionPending = value.ExceptionPending
-trap_view WrongObject = value.WrongObject
-trap_view DeletedReference = value.DeletedReference
-trap_view NoCapacity = value.NoCapacity
-trap_view Fatal = value.Fatal
-trap_view CallsTooDeep = value.CallsTooDeep
 
 -- what is seen of a thread's step by others
 abbrev pub event_view : Event → source.Event
 event_view Quiet = source.Quiet
 event_view (Printed z) = source.PrintedNumber z
-event_view (Trapped trap line) = source.Trapped (trap_view trap) line
+event_view (Trapped trap line) = source.Trapped trap line
 
 -- the trap that stopped a run
 abbrev pub stop_view : Stop → state.Stop
-stop_view stop = record { thread = stop.thread; trap = trap_view stop.trap; line = stop.line }
+stop_view stop = record { thread = stop.thread; trap = stop.trap; line = stop.line }
 
 -- how a thread has ended
 abbrev pub ending_view : Ending → source.Ending

@@ -1,7 +1,8 @@
 -- The heap. An object has a name, its birth number, and never moves.
 use Rattle.std.specs.Prelude.{ℕ, zero, suc, ◌+◌, Bool, true, false, ℤ, pos, List, [], map, length, position, slice_get, slice_set, Option, Some, None}
 use Rattle.std.specs.Option.{option_map_or}
-use Rattle.base.specs.Element.{ElementType, same_element}
+use Rattle.base.specs.declared.element.ElementType.{ElementType}
+use Rattle.base.specs.Element.{same_element}
 use Rattle.class_rules.specs.Class.{Classes, FieldType, NumberField, ReferenceField, assignable}
 use Rattle.class_rules.specs.Fields.{FieldId, layout, own_statics, same_field}
 use Rattle.semantics.specs.Object.{ObjectValue, Number, Refers, Reference, Object}

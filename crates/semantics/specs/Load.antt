@@ -4,9 +4,12 @@ use Rattle.std.specs.List.{list_all, list_any}
 use Rattle.std.specs.Str.{bytes_eq}
 use Rattle.base.specs.Options.{some_passes}
 use Rattle.syntax.specs.Parts.{functions_of, statements_of, own_call}
-use Rattle.syntax.specs.Tree.{Call, Parameter, ParameterType, IntParameter, ReferenceParameter, Function, SourceUnit}
+use Rattle.syntax.specs.declared.declared_type.ParameterType.{ParameterType}
+use Rattle.syntax.specs.declared.declared_type.ParameterType.TheVariants.{Jint as IntParameter, Reference as ReferenceParameter}
+use Rattle.syntax.specs.Tree.{Call, Parameter, Function, SourceUnit}
 use Rattle.class_rules.specs.Class.{Classes}
-use Rattle.jni.specs.JniFunction.{GetStaticMethodID, prototype}
+use Rattle.jni.specs.declared.function.JniFunction.TheVariants.{GetStaticMethodID}
+use Rattle.jni.specs.JniFunction.{prototype}
 use Rattle.semantics.specs.Object.{ObjectValue, Number, Refers}
 use Rattle.semantics.specs.World.{Invocation, World}
 use Rattle.semantics.specs.Activation.{function_at, class_of_function}

@@ -5,7 +5,13 @@ use Rattle.std.specs.Option.{option_map}
 use Rattle.std.specs.Str.{bytes_eq}
 use Rattle.base.specs.Bytes.{Identifier}
 use Rattle.syntax.specs.Parts.{functions_of}
-use Rattle.syntax.specs.Tree.{ReferenceType, JObject, JClass, JString, JArray, JThrowable, JIntArray, JShortArray, JByteArray, JCharArray, JObjectArray, ResultType, Void, IntResult, ReferenceResult, ParameterType, IntParameter, ReferenceParameter, Parameter, Function, SourceUnit}
+use Rattle.syntax.specs.declared.declared_type.ReferenceType.{ReferenceType}
+use Rattle.syntax.specs.declared.declared_type.ReferenceType.TheVariants.{Object as JObject, Class as JClass, String as JString, Array as JArray, Throwable as JThrowable, IntArray as JIntArray, ShortArray as JShortArray, ByteArray as JByteArray, CharArray as JCharArray, ObjectArray as JObjectArray}
+use Rattle.syntax.specs.declared.declared_type.ParameterType.{ParameterType}
+use Rattle.syntax.specs.declared.declared_type.ParameterType.TheVariants.{Jint as IntParameter, Reference as ReferenceParameter}
+use Rattle.syntax.specs.declared.unit.ResultType.{ResultType}
+use Rattle.syntax.specs.declared.unit.ResultType.TheVariants.{Void, Jint as IntResult, Reference as ReferenceResult}
+use Rattle.syntax.specs.Tree.{Parameter, Function, SourceUnit}
 use Rattle.class_rules.specs.Class.{Classes, class_name, ancestry}
 use Rattle.class_rules.specs.Mangling.{is_unmangled}
 

@@ -2,7 +2,7 @@
 use Rattle.std.specs.Prelude.{ℕ, zero, suc, ◌++◌, ◌∷◌, [], List, length, flat_map, slice_get, slice_set, sum_by, Option, Some, None}
 use Rattle.semantics.specs.declared.printed.Printed.{Printed}
 use Rattle.semantics.specs.Thread.{Thread, Shared, BuffersInUse, Event, Quiet, Trapped, Advance, Advances, NoAdvance, copied_by, viewed_by, PrintedNumber}
-use Rattle.semantics.specs.Value.{Trap}
+use Rattle.semantics.specs.declared.trap.Trap.{Trap}
 
 -- the trap that stopped the machine
 pub record Stop : Type 0 where

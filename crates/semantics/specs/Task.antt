@@ -1,11 +1,18 @@
 -- What a thread has still to do of its call: statements, of which the first may be begun (ISO/IEC 9899:1999, 6.8).
 use Rattle.std.specs.Prelude.{ℕ, List, [], ◌∷◌, Option, Some, None, length, zip, map}
 use Rattle.syntax.specs.Tree as tree
+use Rattle.syntax.specs.declared.declared_type.VariableType.TheVariants as variables
 use Rattle.base.specs.Bytes.{Identifier}
-use Rattle.base.specs.Element.{ElementType, JChar}
-use Rattle.syntax.specs.Tree.{Null, Expr, Argument, RightSide, FromExpr, FromCall, Call, Test, TestExpr, TestCall, VariableType, JFieldId, JMethodId, Stmt, Block, End, Next}
-use Rattle.jni.specs.JniFunction.{JniFunction, function_named, parameters_for}
-use Rattle.jni.specs.Prototype.{ParameterKind, IntNumber, Passed}
+use Rattle.base.specs.declared.element.ElementType.{ElementType}
+use Rattle.base.specs.declared.element.ElementType.TheVariants.{Char as JChar}
+use Rattle.syntax.specs.declared.declared_type.VariableType.{VariableType}
+use Rattle.syntax.specs.declared.declared_type.VariableType.TheVariants.{JfieldId as JFieldId, JmethodId as JMethodId}
+use Rattle.syntax.specs.declared.expr.Constant.TheVariants.{Null}
+use Rattle.syntax.specs.Tree.{Expr, Argument, RightSide, FromExpr, FromCall, Call, Test, TestExpr, TestCall, Stmt, Block, End, Next}
+use Rattle.jni.specs.declared.function.JniFunction.{JniFunction}
+use Rattle.jni.specs.JniFunction.{function_named, parameters_for}
+use Rattle.jni.specs.declared.kinds.ParameterKind.{ParameterKind}
+use Rattle.jni.specs.declared.kinds.ParameterKind.TheVariants.{IntNumber, Passed}
 use Rattle.semantics.specs.Term.{Term, term_of}
 
 -- what a declaration makes
@@ -69,7 +76,7 @@ call_task line target call = invocation line target call (function_named call.fu
 
 -- what `type name = ..` makes
 abbrev pub kind_of : VariableType → VariableKind
-kind_of (tree.ReferenceVariable type) = ReferenceKind
+kind_of (variables.Reference type) = ReferenceKind
 kind_of JFieldId = FieldKind
 kind_of JMethodId = MethodKind
 kind_of type = ScalarKind

@@ -2,10 +2,16 @@
 use Rattle.std.specs.Prelude.{ℕ, Bool, true, false, not, pos, negsuc, Option, Some}
 use Rattle.syntax.specs.Tree as tree
 use Rattle.base.specs.Bytes.{Identifier}
-use Rattle.syntax.specs.Tree.{Constant, True, False, Commit, Abort, Null, Expr, Paren, PrefixOp, BinaryOp, LogicalAnd, LogicalOr, Equal, NotEqual}
+use Rattle.syntax.specs.declared.expr.PrefixOp.{PrefixOp}
+use Rattle.syntax.specs.declared.expr.BinaryOp.{BinaryOp}
+use Rattle.syntax.specs.declared.expr.BinaryOp.TheVariants.{LogicalAnd, LogicalOr, Equal, NotEqual}
+use Rattle.syntax.specs.declared.expr.Constant.{Constant}
+use Rattle.syntax.specs.declared.expr.Constant.TheVariants.{True, False, Commit, Abort, Null}
+use Rattle.syntax.specs.Tree.{Expr, Paren}
 use Rattle.syntax.specs.Parts.{null_tested}
 use Rattle.semantics.specs.Sight.{Sight}
-use Rattle.semantics.specs.Value.{Value, Word, Int, Flag, Truth, Outcome, Gives, Traps, Stuck, OutOfRange, outcome_then, outcome_map, prefix_value, binary_value}
+use Rattle.semantics.specs.declared.trap.Trap.TheVariants.{OutOfRange}
+use Rattle.semantics.specs.Value.{Value, Word, Int, Flag, Truth, Outcome, Gives, Traps, Stuck, outcome_then, outcome_map, prefix_value, binary_value}
 
 -- An expression of which some parts are replaced by their values. Operands are worked out from left to right, which C
 -- leaves open.

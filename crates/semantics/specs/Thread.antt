@@ -2,13 +2,13 @@
 -- objects are collected.
 use Rattle.std.specs.Prelude.{ℕ, ◌+◌, ◌==◌, ℤ, List, ◌++◌, filter, find, flat_map, not, sum_by, Option}
 use Rattle.base.specs.Bytes.{Identifier}
-use Rattle.jni.specs.Prototype.{ResultKind}
+use Rattle.jni.specs.declared.kinds.ResultKind.{ResultKind}
 use Rattle.semantics.specs.Object.{Reference}
 use Rattle.semantics.specs.World.{Invocation}
 use Rattle.semantics.specs.Heap.{Heap}
 use Rattle.semantics.specs.Sight.{Sight, seen}
 use Rattle.semantics.specs.Task.{Task, Target}
-use Rattle.semantics.specs.Value.{Trap}
+use Rattle.semantics.specs.declared.trap.Trap.{Trap}
 use Rattle.semantics.specs.Variable.{Variable, Variables, Statics, copied_length, viewed}
 
 -- local references: at most `capacity` of them, in no order

@@ -3,8 +3,14 @@ use Rattle.std.specs.Prelude.{ℕ, ◌+◌, ◌-◌, ◌*◌, ◌/◌, ◌%◌, 
 use Rattle.std.specs.Int.{cast_signed, cast_unsigned, w8, w16, w32}
 use Rattle.std.specs.Ordering.{int_eq}
 use Rattle.std.specs.Bool.{beq}
-use Rattle.base.specs.Element.{ElementType, JInt, JShort, JByte, JChar}
-use Rattle.syntax.specs.Tree.{PrefixOp, LogicalNot, Complement, ToWord, ToInt, BinaryOp, LogicalOr, LogicalAnd, BitOr, BitXor, BitAnd, Equal, NotEqual, Less, LessEqual, Greater, GreaterEqual, ShiftLeft, ShiftRight, Add, Subtract, Multiply, Divide, Remainder}
+use Rattle.base.specs.declared.element.ElementType.{ElementType}
+use Rattle.base.specs.declared.element.ElementType.TheVariants.{Int as JInt, Short as JShort, Byte as JByte, Char as JChar}
+use Rattle.syntax.specs.declared.expr.PrefixOp.{PrefixOp}
+use Rattle.syntax.specs.declared.expr.PrefixOp.TheVariants.{LogicalNot, Complement, ToWord, ToInt}
+use Rattle.syntax.specs.declared.expr.BinaryOp.{BinaryOp}
+use Rattle.syntax.specs.declared.expr.BinaryOp.TheVariants.{LogicalOr, LogicalAnd, BitOr, BitXor, BitAnd, Equal, NotEqual, Less, LessEqual, Greater, GreaterEqual, ShiftLeft, ShiftRight, Add, Subtract, Multiply, Divide, Remainder}
+use Rattle.semantics.specs.declared.trap.Trap.{Trap}
+use Rattle.semantics.specs.declared.trap.Trap.TheVariants.{DivisionByZero, ShiftTooFar, OutOfRange, NullReference, ExceptionPending, WrongObject, DeletedReference, NoCapacity, Fatal, CallsTooDeep}
 
 -- a number or a truth, with its type: `uint32_t`, `jint`, `jboolean`, or what a comparison gives; each in its range
 pub data Value : Type 0 where
@@ -12,10 +18,6 @@ pub data Value : Type 0 where
   Int : ℤ → Value
   Flag : Bool → Value
   Truth : Bool → Value
-
--- Why the machine stops. C and the JNI leave undefined what follows there.
-pub data Trap : Type 0 where
-  DivisionByZero ShiftTooFar OutOfRange NullReference ExceptionPending WrongObject DeletedReference NoCapacity Fatal CallsTooDeep : Trap
 
 -- the number under which a trap is reported
 abbrev pub trap_number : Trap → ℕ

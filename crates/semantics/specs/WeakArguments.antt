@@ -2,7 +2,8 @@
 use Rattle.std.specs.Prelude.{◌≡◌, ◌≢◌, ◌⊎◌, ℕ, Bool, true, false, Some, None}
 use Rattle.std.specs.List.{AllByRecursion}
 use Rattle.base.specs.Bytes.{Identifier, lookup}
-use Rattle.jni.specs.JniFunction.{JniFunction, NewLocalRef, NewGlobalRef, IsSameObject, DeleteWeakGlobalRef}
+use Rattle.jni.specs.declared.function.JniFunction.{JniFunction}
+use Rattle.jni.specs.declared.function.JniFunction.TheVariants.{NewLocalRef, NewGlobalRef, IsSameObject, DeleteWeakGlobalRef}
 use Rattle.semantics.specs.Task.{Task, Invoke, Operand, PassedName, Given}
 use Rattle.semantics.specs.Variable.{Weakly, Variables, Statics}
 use Rattle.syntax.specs.Tree as tree

@@ -2,7 +2,6 @@
 
 ghost use Rattle.std.specs.Prelude.{◌≡◌};
 ghost use Rattle.semantics.specs.Value.{trap_number};
-ghost use Rattle.semantics.specs.EventViews.{trap_view};
 
 /// Why a run stops: C or the JNI leaves undefined what would follow (ISO/IEC 9899:1999, 6.5.5 to 6.5.7; JNI
 /// Specification, chapter 2, "Reporting Programming Errors"), or the program ended the run itself.
@@ -33,7 +32,7 @@ pub enum Trap {
 impl Trap {
     /// The number under which the trap is reported.
     pub fn number(self) -> u8
-        ensures { result ≡ trap_number (trap_view self) }
+        ensures { result ≡ trap_number self }
     {
         match self {
             Trap::DivisionByZero => 1,

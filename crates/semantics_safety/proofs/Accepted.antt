@@ -7,8 +7,12 @@ use Rattle.std.proofs.lemmas.Bool.{or_parts}
 use Rattle.std.proofs.lemmas.Slice.Eq.{bytes_eq-Decides}
 use Rattle.base.specs.Bytes.{Identifier, lookup}
 use Rattle.syntax.specs.Parts.{functions_of, statics_of, parameter_names}
-use Rattle.syntax.specs.Tree.{Void, StaticType, ReferenceStatic, WeakStatic, Static, Function, Item, StaticItem, FunctionItem, SourceUnit}
-use Rattle.type_rules.specs.ExprTypes.{ExprType, Scope, is_weak, type_in}
+use Rattle.syntax.specs.declared.declared_type.StaticType.{StaticType}
+use Rattle.syntax.specs.declared.declared_type.StaticType.TheVariants.{Reference as ReferenceStatic, Weak as WeakStatic}
+use Rattle.syntax.specs.declared.unit.ResultType.TheVariants.{Void}
+use Rattle.syntax.specs.Tree.{Static, Function, Item, StaticItem, FunctionItem, SourceUnit}
+use Rattle.type_rules.specs.declared.ty.ExprType.{ExprType}
+use Rattle.type_rules.specs.ExprTypes.{Scope, is_weak, type_in}
 use Rattle.type_rules.specs.declared.rule.TypeRule.{TypeRule}
 use Rattle.type_rules.specs.declared.rule.TypeRule.TheVariants.{UnknownName, DeclaredTwice, TypeMisfit, UnknownFunction, ArgumentCount, ReferenceCopied, BadMode, ReadOnlyWrite}
 use Rattle.type_rules.specs.TypeRules.{typing_rules, Place, StaticForm, HeadForm, has_name, has_repeated, breaks, broken_at, places_of, function_places, item_places, IsWellTyped, static_type}

@@ -9,14 +9,20 @@ use Rattle.std.proofs.lemmas.Bool.Decides.{Decides-eqb}
 use Rattle.std.proofs.lemmas.Slice.Eq.{bytes_eq-Decides}
 use Rattle.base.specs.Bytes.{Identifier, ByName, lookup}
 use Rattle.base.specs.Options.{some_passes}
-use Rattle.base.specs.Element.{ElementType}
+use Rattle.base.specs.declared.element.ElementType.{ElementType}
 use Rattle.syntax.specs.Tree as tree
-use Rattle.syntax.specs.Tree.{ResultType, Expr, Argument, Call, RightSide, FromExpr, FromCall, Stmt}
-use Rattle.jni.specs.Access.{Access}
-use Rattle.jni.specs.JniFunction.{JniFunction, GetBuffer, prototype}
-use Rattle.jni.specs.Prototype.{ResultKind, NewLocal, NewGlobal, NewWeak, GivesFlag, GivesInt, GivesField, GivesMethod, GivesNothing, GivesBuffer}
-use Rattle.type_rules.specs.ExprTypes.{ExprType, Word, Jint, Flag, Ref, Global, Weak, Buffer, type_in, type_of, is_buffer_for, is_ref, is_null, name_type}
-use Rattle.type_rules.specs.ExprTypes as ty
+use Rattle.syntax.specs.declared.unit.ResultType.{ResultType}
+use Rattle.syntax.specs.Tree.{Expr, Argument, Call, RightSide, FromExpr, FromCall, Stmt}
+use Rattle.jni.specs.declared.access.Access.{Access}
+use Rattle.jni.specs.declared.function.JniFunction.{JniFunction}
+use Rattle.jni.specs.declared.function.JniFunction.TheVariants.{GetBuffer}
+use Rattle.jni.specs.JniFunction.{prototype}
+use Rattle.jni.specs.declared.kinds.ResultKind.{ResultKind}
+use Rattle.jni.specs.declared.kinds.ResultKind.TheVariants.{NewLocal, NewGlobal, NewWeak, GivesFlag, GivesInt, GivesField, GivesMethod, GivesNothing, GivesBuffer}
+use Rattle.type_rules.specs.declared.ty.ExprType.{ExprType}
+use Rattle.type_rules.specs.declared.ty.ExprType.TheVariants.{Word, Jint, Flag, Ref, Global, Weak, Buffer}
+use Rattle.type_rules.specs.ExprTypes.{type_in, type_of, is_buffer_for, is_ref, is_null, name_type}
+use Rattle.type_rules.specs.declared.ty.ExprType.TheVariants as types
 use Rattle.type_rules.specs.TypeRules as rules
 use Rattle.type_rules.specs.TypeRules.{result_fits, call_fits, value_sets}
 use Rattle.type_rules.specs.TypeGroups.{IsNumberType}
@@ -326,8 +332,8 @@ module _ (p : Point) (taken : List Identifier) (returns : ResultType) (known : I
     assigned : (o : Option ExprType) → type_in p.names x ≡ o → (result : ResultKind) → (prototype call.function).result ≡ result → result_fits o result ≡ true → AssignsResult later o x result get k
     assigned o e GivesInt is fit = subst (λ (o : Option ExprType). AssignsResult later o x GivesInt get k) (sym (jint_is o fit)) (stateless_same later taken after_known x (set_to (FromCall c)) k Jint (e ∙ jint_is o fit) (λ h. h) now)
     assigned o e GivesFlag is fit = subst (λ (o : Option ExprType). AssignsResult later o x GivesFlag get k) (sym (flag_is o fit)) (stateless_same later taken after_known x (set_to (FromCall c)) k Flag (e ∙ flag_is o fit) (λ h. h) now)
-    assigned o e GivesField is fit = subst (λ (o : Option ExprType). AssignsResult later o x GivesField get k) (sym (field_is o fit)) (stateless_same later taken after_known x (set_to (FromCall c)) k ty.FieldId (e ∙ field_is o fit) (λ h. h) now)
-    assigned o e GivesMethod is fit = subst (λ (o : Option ExprType). AssignsResult later o x GivesMethod get k) (sym (method_is o fit)) (stateless_same later taken after_known x (set_to (FromCall c)) k ty.MethodId (e ∙ method_is o fit) (λ h. h) now)
+    assigned o e GivesField is fit = subst (λ (o : Option ExprType). AssignsResult later o x GivesField get k) (sym (field_is o fit)) (stateless_same later taken after_known x (set_to (FromCall c)) k types.FieldId (e ∙ field_is o fit) (λ h. h) now)
+    assigned o e GivesMethod is fit = subst (λ (o : Option ExprType). AssignsResult later o x GivesMethod get k) (sym (method_is o fit)) (stateless_same later taken after_known x (set_to (FromCall c)) k types.MethodId (e ∙ method_is o fit) (λ h. h) now)
     assigned o e NewGlobal is fit = subst (λ (o : Option ExprType). AssignsResult later o x NewGlobal get k) (sym (is_a_global o fit)) (stateless_same later taken after_known x (set_to (FromCall c)) k Global (e ∙ is_a_global o fit) (λ h. h) now)
     assigned o e NewWeak is fit = subst (λ (o : Option ExprType). AssignsResult later o x NewWeak get k) (sym (is_a_weak o fit)) (stateless_same later taken after_known x (set_to (FromCall c)) k Weak (e ∙ is_a_weak o fit) (λ h. h) now)
     assigned o e NewLocal is fit =
@@ -375,8 +381,8 @@ module _ (p : Point) (taken : List Identifier) (known : IsKnown p taken) (line :
       (may_set p taken known line x (FromExpr e) obeys at', reference_set p taken known x (FromExpr e) k at' now)
   valued (Some Global) at' fit uncopied = null (Some Global) at' fit (stateless_same p taken known x (set_to (FromExpr e)) k Global at' (λ h. h) now)
   valued (Some Weak) at' fit uncopied = null (Some Weak) at' fit (stateless_same p taken known x (set_to (FromExpr e)) k Weak at' (λ h. h) now)
-  valued (Some ty.FieldId) at' fit uncopied = null (Some ty.FieldId) at' fit (stateless_same p taken known x (set_to (FromExpr e)) k ty.FieldId at' (λ h. h) now)
-  valued (Some ty.MethodId) at' fit uncopied = null (Some ty.MethodId) at' fit (stateless_same p taken known x (set_to (FromExpr e)) k ty.MethodId at' (λ h. h) now)
+  valued (Some types.FieldId) at' fit uncopied = null (Some types.FieldId) at' fit (stateless_same p taken known x (set_to (FromExpr e)) k types.FieldId at' (λ h. h) now)
+  valued (Some types.MethodId) at' fit uncopied = null (Some types.MethodId) at' fit (stateless_same p taken known x (set_to (FromExpr e)) k types.MethodId at' (λ h. h) now)
   valued o at' fit uncopied = absurd (cc)
 
 pub assign_value : (line : ℕ) (x : Identifier) (e : Expr) → Gives (tree.Assign line x (FromExpr e))

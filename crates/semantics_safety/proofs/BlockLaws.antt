@@ -2,11 +2,14 @@
 use Rattle.std.proofs.Common.{inl, inr, List, ◌++◌, Option, Some, None}
 use Rattle.base.specs.Bytes.{Identifier}
 use Rattle.syntax.specs.Tree.{Stmt, If, IfElse, While, Block, End, Next, TestExpr, TestCall, Call}
-use Rattle.jni.specs.Access.{Access}
-use Rattle.jni.specs.JniFunction.{JniFunction, prototype, function_named}
-use Rattle.jni.specs.Prototype.{ResultKind, NewLocal, NewGlobal, NewWeak, GivesFlag, GivesInt, GivesField, GivesMethod, GivesBuffer}
-use Rattle.type_rules.specs.ExprTypes.{ExprType, type_in}
-use Rattle.type_rules.specs.ExprTypes as ty
+use Rattle.jni.specs.declared.access.Access.{Access}
+use Rattle.jni.specs.declared.function.JniFunction.{JniFunction}
+use Rattle.jni.specs.JniFunction.{prototype, function_named}
+use Rattle.jni.specs.declared.kinds.ResultKind.{ResultKind}
+use Rattle.jni.specs.declared.kinds.ResultKind.TheVariants.{NewLocal, NewGlobal, NewWeak, GivesFlag, GivesInt, GivesField, GivesMethod, GivesBuffer}
+use Rattle.type_rules.specs.declared.ty.ExprType.{ExprType}
+use Rattle.type_rules.specs.ExprTypes.{type_in}
+use Rattle.type_rules.specs.declared.ty.ExprType.TheVariants as types
 use Rattle.region_rules.specs.RegionStates.{get_of}
 use Rattle.semantics.specs.Task as task
 use Rattle.semantics.specs.Task.{Task, SetScalar, SetElement, SetNull, MakeArray, Invoke, Print, Target, Declared, Assigned, Tested, Dropped, VariableKind, ScalarKind, ReferenceKind, FieldKind, MethodKind, BufferKind, invocation, task_of, tasks_of}
@@ -32,11 +35,11 @@ null_declared_more k l h p MethodKind x r = (r.0, h _ r.1)
 null_declared_more k l h p (BufferKind t) x r = (r.0, (r.1.0, h _ r.1.1))
 
 null_assigned_more : (k l : Point → Type 0) → k ⇒ l → (p : Point) (s : Option ExprType) (x : Identifier) → AssignsNull p s x k → AssignsNull p s x l
-null_assigned_more k l h p (Some ty.Ref) x r = (r.0, h _ r.1)
-null_assigned_more k l h p (Some ty.Global) x r = h p r
-null_assigned_more k l h p (Some ty.Weak) x r = h p r
-null_assigned_more k l h p (Some ty.FieldId) x r = h p r
-null_assigned_more k l h p (Some ty.MethodId) x r = h p r
+null_assigned_more k l h p (Some types.Ref) x r = (r.0, h _ r.1)
+null_assigned_more k l h p (Some types.Global) x r = h p r
+null_assigned_more k l h p (Some types.Weak) x r = h p r
+null_assigned_more k l h p (Some types.FieldId) x r = h p r
+null_assigned_more k l h p (Some types.MethodId) x r = h p r
 null_assigned_more k l h p s x r = absurd r
 
 result_declared_more : (k l : Point → Type 0) → k ⇒ l → (p : Point) (kind : VariableKind) (x : Identifier) (result : ResultKind) (get : Option (Access × Option Identifier)) → DeclaresResult p kind x result get k → DeclaresResult p kind x result get l
@@ -49,14 +52,14 @@ result_declared_more k l h p (BufferKind t) x (GivesBuffer access) get r = (r.0,
 result_declared_more k l h p kind x result get r = absurd r
 
 result_assigned_more : (k l : Point → Type 0) → k ⇒ l → (p : Point) (s : Option ExprType) (x : Identifier) (result : ResultKind) (get : Option (Access × Option Identifier)) → AssignsResult p s x result get k → AssignsResult p s x result get l
-result_assigned_more k l h p (Some ty.Jint) x GivesInt get r = h p r
-result_assigned_more k l h p (Some ty.Flag) x GivesFlag get r = h p r
-result_assigned_more k l h p (Some ty.Ref) x NewLocal get r = (r.0, h _ r.1)
-result_assigned_more k l h p (Some ty.Global) x NewGlobal get r = h p r
-result_assigned_more k l h p (Some ty.Weak) x NewWeak get r = h p r
-result_assigned_more k l h p (Some ty.FieldId) x GivesField get r = h p r
-result_assigned_more k l h p (Some ty.MethodId) x GivesMethod get r = h p r
-result_assigned_more k l h p (Some (ty.Buffer t writable)) x (GivesBuffer access) get r = (r.0, r.1, h _ r.2)
+result_assigned_more k l h p (Some types.Jint) x GivesInt get r = h p r
+result_assigned_more k l h p (Some types.Flag) x GivesFlag get r = h p r
+result_assigned_more k l h p (Some types.Ref) x NewLocal get r = (r.0, h _ r.1)
+result_assigned_more k l h p (Some types.Global) x NewGlobal get r = h p r
+result_assigned_more k l h p (Some types.Weak) x NewWeak get r = h p r
+result_assigned_more k l h p (Some types.FieldId) x GivesField get r = h p r
+result_assigned_more k l h p (Some types.MethodId) x GivesMethod get r = h p r
+result_assigned_more k l h p (Some (types.Buffer t writable)) x (GivesBuffer access) get r = (r.0, r.1, h _ r.2)
 result_assigned_more k l h p s x result get r = absurd r
 
 null_more : (k l : Point → Type 0) → k ⇒ l → (p : Point) (target : Target) → SetsNullThere p target k → SetsNullThere p target l

@@ -9,13 +9,19 @@ use Rattle.std.proofs.lemmas.Bool.Decides.{nat_tests}
 use Rattle.std.proofs.lemmas.List.{length-map}
 use Rattle.std.proofs.lemmas.Slice.Eq.{bytes_eq-Decides}
 use Rattle.base.specs.Bytes.{Identifier, ByName, lookup}
-use Rattle.base.specs.Element.{ElementType}
+use Rattle.base.specs.declared.element.ElementType.{ElementType}
 use Rattle.base.specs.Options.{some_passes}
 use Rattle.syntax.specs.Parts.{names_in, elements_in, argument_expressions, own_expressions, own_call, used_names, addresses_in, written_name, assigned_name}
 use Rattle.syntax.specs.Tree.{Variable, Argument, Value, Stmt}
-use Rattle.jni.specs.Access.{Access, ElementsCopy, ArrayView, CharsCopy, CharsView, is_critical, same_access}
-use Rattle.jni.specs.JniFunction.{JniFunction, GetBuffer, ReleaseBuffer, DeleteLocalRef, PopLocalFrame, calls_method, parameters_for, takes_count, prototype}
-use Rattle.jni.specs.Prototype.{ParameterKind, IntNumber, Passed, BufferVariable, Mode, owner, release_mode}
+use Rattle.jni.specs.declared.access.Access.{Access}
+use Rattle.jni.specs.declared.access.Access.TheVariants.{ElementsCopy, ArrayView, CharsCopy, CharsView}
+use Rattle.jni.specs.Access.{is_critical, same_access}
+use Rattle.jni.specs.declared.function.JniFunction.{JniFunction}
+use Rattle.jni.specs.declared.function.JniFunction.TheVariants.{GetBuffer, ReleaseBuffer, DeleteLocalRef, PopLocalFrame}
+use Rattle.jni.specs.JniFunction.{calls_method, parameters_for, takes_count, prototype}
+use Rattle.jni.specs.declared.kinds.ParameterKind.{ParameterKind}
+use Rattle.jni.specs.declared.kinds.ParameterKind.TheVariants.{IntNumber, Passed, BufferVariable, Mode}
+use Rattle.jni.specs.Prototype.{owner, release_mode}
 use Rattle.type_rules.specs.ExprTypes.{arguments_fit}
 use Rattle.type_rules.specs.TypeRules.{modes_fit}
 use Rattle.type_rules.proofs.TypeTests.{same_types}

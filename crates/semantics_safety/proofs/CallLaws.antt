@@ -2,7 +2,9 @@
 use Rattle.std.proofs.Common.{◌≡◌, refl, ℕ, Bool, true, false, List, ◌∷◌, Some, sym, subst, length}
 use Rattle.class_rules.specs.Class.{Classes}
 use Rattle.syntax.specs.Tree.{SourceUnit}
-use Rattle.jni.specs.JniFunction.{JniFunction, DeleteLocalRef, PushLocalFrame, PopLocalFrame, GetBuffer, ReleaseBuffer, CallStaticVoidMethod, CallStaticIntMethod, CallStaticObjectMethod, calls_method}
+use Rattle.jni.specs.declared.function.JniFunction.{JniFunction}
+use Rattle.jni.specs.declared.function.JniFunction.TheVariants.{DeleteLocalRef, PushLocalFrame, PopLocalFrame, GetBuffer, ReleaseBuffer, CallStaticVoidMethod, CallStaticIntMethod, CallStaticObjectMethod}
+use Rattle.jni.specs.JniFunction.{calls_method}
 use Rattle.semantics.specs.Arguments.{Actual, actuals}
 use Rattle.semantics.specs.CallEffects.{CallResult}
 use Rattle.semantics.specs.CallStep.{call_step}

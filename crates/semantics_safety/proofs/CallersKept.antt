@@ -11,7 +11,8 @@ use Rattle.semantics.specs.Effect.{Effect, Calls, effect_of}
 use Rattle.semantics.specs.Return.{given_back, resumed_in, return_by}
 use Rattle.semantics.specs.Task.{Task, Target}
 use Rattle.semantics.specs.Arguments.{Actual}
-use Rattle.jni.specs.JniFunction.{JniFunction, calls_method, prototype}
+use Rattle.jni.specs.declared.function.JniFunction.{JniFunction}
+use Rattle.jni.specs.JniFunction.{calls_method, prototype}
 use Rattle.semantics.specs.Thread.{Caller, Thread, Shared, BuffersInUse, Advance, Advances, NoAdvance, sight_of}
 use Rattle.semantics.specs.ThreadStep.{after_effect, after_refused_effect, step_within, thread_step}
 use Rattle.semantics.specs.World.{Invocation}

@@ -4,15 +4,19 @@ use Rattle.std.specs.Prelude.{ℤ}
 use Rattle.std.specs.Str.{bytes_eq}
 use Rattle.std.proofs.lemmas.Slice.Eq.{bytes_eq-Decides}
 use Rattle.base.specs.Bytes.{Identifier, ByName, lookup}
-use Rattle.base.specs.Element.{ElementType}
+use Rattle.base.specs.declared.element.ElementType.{ElementType}
 use Rattle.syntax.specs.Tree.{SourceUnit}
 use Rattle.syntax.specs.Tree as tree
 use Rattle.class_rules.specs.Class.{Classes}
-use Rattle.jni.specs.Access.{Access}
-use Rattle.jni.specs.JniFunction.{JniFunction, prototype}
-use Rattle.jni.specs.Prototype.{ParameterKind, ResultKind, NewLocal, GivesNothing, IntNumber, ArrayVariable}
+use Rattle.jni.specs.declared.access.Access.{Access}
+use Rattle.jni.specs.declared.function.JniFunction.{JniFunction}
+use Rattle.jni.specs.JniFunction.{prototype}
+use Rattle.jni.specs.declared.kinds.ParameterKind.{ParameterKind}
+use Rattle.jni.specs.declared.kinds.ParameterKind.TheVariants.{IntNumber, ArrayVariable}
+use Rattle.jni.specs.declared.kinds.ResultKind.{ResultKind}
+use Rattle.jni.specs.declared.kinds.ResultKind.TheVariants.{NewLocal, GivesNothing}
 use Rattle.type_rules.specs.ExprTypes.{type_in}
-use Rattle.type_rules.specs.ExprTypes as ty
+use Rattle.type_rules.specs.declared.ty.ExprType.TheVariants as types
 use Rattle.semantics.specs.Answer.{Answer, effect_of, with_region_got}
 use Rattle.semantics.specs.AnswerTable.{call_answer, call_effect}
 use Rattle.semantics.specs.CallSight.{CallSight, sight_of_call}
@@ -87,15 +91,15 @@ module _ (unit : SourceUnit) (classes : Classes) (in_use : BuffersInUse) (k : �
   array_no_buffer : (v : ElementType) (zs : List ℤ) (u : ElementType) (b : Buffer) → LocalArray v zs ≡ Elements u b → ⊥
   array_no_buffer v zs u b e = cc
 
-  stands_filled : (u : ElementType) (size : ℕ) (x : Identifier) (new : List ℤ) → type_in p.names x ≡ Some (ty.Array u size) → Stands weak own s.statics (change x (begun_with new) t.variables) t.frames p
+  stands_filled : (u : ElementType) (size : ℕ) (x : Identifier) (new : List ℤ) → type_in p.names x ≡ Some (types.Array u size) → Stands weak own s.statics (change x (begun_with new) t.variables) t.frames p
   stands_filled u size x new e =
-      let there = stands.types x (ty.Array u size) e in
+      let there = stands.types x (types.Array u size) e in
       subst (λ (vs : Variables). Stands weak own s.statics vs t.frames p) (sym (changed_is x (begun_with new) (LocalArray u there.0) t.variables there.1))
-      (stands_kept s.statics t.variables t.frames p stands x (LocalArray u (overwritten there.0 0 new)) (ty.Array u size) (LocalArray u there.0) e there.1 (array_no_ref u there.0) (array_no_buffer u there.0) (overwritten there.0 0 new, refl)
+      (stands_kept s.statics t.variables t.frames p stands x (LocalArray u (overwritten there.0 0 new)) (types.Array u size) (LocalArray u there.0) e there.1 (array_no_ref u there.0) (array_no_buffer u there.0) (overwritten there.0 0 new, refl)
       (λ v b c. absurd (array_no_buffer u (overwritten there.0 0 new) v b c)))
 
   module _ (f : JniFunction) (target : Target) (away : IsNoTest target) (args : List Actual) (get : Option (Access × Option Identifier)) (left : (y : Identifier) → own y ≡ left_by f args (length t.frames) own y) where
-    region_lands : {sight : CallSight} {g : JniFunction} {kind : ResultKind} {a : Answer} → (u : ElementType) (size : ℕ) → type_in p.names (variable_given args 3) ≡ Some (ty.Array u size)
+    region_lands : {sight : CallSight} {g : JniFunction} {kind : ResultKind} {a : Answer} → (u : ElementType) (size : ℕ) → type_in p.names (variable_given args 3) ≡ Some (types.Array u size)
         → (prototype f).result ≡ kind → ResultGoes target kind get (GoesOn rest) p → AnswersAs unit classes sight g FillsArray kind a
         → LandsBy weak (Calls line target f args) (length t.frames) own s.statics (after_call unit classes in_use k s t line target f args rest (effect_of classes in_use k s t args a))
     unfolding effect_of
@@ -111,7 +115,7 @@ module _ (unit : SourceUnit) (classes : Classes) (in_use : BuffersInUse) (k : �
 
   -- the array is the last argument
   array_last : (owner : ParameterKind) (u : ElementType) (operands : List Operand) → OperandsFit p (owner ∷ IntNumber ∷ IntNumber ∷ ArrayVariable u ∷ []) operands
-      → (size : ℕ) × (type_in p.names (variable_given (map (look_up (sight_of s t)) (zip (owner ∷ IntNumber ∷ IntNumber ∷ ArrayVariable u ∷ []) operands)) 3) ≡ Some (ty.Array u size))
+      → (size : ℕ) × (type_in p.names (variable_given (map (look_up (sight_of s t)) (zip (owner ∷ IntNumber ∷ IntNumber ∷ ArrayVariable u ∷ []) operands)) 3) ≡ Some (types.Array u size))
   array_last owner u (a ∷ b ∷ c ∷ Given (tree.Value (tree.Variable x)) ∷ []) fit = fit.1.1.1.0
   array_last owner u (a ∷ b ∷ c ∷ Given (tree.Value (tree.Variable x)) ∷ o ∷ more) fit = absurd fit.1.1.1.1
   array_last owner u (a ∷ b ∷ c ∷ o ∷ more) fit = absurd fit.1.1.1.0
@@ -158,5 +162,5 @@ module _ (unit : SourceUnit) (classes : Classes) (in_use : BuffersInUse) (k : �
         looked ∙ ap (λ (l : List ParameterKind). map (look_up (sight_of s t)) (zip l operands)) parameters in
         plain_call_lands unit classes in_use k s t line f args rest p stands (subst IsPlain (sym is) tt) whole target operands (λ get away room goes.
         answered (region_lands f target away args get (plain_left FillsArray is tt) last.1.0 array.0
-        (subst (λ (l : List Actual). type_in p.names (variable_given l 3) ≡ Some (ty.Array last.1.0 array.0)) (sym given) array.1)
+        (subst (λ (l : List Actual). type_in p.names (variable_given l 3) ≡ Some (types.Array last.1.0 array.0)) (sym given) array.1)
         refl goes (answers_of unit classes k (sight_of_call s t f args) f FillsArray is))) runs

@@ -7,12 +7,17 @@ use Rattle.std.proofs.lemmas.Bool.Decides.{nat_tests}
 use Rattle.std.proofs.lemmas.Slice.Eq.{bytes_eq-Decides}
 use Rattle.base.specs.Bytes.{Identifier, ByName, lookup}
 use Rattle.syntax.specs.Tree as tree
+use Rattle.syntax.specs.declared.expr.Constant.TheVariants as constants
 use Rattle.syntax.specs.Tree.{Argument}
-use Rattle.jni.specs.Access.{Access, is_critical}
-use Rattle.jni.specs.JniFunction.{JniFunction, parameters_for}
-use Rattle.jni.specs.Prototype.{ParameterKind, FieldID, IntNumber, TextBytes, AnyReference, LocalVariable, StaticVariable, WeakVariable, ArrayVariable, BufferVariable, Mode, IsCopy, MethodID, Passed}
-use Rattle.type_rules.specs.ExprTypes.{ExprType, type_in}
-use Rattle.type_rules.specs.ExprTypes as ty
+use Rattle.jni.specs.declared.access.Access.{Access}
+use Rattle.jni.specs.Access.{is_critical}
+use Rattle.jni.specs.declared.function.JniFunction.{JniFunction}
+use Rattle.jni.specs.JniFunction.{parameters_for}
+use Rattle.jni.specs.declared.kinds.ParameterKind.{ParameterKind}
+use Rattle.jni.specs.declared.kinds.ParameterKind.TheVariants.{FieldID, IntNumber, TextBytes, AnyReference, LocalVariable, StaticVariable, WeakVariable, ArrayVariable, BufferVariable, Mode, IsCopy, MethodID, Passed}
+use Rattle.type_rules.specs.declared.ty.ExprType.{ExprType}
+use Rattle.type_rules.specs.ExprTypes.{type_in}
+use Rattle.type_rules.specs.declared.ty.ExprType.TheVariants as types
 use Rattle.type_rules.specs.TypeGroups.{IsNumberType}
 use Rattle.semantics.specs.Object.{Reference}
 use Rattle.region_rules.specs.RegionRules.{is_critical_call}
@@ -187,44 +192,44 @@ module _ (ss : Statics) (vs : Variables) (frames : List Frame) (p : Point) {weak
   live_alive : (x : Identifier) → IsLive p x → Alive x
   live_alive x (level, e) = let shown = stands.shows x _ e in subst (Serves x) (sym shown.1) (alive_at x level shown.0 e shown.1, own_at x level shown.0 e shown.1)
 
-  other_alive : (x : Identifier) (s : ExprType) (o : Option Variable) (g : Option StaticReference) → (s ≡ ty.Ref → ⊥) → VariableFits s o g → Serves x o
-  other_alive x ty.Ref o g away h = absurd (away refl)
-  other_alive x ty.Global o g away (none, h) = subst (Serves x) (sym none) (tt, tt)
-  other_alive x ty.Weak o g away (none, h) = subst (Serves x) (sym none) (tt, tt)
-  other_alive x ty.FieldId o g away (f, h) = subst (Serves x) (sym h) (tt, tt)
-  other_alive x ty.MethodId o g away (f, h) = subst (Serves x) (sym h) (tt, tt)
-  other_alive x (ty.Buffer t w) o g away (b, h) = subst (Serves x) (sym h) (tt, tt)
-  other_alive x (ty.Array t size) o g away (zs, h) = subst (Serves x) (sym h) (tt, tt)
-  other_alive x ty.Truth o g away h = absurd h
-  other_alive x ty.Word o g away (v, h, f) = subst (Serves x) (sym h) (tt, tt)
-  other_alive x ty.Jint o g away (v, h, f) = subst (Serves x) (sym h) (tt, tt)
-  other_alive x ty.Flag o g away (v, h, f) = subst (Serves x) (sym h) (tt, tt)
+  other_alive : (x : Identifier) (s : ExprType) (o : Option Variable) (g : Option StaticReference) → (s ≡ types.Ref → ⊥) → VariableFits s o g → Serves x o
+  other_alive x types.Ref o g away h = absurd (away refl)
+  other_alive x types.Global o g away (none, h) = subst (Serves x) (sym none) (tt, tt)
+  other_alive x types.Weak o g away (none, h) = subst (Serves x) (sym none) (tt, tt)
+  other_alive x types.FieldId o g away (f, h) = subst (Serves x) (sym h) (tt, tt)
+  other_alive x types.MethodId o g away (f, h) = subst (Serves x) (sym h) (tt, tt)
+  other_alive x (types.Buffer t w) o g away (b, h) = subst (Serves x) (sym h) (tt, tt)
+  other_alive x (types.Array t size) o g away (zs, h) = subst (Serves x) (sym h) (tt, tt)
+  other_alive x types.Truth o g away h = absurd h
+  other_alive x types.Word o g away (v, h, f) = subst (Serves x) (sym h) (tt, tt)
+  other_alive x types.Jint o g away (v, h, f) = subst (Serves x) (sym h) (tt, tt)
+  other_alive x types.Flag o g away (v, h, f) = subst (Serves x) (sym h) (tt, tt)
 
-  no_ref : (s : ExprType) → IsNumberType s → s ≡ ty.Ref → ⊥
+  no_ref : (s : ExprType) → IsNumberType s → s ≡ types.Ref → ⊥
   no_ref s h e = subst IsNumberType e h
 
   null_alive : (x : Identifier) (o : Option ExprType) → type_in p.names x ≡ o → NullTestFits p x o → Alive x
-  null_alive x (Some ty.Ref) e h = live_alive x h
-  null_alive x (Some ty.Global) e h = other_alive x ty.Global (lookup x vs) (lookup x ss) (λ c. cc) (stands.types x ty.Global e)
-  null_alive x (Some ty.FieldId) e h = other_alive x ty.FieldId (lookup x vs) (lookup x ss) (λ c. cc) (stands.types x ty.FieldId e)
-  null_alive x (Some ty.MethodId) e h = other_alive x ty.MethodId (lookup x vs) (lookup x ss) (λ c. cc) (stands.types x ty.MethodId e)
-  null_alive x (Some (ty.Buffer t w)) e h = other_alive x (ty.Buffer t w) (lookup x vs) (lookup x ss) (λ c. cc) (stands.types x (ty.Buffer t w) e)
+  null_alive x (Some types.Ref) e h = live_alive x h
+  null_alive x (Some types.Global) e h = other_alive x types.Global (lookup x vs) (lookup x ss) (λ c. cc) (stands.types x types.Global e)
+  null_alive x (Some types.FieldId) e h = other_alive x types.FieldId (lookup x vs) (lookup x ss) (λ c. cc) (stands.types x types.FieldId e)
+  null_alive x (Some types.MethodId) e h = other_alive x types.MethodId (lookup x vs) (lookup x ss) (λ c. cc) (stands.types x types.MethodId e)
+  null_alive x (Some (types.Buffer t w)) e h = other_alive x (types.Buffer t w) (lookup x vs) (lookup x ss) (λ c. cc) (stands.types x (types.Buffer t w) e)
   null_alive x o e h = absurd h
 
   element_alive : (x : Identifier) (o : Option ExprType) → type_in p.names x ≡ o → ElementsFit p x o → Alive x
-  element_alive x (Some (ty.Buffer t w)) e h = other_alive x (ty.Buffer t w) (lookup x vs) (lookup x ss) (λ c. cc) (stands.types x (ty.Buffer t w) e)
-  element_alive x (Some (ty.Array t n)) e h = other_alive x (ty.Array t n) (lookup x vs) (lookup x ss) (λ c. cc) (stands.types x (ty.Array t n) e)
+  element_alive x (Some (types.Buffer t w)) e h = other_alive x (types.Buffer t w) (lookup x vs) (lookup x ss) (λ c. cc) (stands.types x (types.Buffer t w) e)
+  element_alive x (Some (types.Array t n)) e h = other_alive x (types.Array t n) (lookup x vs) (lookup x ss) (λ c. cc) (stands.types x (types.Array t n) e)
   element_alive x o e h = absurd h
 
   reference_alive : (x : Identifier) (o : Option ExprType) → type_in p.names x ≡ o → ReferenceFits p x o → Alive x
-  reference_alive x (Some ty.Ref) e h = live_alive x h
-  reference_alive x (Some ty.Global) e h = other_alive x ty.Global (lookup x vs) (lookup x ss) (λ c. cc) (stands.types x ty.Global e)
+  reference_alive x (Some types.Ref) e h = live_alive x h
+  reference_alive x (Some types.Global) e h = other_alive x types.Global (lookup x vs) (lookup x ss) (λ c. cc) (stands.types x types.Global e)
   reference_alive x o e h = absurd h
 
   any_reference_alive : (x : Identifier) (o : Option ExprType) → type_in p.names x ≡ o → AnyReferenceFits p x o → Alive x
-  any_reference_alive x (Some ty.Ref) e h = live_alive x h
-  any_reference_alive x (Some ty.Global) e h = other_alive x ty.Global (lookup x vs) (lookup x ss) (λ c. cc) (stands.types x ty.Global e)
-  any_reference_alive x (Some ty.Weak) e h = other_alive x ty.Weak (lookup x vs) (lookup x ss) (λ c. cc) (stands.types x ty.Weak e)
+  any_reference_alive x (Some types.Ref) e h = live_alive x h
+  any_reference_alive x (Some types.Global) e h = other_alive x types.Global (lookup x vs) (lookup x ss) (λ c. cc) (stands.types x types.Global e)
+  any_reference_alive x (Some types.Weak) e h = other_alive x types.Weak (lookup x vs) (lookup x ss) (λ c. cc) (stands.types x types.Weak e)
   any_reference_alive x o e h = absurd h
 
   both_alive : (xs ys : List Identifier) → AllByRecursion Alive xs → AllByRecursion Alive ys → AllByRecursion Alive (xs ++ ys)
@@ -239,8 +244,8 @@ module _ (ss : Statics) (vs : Variables) (frames : List Frame) (p : Point) {weak
   term_alive (term.Element x t) s h = (element_alive x (type_in p.names x) refl h.0, term_alive t h.1.0 h.1.2)
   term_alive (IsNull equal x) s h = (null_alive x (type_in p.names x) refl h.0, tt)
   term_alive (Prefix op t) s h = term_alive t h.0 h.2
-  term_alive (And a b) s h = both_alive (term_names a) (term_names b) (term_alive a ty.Truth h.0) (term_alive b ty.Truth h.1)
-  term_alive (Or a b) s h = both_alive (term_names a) (term_names b) (term_alive a ty.Truth h.0) (term_alive b ty.Truth h.1)
+  term_alive (And a b) s h = both_alive (term_names a) (term_names b) (term_alive a types.Truth h.0) (term_alive b types.Truth h.1)
+  term_alive (Or a b) s h = both_alive (term_names a) (term_names b) (term_alive a types.Truth h.0) (term_alive b types.Truth h.1)
   term_alive (Binary op a b) s h = both_alive (term_names a) (term_names b) (term_alive a h.0 h.2) (term_alive b h.0 h.3)
 
   -- ---- arguments
@@ -250,16 +255,16 @@ module _ (ss : Statics) (vs : Variables) (frames : List Frame) (p : Point) {weak
   named_alive ok a live h = absurd h
 
   reference_argument_alive : (a : Argument) → ReferenceArgumentFits p a → AllByRecursion Alive (argument_names a)
-  reference_argument_alive (tree.Value (tree.Named tree.Null)) h = tt
+  reference_argument_alive (tree.Value (tree.Named constants.Null)) h = tt
   reference_argument_alive (tree.Value (tree.Variable x)) h = (reference_alive x (type_in p.names x) refl h, tt)
   reference_argument_alive a h = absurd h
 
   any_argument_alive : (a : Argument) → AnyReferenceArgumentFits p a → AllByRecursion Alive (argument_names a)
-  any_argument_alive (tree.Value (tree.Named tree.Null)) h = tt
+  any_argument_alive (tree.Value (tree.Named constants.Null)) h = tt
   any_argument_alive (tree.Value (tree.Variable x)) h = (any_reference_alive x (type_in p.names x) refl h, tt)
   any_argument_alive a h = absurd h
 
-  type_alive : (x : Identifier) (s : ExprType) → (s ≡ ty.Ref → ⊥) → type_in p.names x ≡ Some s → Alive x
+  type_alive : (x : Identifier) (s : ExprType) → (s ≡ types.Ref → ⊥) → type_in p.names x ≡ Some s → Alive x
   type_alive x s away e = other_alive x s (lookup x vs) (lookup x ss) away (stands.types x s e)
 
   usable_alive : (x : Identifier) → IsUsable p x → Alive x
@@ -267,22 +272,22 @@ module _ (ss : Statics) (vs : Variables) (frames : List Frame) (p : Point) {weak
 
   field_argument_alive : (a : Argument) → FieldArgumentFits p a → AllByRecursion Alive (argument_names a)
   field_argument_alive (tree.Value (tree.Named c)) h = tt
-  field_argument_alive (tree.Value (tree.Variable x)) h = (type_alive x ty.FieldId (λ c. cc) h, tt)
+  field_argument_alive (tree.Value (tree.Variable x)) h = (type_alive x types.FieldId (λ c. cc) h, tt)
   field_argument_alive a h = absurd h
 
   method_argument_alive : (a : Argument) → MethodArgumentFits p a → AllByRecursion Alive (argument_names a)
   method_argument_alive (tree.Value (tree.Named c)) h = tt
-  method_argument_alive (tree.Value (tree.Variable x)) h = (type_alive x ty.MethodId (λ c. cc) h, tt)
+  method_argument_alive (tree.Value (tree.Variable x)) h = (type_alive x types.MethodId (λ c. cc) h, tt)
   method_argument_alive a h = absurd h
 
   null_argument_alive : (a : Argument) → NullFits a → AllByRecursion Alive (argument_names a)
-  null_argument_alive (tree.Value (tree.Named tree.Null)) h = tt
+  null_argument_alive (tree.Value (tree.Named constants.Null)) h = tt
   null_argument_alive a h = absurd h
 
   passed_alive : (x : Identifier) (o : Option ExprType) → type_in p.names x ≡ o → PassedFits p x o → Alive x
-  passed_alive x (Some ty.Jint) e h = type_alive x ty.Jint (λ c. cc) e
-  passed_alive x (Some ty.Ref) e h = live_alive x h
-  passed_alive x (Some ty.Global) e h = type_alive x ty.Global (λ c. cc) e
+  passed_alive x (Some types.Jint) e h = type_alive x types.Jint (λ c. cc) e
+  passed_alive x (Some types.Ref) e h = live_alive x h
+  passed_alive x (Some types.Global) e h = type_alive x types.Global (λ c. cc) e
   passed_alive x o e h = absurd h
 
   mode_alive : (a : Argument) → ModeFits a → AllByRecursion Alive (argument_names a)
@@ -292,7 +297,7 @@ module _ (ss : Statics) (vs : Variables) (frames : List Frame) (p : Point) {weak
 
   copy_alive : (a : Argument) → CopyFits p a → AllByRecursion Alive (argument_names a)
   copy_alive (tree.Value (tree.Named c)) h = tt
-  copy_alive (tree.AddressOf x) h = (type_alive x ty.Flag (λ c. cc) h, tt)
+  copy_alive (tree.AddressOf x) h = (type_alive x types.Flag (λ c. cc) h, tt)
   copy_alive a h = absurd h
 
   text_alive : (a : Argument) → TextFits a → AllByRecursion Alive (argument_names a)
@@ -303,21 +308,21 @@ module _ (ss : Statics) (vs : Variables) (frames : List Frame) (p : Point) {weak
   given_alive IntNumber a h = absurd h
   given_alive TextBytes a h = text_alive a h
   given_alive LocalVariable a h = named_alive (IsLive p) a live_alive h
-  given_alive StaticVariable a h = named_alive (λ x. type_in p.names x ≡ Some ty.Global) a (λ x e. type_alive x ty.Global (λ c. cc) e) h
-  given_alive WeakVariable a h = named_alive (λ x. type_in p.names x ≡ Some ty.Weak) a (λ x e. type_alive x ty.Weak (λ c. cc) e) h
+  given_alive StaticVariable a h = named_alive (λ x. type_in p.names x ≡ Some types.Global) a (λ x e. type_alive x types.Global (λ c. cc) e) h
+  given_alive WeakVariable a h = named_alive (λ x. type_in p.names x ≡ Some types.Weak) a (λ x e. type_alive x types.Weak (λ c. cc) e) h
   given_alive AnyReference a h = any_argument_alive a h
   given_alive FieldID a h = field_argument_alive a h
   given_alive MethodID a h = method_argument_alive a h
   given_alive Passed a h = null_argument_alive a h
-  given_alive (ArrayVariable t) a h = named_alive (λ x. (size : ℕ) × (type_in p.names x ≡ Some (ty.Array t size))) a (λ x e. type_alive x (ty.Array t e.0) (λ c. cc) e.1) h
+  given_alive (ArrayVariable t) a h = named_alive (λ x. (size : ℕ) × (type_in p.names x ≡ Some (types.Array t size))) a (λ x e. type_alive x (types.Array t e.0) (λ c. cc) e.1) h
   given_alive (BufferVariable access) a h = named_alive (IsUsable p) a usable_alive h
   given_alive Mode a h = mode_alive a h
   given_alive IsCopy a h = copy_alive a h
   given_alive parameter a h = reference_argument_alive a h
 
   operand_alive : (parameter : ParameterKind) (o : Operand) → OperandFits p parameter o → AllByRecursion Alive (operand_names o)
-  operand_alive IntNumber (NumberOperand t) h = term_alive t ty.Jint h
-  operand_alive Passed (NumberOperand t) h = term_alive t ty.Jint h
+  operand_alive IntNumber (NumberOperand t) h = term_alive t types.Jint h
+  operand_alive Passed (NumberOperand t) h = term_alive t types.Jint h
   operand_alive Passed (PassedName x) h = (passed_alive x (type_in p.names x) refl h, tt)
   operand_alive parameter (NumberOperand t) h = absurd h
   operand_alive parameter (PassedName x) h = absurd h
@@ -330,25 +335,25 @@ module _ (ss : Statics) (vs : Variables) (frames : List Frame) (p : Point) {weak
   operands_alive (parameter ∷ parameters) (o ∷ operands) h = both_alive (operand_names o) (flat_map operand_names operands) (operand_alive parameter o h.0) (operands_alive parameters operands h.1)
 
   returned_alive : (x : Identifier) (o : Option ExprType) → type_in p.names x ≡ o → ReturnedFits p x o → Alive x
-  returned_alive x (Some ty.Ref) e h = live_alive x h
-  returned_alive x (Some ty.Jint) e h = type_alive x ty.Jint (λ c. cc) e
+  returned_alive x (Some types.Ref) e h = live_alive x h
+  returned_alive x (Some types.Jint) e h = type_alive x types.Jint (λ c. cc) e
   returned_alive x o e h = absurd h
 
   return_alive : (t : Term) → ReturnFits p t → AllByRecursion Alive (term_names t)
-  return_alive (term.Named tree.Null) h = tt
-  return_alive (term.Named tree.True) h = tt
-  return_alive (term.Named tree.False) h = tt
-  return_alive (term.Named tree.Commit) h = tt
-  return_alive (term.Named tree.Abort) h = tt
+  return_alive (term.Named constants.Null) h = tt
+  return_alive (term.Named constants.True) h = tt
+  return_alive (term.Named constants.False) h = tt
+  return_alive (term.Named constants.Commit) h = tt
+  return_alive (term.Named constants.Abort) h = tt
   return_alive (Read x) h = (returned_alive x (type_in p.names x) refl h, tt)
   return_alive (Done v) h = tt
   return_alive (term.Number n unsigned) h = tt
-  return_alive (term.Element x t) h = term_alive (term.Element x t) ty.Jint h
-  return_alive (IsNull equal x) h = term_alive (IsNull equal x) ty.Jint h
-  return_alive (Prefix op t) h = term_alive (Prefix op t) ty.Jint h
-  return_alive (And a b) h = term_alive (And a b) ty.Jint h
-  return_alive (Or a b) h = term_alive (Or a b) ty.Jint h
-  return_alive (Binary op a b) h = term_alive (Binary op a b) ty.Jint h
+  return_alive (term.Element x t) h = term_alive (term.Element x t) types.Jint h
+  return_alive (IsNull equal x) h = term_alive (IsNull equal x) types.Jint h
+  return_alive (Prefix op t) h = term_alive (Prefix op t) types.Jint h
+  return_alive (And a b) h = term_alive (And a b) types.Jint h
+  return_alive (Or a b) h = term_alive (Or a b) types.Jint h
+  return_alive (Binary op a b) h = term_alive (Binary op a b) types.Jint h
 
   call_alive : (line : ℕ) (target : Target) (f : JniFunction) (operands : List Operand) (k : Point → Type 0) → Runs (Invoke line target f operands) k p → AllByRecursion Alive (flat_map operand_names operands)
   call_alive line (Tested a b) f operands k r = operands_alive (parameters_for f (length operands)) operands (r.0).types
@@ -359,11 +364,11 @@ module _ (ss : Statics) (vs : Variables) (frames : List Frame) (p : Point) {weak
   -- each name that a step uses
   each_used : (t : Task) (k : Point → Type 0) → Runs t k p → AllByRecursion Alive (task_names t)
   each_used (SetScalar line x t) k (s, n, f, g) = term_alive t s f
-  each_used (SetElement line x i t) k (fit, (r, n, f), g, h) = (element_alive x (type_in p.names x) refl fit, both_alive (term_names i) (term_names t) (term_alive i r f) (term_alive t ty.Jint g))
+  each_used (SetElement line x i t) k (fit, (r, n, f), g, h) = (element_alive x (type_in p.names x) refl fit, both_alive (term_names i) (term_names t) (term_alive i r f) (term_alive t types.Jint g))
   each_used (Invoke line target f operands) k r = call_alive line target f operands k r
-  each_used (Print line t) k r = term_alive t ty.Jint r.0
-  each_used (Branch line t a b) k r = term_alive t ty.Truth r.0
-  each_used (Loop line e t body) k r = term_alive t ty.Truth r.0
+  each_used (Print line t) k r = term_alive t types.Jint r.0
+  each_used (Branch line t a b) k r = term_alive t types.Truth r.0
+  each_used (Loop line e t body) k r = term_alive t types.Truth r.0
   each_used (task.ReturnValue line t) k r = return_alive t r.0
   each_used t k r = tt
 

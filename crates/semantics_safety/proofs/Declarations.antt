@@ -3,14 +3,21 @@ use Rattle.std.proofs.Common.{◌≡◌, ℕ, inr, Bool, true, false, not, List,
 use Rattle.std.specs.Option.{is_some}
 use Rattle.std.proofs.lemmas.Bool.{and_parts}
 use Rattle.base.specs.Bytes.{Identifier}
-use Rattle.base.specs.Element.{ElementType, JChar}
+use Rattle.base.specs.declared.element.ElementType.{ElementType}
+use Rattle.base.specs.declared.element.ElementType.TheVariants.{Char as JChar}
 use Rattle.syntax.specs.Tree as tree
-use Rattle.syntax.specs.Tree.{VariableType, UInt32, JIntVariable, JSize, JBoolean, JFieldId, JMethodId, ReferenceVariable, Expr, Argument, Call, FromExpr, FromCall}
-use Rattle.jni.specs.Access.{Access}
-use Rattle.jni.specs.JniFunction.{JniFunction, GetBuffer, prototype}
-use Rattle.jni.specs.Prototype.{ResultKind, NewLocal, NewGlobal, NewWeak, GivesFlag, GivesInt, GivesField, GivesMethod, GivesBuffer}
-use Rattle.type_rules.specs.ExprTypes.{Word, Jint, Flag, Ref, Buffer, type_of, is_null, name_type}
-use Rattle.type_rules.specs.ExprTypes as ty
+use Rattle.syntax.specs.declared.declared_type.VariableType.{VariableType}
+use Rattle.syntax.specs.declared.declared_type.VariableType.TheVariants.{Uint32 as UInt32, Jint as JIntVariable, Jsize as JSize, Jboolean as JBoolean, JfieldId as JFieldId, JmethodId as JMethodId, Reference as ReferenceVariable}
+use Rattle.syntax.specs.Tree.{Expr, Argument, Call, FromExpr, FromCall}
+use Rattle.jni.specs.declared.access.Access.{Access}
+use Rattle.jni.specs.declared.function.JniFunction.{JniFunction}
+use Rattle.jni.specs.declared.function.JniFunction.TheVariants.{GetBuffer}
+use Rattle.jni.specs.JniFunction.{prototype}
+use Rattle.jni.specs.declared.kinds.ResultKind.{ResultKind}
+use Rattle.jni.specs.declared.kinds.ResultKind.TheVariants.{NewLocal, NewGlobal, NewWeak, GivesFlag, GivesInt, GivesField, GivesMethod, GivesBuffer}
+use Rattle.type_rules.specs.declared.ty.ExprType.TheVariants.{Word, Jint, Flag, Ref, Buffer}
+use Rattle.type_rules.specs.ExprTypes.{type_of, is_null, name_type}
+use Rattle.type_rules.specs.declared.ty.ExprType.TheVariants as types
 use Rattle.type_rules.specs.TypeRules as rules
 use Rattle.type_rules.specs.TypeRules.{has_name, variable_type, result_fits, call_fits}
 use Rattle.type_rules.proofs.TypeTests.{jint_is, flag_is, word_is, null_is, first_passed}
@@ -41,9 +48,9 @@ declare_value line JBoolean x e p taken returns path k known kept (obeys, is) h 
     let read = (first_read p.regions e [] (statement_reads p.regions (tree.Declare line JBoolean x (FromExpr e)) obeys)).0 in
     scalar_runs p taken line (Declared ScalarKind x) x e Flag k known tt (flag_is (type_of p.names e) kept.fits) read (inr (is_new p taken x known kept.new, h p.regions is (known_named p taken known x kept.new Flag tt)))
 declare_value line JFieldId x e p taken returns path k known kept (obeys, is) h =
-    subst (λ (e : Expr). RunsPlain (set_task line (Declared FieldKind x) x e) k p) (sym (null_is e kept.fits)) (is_new p taken x known kept.new, h p.regions is (known_named p taken known x kept.new ty.FieldId tt))
+    subst (λ (e : Expr). RunsPlain (set_task line (Declared FieldKind x) x e) k p) (sym (null_is e kept.fits)) (is_new p taken x known kept.new, h p.regions is (known_named p taken known x kept.new types.FieldId tt))
 declare_value line JMethodId x e p taken returns path k known kept (obeys, is) h =
-    subst (λ (e : Expr). RunsPlain (set_task line (Declared MethodKind x) x e) k p) (sym (null_is e kept.fits)) (is_new p taken x known kept.new, h p.regions is (known_named p taken known x kept.new ty.MethodId tt))
+    subst (λ (e : Expr). RunsPlain (set_task line (Declared MethodKind x) x e) k p) (sym (null_is e kept.fits)) (is_new p taken x known kept.new, h p.regions is (known_named p taken known x kept.new types.MethodId tt))
 declare_value line (ReferenceVariable r) x e p taken returns path k known kept (obeys, is) h =
     subst (λ (e : Expr). RunsPlain (set_task line (Declared ReferenceKind x) x e) k p) (sym (null_is e (first_passed (is_null e) (is_some (name_type p.names e)) kept.fits kept.uncopied)))
     (is_new p taken x known kept.new, h (with_new p.regions x (ReferenceAt p.regions.frames true)) is (known_new p taken known x kept.new Ref (ReferenceAt p.regions.frames true) tt))
@@ -103,8 +110,8 @@ module _ (q : Point) (taken : List Identifier) (known : IsKnown q taken) (x : Id
   declared_result line c JIntVariable GivesInt get fit h = (is_new q taken x known new, h (known_named q taken known x new Jint tt))
   declared_result line c JSize GivesInt get fit h = (is_new q taken x known new, h (known_named q taken known x new Jint tt))
   declared_result line c JBoolean GivesFlag get fit h = (is_new q taken x known new, h (known_named q taken known x new Flag tt))
-  declared_result line c JFieldId GivesField get fit h = (is_new q taken x known new, h (known_named q taken known x new ty.FieldId tt))
-  declared_result line c JMethodId GivesMethod get fit h = (is_new q taken x known new, h (known_named q taken known x new ty.MethodId tt))
+  declared_result line c JFieldId GivesField get fit h = (is_new q taken x known new, h (known_named q taken known x new types.FieldId tt))
+  declared_result line c JMethodId GivesMethod get fit h = (is_new q taken x known new, h (known_named q taken known x new types.MethodId tt))
   declared_result line c (ReferenceVariable r) NewLocal get fit h = (is_new q taken x known new, h (known_new q taken known x new Ref (ReferenceAt q.regions.frames true) tt))
   declared_result line c t result get fit h = absurd (cc)
 

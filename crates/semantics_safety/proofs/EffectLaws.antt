@@ -3,12 +3,15 @@ use Rattle.std.proofs.Common.{◌≡◌, ℕ, Bool, true, false, not, ◌&&◌, 
 use Rattle.std.specs.Prelude.{ℤ}
 use Rattle.std.proofs.lemmas.Bool.{cond_both}
 use Rattle.base.specs.Bytes.{Identifier, lookup}
-use Rattle.syntax.specs.Tree as tree
+use Rattle.syntax.specs.declared.expr.Constant.TheVariants as constants
 use Rattle.syntax.specs.Tree.{Block, Expr, Argument}
-use Rattle.jni.specs.JniFunction.{JniFunction, parameters_for, takes_count, prototype}
-use Rattle.jni.specs.Prototype.{ParameterKind, IntNumber, Passed}
-use Rattle.type_rules.specs.ExprTypes.{ExprType, type_in}
-use Rattle.type_rules.specs.ExprTypes as ty
+use Rattle.jni.specs.declared.function.JniFunction.{JniFunction}
+use Rattle.jni.specs.JniFunction.{parameters_for, takes_count, prototype}
+use Rattle.jni.specs.declared.kinds.ParameterKind.{ParameterKind}
+use Rattle.jni.specs.declared.kinds.ParameterKind.TheVariants.{IntNumber, Passed}
+use Rattle.type_rules.specs.declared.ty.ExprType.{ExprType}
+use Rattle.type_rules.specs.ExprTypes.{type_in}
+use Rattle.type_rules.specs.declared.ty.ExprType.TheVariants as types
 use Rattle.type_rules.specs.TypeGroups.{IsIndexType, IsNumberType}
 use Rattle.semantics.specs.Arguments.{actuals}
 use Rattle.semantics.specs.CallEffects.{ScalarResult}
@@ -58,7 +61,7 @@ module _ (heap : Heap) (ss : Statics) (vs : Variables) (frames : List Frame) (p 
   sets : (x : Identifier) (s : ExprType) (v : Value) → value_type v ≡ s → IsNumberType s → SetsNumber x s (GoesOn rest) p → Goes (Sets x v)
   sets x s v e n h = (subst (λ (r : ExprType). SetsNumber x r (GoesOn rest) p) (sym e) h, subst IsNumberType (sym e) n)
 
-  prints : (v : Value) → value_type v ≡ ty.Jint → ((z : ℤ) → Goes (Prints z)) → Goes (print_effect v)
+  prints : (v : Value) → value_type v ≡ types.Jint → ((z : ℤ) → Goes (Prints z)) → Goes (print_effect v)
   prints (Int z) e h = h z
   prints v e h = absurd (cc)
 
@@ -72,7 +75,7 @@ module _ (heap : Heap) (ss : Statics) (vs : Variables) (frames : List Frame) (p 
   at_place line x z (Traps trap) i a h = tt
   at_place line x z Stuck i a h = absurd i
 
-  places : (line : ℕ) (x : Identifier) (v w : Value) (r : ExprType) → IsIndexType r → value_type v ≡ r → value_type w ≡ ty.Jint → ElementsFit p x (type_in p.names x) → GoesOn rest p → Goes (element_effect sight line x v w)
+  places : (line : ℕ) (x : Identifier) (v w : Value) (r : ExprType) → IsIndexType r → value_type v ≡ r → value_type w ≡ types.Jint → ElementsFit p x (type_in p.names x) → GoesOn rest p → Goes (element_effect sight line x v w)
   places line x v (Int z) r n e f fit k = at_place line x z (index_of v) (index_fits v r n e) (λ n. (sees ss vs frames p heap stands).element x n fit) (λ n. (fit, k))
   places line x v w r n e f fit k = absurd (cc)
 
@@ -92,7 +95,7 @@ module _ (heap : Heap) (ss : Statics) (vs : Variables) (frames : List Frame) (p 
   false_path y n (Nothing t) k h = h
   false_path y n (IsFalseNow other) k h = h
 
-  branches : (a b : Block) (v : Value) → value_type v ≡ ty.Truth → (y n : Point) → Teaches p (Done v) y n → RunsBlock a (Outside (GoesOn rest)) y → RunsBlock b (Outside (GoesOn rest)) n → Goes (branch_effect a b v)
+  branches : (a b : Block) (v : Value) → value_type v ≡ types.Truth → (y n : Point) → Teaches p (Done v) y n → RunsBlock a (Outside (GoesOn rest)) y → RunsBlock b (Outside (GoesOn rest)) n → Goes (branch_effect a b v)
   branches a b (Truth true) e y n t h g = path a (true_path y n t (RunsBlock a (Outside (GoesOn rest))) h)
   branches a b (Truth false) e y n t h g = path b (false_path y n t (RunsBlock b (Outside (GoesOn rest))) g)
   branches a b v e y n t h g = absurd (cc)
@@ -124,29 +127,29 @@ module _ (heap : Heap) (ss : Statics) (vs : Variables) (frames : List Frame) (p 
   stuck_gives : (u : Term) (o : Reduction) → o ≡ Stuck → o ≡ Gives u → ⊥
   stuck_gives u o s e = cc
 
-  learns : (t : Term) (y n : Point) (on_true on_false : Point → Type 0) → Teaches p t y n → on_true y → on_false n → (u : Term) → reduce sight t ≡ Gives u → HasType p u ty.Truth → Learns on_true on_false u
+  learns : (t : Term) (y n : Point) (on_true on_false : Point → Type 0) → Teaches p t y n → on_true y → on_false n → (u : Term) → reduce sight t ≡ Gives u → HasType p u types.Truth → Learns on_true on_false u
   learns t y n on_true on_false (Nothing s) h g u e f = (p, stands, (f, (p, p, Nothing u, h, g)))
   learns t y n on_true on_false (ForNull x) h g u e f = null_learns x on_true on_false (λ b. b) (sight.is_null x) u (λ b c. null_found x on_true on_false b c h g) e
   learns t y n on_true on_false (ForOther x) h g u e f = null_learns x on_true on_false not (sight.is_null x) u (λ b c. other_found x on_true on_false b c h g) e
   learns t y n on_true on_false (IsTrueNow other) h g u e f = absurd (stuck_gives u Stuck refl e)
   learns t y n on_true on_false (IsFalseNow other) h g u e f = absurd (stuck_gives u Stuck refl e)
 
-  turns : (line : ℕ) (e : Expr) (body : Block) (v : Value) → value_type v ≡ ty.Truth → Turns e body p → GoesOn rest p → Goes (loop_effect line e body v)
+  turns : (line : ℕ) (e : Expr) (body : Block) (v : Value) → value_type v ≡ types.Truth → Turns e body p → GoesOn rest p → Goes (loop_effect line e body v)
   turns line e body (Truth true) f h k = (p, stands, grouped body (EndTurn line e body) p (block_goes body (λ q. Closes q p) (EndTurn line e body ∷ rest) (λ q c. (p, c, h, k)) p h.1))
   turns line e body (Truth false) f h k = (p, stands, k)
   turns line e body v f h k = absurd (cc)
 
   -- ---- returns
 
-  type_returns : (o : Option ExprType) (x : Identifier) → o ≡ Some ty.Jint → ReturnedFits p x o
+  type_returns : (o : Option ExprType) (x : Identifier) → o ≡ Some types.Jint → ReturnedFits p x o
   type_returns o x e = subst (ReturnedFits p x) (sym e) tt
 
-  number_returns : (u : Term) → HasType p u ty.Jint → ReturnFits p u
-  number_returns (term.Named tree.Null) h = tt
-  number_returns (term.Named tree.True) h = h
-  number_returns (term.Named tree.False) h = h
-  number_returns (term.Named tree.Commit) h = h
-  number_returns (term.Named tree.Abort) h = h
+  number_returns : (u : Term) → HasType p u types.Jint → ReturnFits p u
+  number_returns (term.Named constants.Null) h = tt
+  number_returns (term.Named constants.True) h = h
+  number_returns (term.Named constants.False) h = h
+  number_returns (term.Named constants.Commit) h = h
+  number_returns (term.Named constants.Abort) h = h
   number_returns (Read x) h = type_returns (type_in p.names x) x h.0
   number_returns (Done v) h = h
   number_returns (term.Number n unsigned) h = h
@@ -157,29 +160,29 @@ module _ (heap : Heap) (ss : Statics) (vs : Variables) (frames : List Frame) (p 
   number_returns (Or a b) h = h
   number_returns (Binary op a b) h = h
 
-  value_returns : (line : ℕ) (t : Term) → HasType p t ty.Jint → MayReturnFrom p → Goes (with_value sight line (λ v. Returns (ScalarResult v)) (task.ReturnValue line) t)
-  value_returns line t h m = valued line (λ v. Returns (ScalarResult v)) (task.ReturnValue line) ty.Jint t h (λ v e f. m) (λ u e f. (p, stands, (number_returns u f, m)))
+  value_returns : (line : ℕ) (t : Term) → HasType p t types.Jint → MayReturnFrom p → Goes (with_value sight line (λ v. Returns (ScalarResult v)) (task.ReturnValue line) t)
+  value_returns line t h m = valued line (λ v. Returns (ScalarResult v)) (task.ReturnValue line) types.Jint t h (λ v e f. m) (λ u e f. (p, stands, (number_returns u f, m)))
 
   ref_returns : (line : ℕ) (o : Option Variable) → (level : ℕ) × (r : _) × (o ≡ Some (LocalRef level r)) → (r : StaticReference) → MayReturnFrom p → Goes (returned_name line (scalar o) r)
   ref_returns line o (level, r, e) q m = subst (λ (v : Option Variable). Goes (returned_name line (scalar v) q)) (sym e) m
 
-  name_gives : (line : ℕ) (o : Outcome Value) (r : StaticReference) → ValueFits ty.Jint o → MayReturnFrom p → Goes (returned_name line o r)
+  name_gives : (line : ℕ) (o : Outcome Value) (r : StaticReference) → ValueFits types.Jint o → MayReturnFrom p → Goes (returned_name line o r)
   name_gives line (Gives v) r h m = (p, stands, (h, m))
   name_gives line (Traps trap) r h m = m
   name_gives line Stuck r h m = m
 
   name_returns : (line : ℕ) (x : Identifier) (o : Option ExprType) → type_in p.names x ≡ o → ReturnedFits p x o → MayReturnFrom p → Goes (returned_name line (sight.number x) (sight.reference x))
-  name_returns line x (Some ty.Ref) e h m = ref_returns line (lookup x vs) (stands.types x ty.Ref e) (sight.reference x) m
-  name_returns line x (Some ty.Jint) e h m = name_gives line (sight.number x) (sight.reference x) ((sees ss vs frames p heap stands).number x ty.Jint e tt) m
+  name_returns line x (Some types.Ref) e h m = ref_returns line (lookup x vs) (stands.types x types.Ref e) (sight.reference x) m
+  name_returns line x (Some types.Jint) e h m = name_gives line (sight.number x) (sight.reference x) ((sees ss vs frames p heap stands).number x types.Jint e tt) m
   name_returns line x o e h m = absurd h
 
   returns : (line : ℕ) (t : Term) → ReturnFits p t → MayReturnFrom p → Goes (return_effect sight line t)
-  returns line (term.Named tree.Null) h m = m
+  returns line (term.Named constants.Null) h m = m
   returns line (Read x) h m = name_returns line x (type_in p.names x) refl h m
-  returns line (term.Named tree.True) h m = value_returns line (term.Named tree.True) h m
-  returns line (term.Named tree.False) h m = value_returns line (term.Named tree.False) h m
-  returns line (term.Named tree.Commit) h m = absurd h
-  returns line (term.Named tree.Abort) h m = absurd h
+  returns line (term.Named constants.True) h m = value_returns line (term.Named constants.True) h m
+  returns line (term.Named constants.False) h m = value_returns line (term.Named constants.False) h m
+  returns line (term.Named constants.Commit) h m = absurd h
+  returns line (term.Named constants.Abort) h m = absurd h
   returns line (Done v) h m = value_returns line (Done v) h m
   returns line (term.Number n unsigned) h m = value_returns line (term.Number n unsigned) h m
   returns line (term.Element x t) h m = value_returns line (term.Element x t) h m
@@ -206,17 +209,17 @@ module _ (heap : Heap) (ss : Statics) (vs : Variables) (frames : List Frame) (p 
   after_go parameter parameters o before Stuck h g = g
 
   -- a number takes a step, whatever is to be given
-  number_type : (parameter : ParameterKind) (t : Term) → OperandFits p parameter (NumberOperand t) → HasType p t ty.Jint
+  number_type : (parameter : ParameterKind) (t : Term) → OperandFits p parameter (NumberOperand t) → HasType p t types.Jint
   number_type IntNumber t h = h
   number_type Passed t h = h
   number_type parameter t h = absurd h
 
-  number_fits : (parameter : ParameterKind) (t : Term) → OperandFits p parameter (NumberOperand t) → (u : Term) → HasType p u ty.Jint → OperandFits p parameter (NumberOperand u)
+  number_fits : (parameter : ParameterKind) (t : Term) → OperandFits p parameter (NumberOperand t) → (u : Term) → HasType p u types.Jint → OperandFits p parameter (NumberOperand u)
   number_fits IntNumber t h u is = is
   number_fits Passed t h u is = is
   number_fits parameter t h u is = absurd h
 
-  number_go : (parameter : ParameterKind) (parameters : List ParameterKind) (e : Term) (before : List Operand) (o : Reduction) → ((u : Term) → HasType p u ty.Jint → OperandFits p parameter (NumberOperand u)) → TermFits p ty.Jint o → OperandsFit p parameters before
+  number_go : (parameter : ParameterKind) (parameters : List ParameterKind) (e : Term) (before : List Operand) (o : Reduction) → ((u : Term) → HasType p u types.Jint → OperandFits p parameter (NumberOperand u)) → TermFits p types.Jint o → OperandsFit p parameters before
       → OperandsGo (parameter ∷ parameters) (NumberOperand e ∷ before) (outcome_map (λ (u : Term). NumberOperand u ∷ before) o)
   number_go parameter parameters e before (Gives u) fits h g = ((fits u h, g), refl)
   number_go parameter parameters e before (Traps trap) fits h g = tt
@@ -226,22 +229,22 @@ module _ (heap : Heap) (ss : Statics) (vs : Variables) (frames : List Frame) (p 
       → OperandsGo (parameter ∷ parameters) (NumberOperand e ∷ before) (reduce_number e before (reduce sight e) (reduce_first sight before))
   number_steps parameter parameters (Done v) before h g further e = after_go parameter parameters (NumberOperand (Done v)) before (reduce_first sight before) h (further e)
   number_steps parameter parameters t before h g further e =
-      number_go parameter parameters t before (reduce sight t) (number_fits parameter t h) (reduce_fits p sight (sees ss vs frames p heap stands) t ty.Jint (number_type parameter t h) tt) g
+      number_go parameter parameters t before (reduce sight t) (number_fits parameter t h) (reduce_fits p sight (sees ss vs frames p heap stands) t types.Jint (number_type parameter t h) tt) g
 
   -- a name that a method is given is that of a number, or of a reference
   abbrev PassedValue : Outcome Value → Type 0
-  PassedValue (Gives v) = HasType p (Done v) ty.Jint
+  PassedValue (Gives v) = HasType p (Done v) types.Jint
   PassedValue o = Unit {0}
 
-  jint_passed : (o : Outcome Value) → ValueFits ty.Jint o → PassedValue o
+  jint_passed : (o : Outcome Value) → ValueFits types.Jint o → PassedValue o
   jint_passed (Gives v) h = h
   jint_passed (Traps trap) h = tt
   jint_passed Stuck h = tt
 
   name_passed : (x : Identifier) (o : Option ExprType) → type_in p.names x ≡ o → PassedFits p x o → PassedValue (sight.number x)
-  name_passed x (Some ty.Jint) e h = jint_passed (sight.number x) ((sees ss vs frames p heap stands).number x ty.Jint e tt)
-  name_passed x (Some ty.Ref) e h = let there = stands.types x ty.Ref e in subst (λ (v : Option Variable). PassedValue (scalar v)) (sym there.2) tt
-  name_passed x (Some ty.Global) e h = let there = stands.types x ty.Global e in subst (λ (v : Option Variable). PassedValue (scalar v)) (sym there.0) tt
+  name_passed x (Some types.Jint) e h = jint_passed (sight.number x) ((sees ss vs frames p heap stands).number x types.Jint e tt)
+  name_passed x (Some types.Ref) e h = let there = stands.types x types.Ref e in subst (λ (v : Option Variable). PassedValue (scalar v)) (sym there.2) tt
+  name_passed x (Some types.Global) e h = let there = stands.types x types.Global e in subst (λ (v : Option Variable). PassedValue (scalar v)) (sym there.0) tt
   name_passed x o e h = absurd h
 
   name_kind : (parameter : ParameterKind) (x : Identifier) → OperandFits p parameter (PassedName x) → (parameter ≡ Passed) × PassedFits p x (type_in p.names x)
@@ -320,18 +323,18 @@ module _ (heap : Heap) (ss : Statics) (vs : Variables) (frames : List Frame) (p 
   effect_follows (SetScalar line x t) (s, n, f, g) = valued line (Sets x) (SetScalar line x) s t f (λ v e h. sets x s v h n g) (λ u e h. (p, stands, (s, n, h, g)))
   effect_follows (SetElement line x i t) (fit, (r, n, f), g, k) =
       valued line _ (λ u. SetElement line x u t) r i f
-      (λ v e h. valued line (element_effect sight line x v) (SetElement line x (Done v)) ty.Jint t g (λ w c j. places line x v w r n h j fit k) (λ u c j. (p, stands, (fit, (r, n, h), j, k))))
+      (λ v e h. valued line (element_effect sight line x v) (SetElement line x (Done v)) types.Jint t g (λ w c j. places line x v w r n h j fit k) (λ u c j. (p, stands, (fit, (r, n, h), j, k))))
       (λ u e h. (p, stands, (fit, (r, n, h), g, k)))
   effect_follows (SetNull target) r = r
   effect_follows (MakeArray t x size) r = r
   effect_follows (Invoke line target f operands) r = calls line target f operands r
-  effect_follows (Print line t) (f, view, k) = valued line print_effect (Print line) ty.Jint t f (λ v e h. prints v h (λ z. (view, k))) (λ u e h. (p, stands, (h, view, k)))
+  effect_follows (Print line t) (f, view, k) = valued line print_effect (Print line) types.Jint t f (λ v e h. prints v h (λ z. (view, k))) (λ u e h. (p, stands, (h, view, k)))
   effect_follows (Branch line t a b) (f, (y, n, teaches, h, g)) =
-      valued line (branch_effect a b) (λ u. Branch line u a b) ty.Truth t f
+      valued line (branch_effect a b) (λ u. Branch line u a b) types.Truth t f
       (λ v e s. branches a b v s y n (subst (λ (t : Term). Teaches p t y n) e teaches) h g)
       (λ u e s. learns t y n (RunsBlock a (Outside (GoesOn rest))) (RunsBlock b (Outside (GoesOn rest))) teaches h g u e s)
   effect_follows EndIf (q, closes, k) = (q, stands_after ss vs frames p q stands closes, k)
-  effect_follows (Loop line e t body) (f, turn, k) = valued line (loop_effect line e body) (λ u. Loop line e u body) ty.Truth t f (λ v c s. turns line e body v s turn k) (λ u c s. (p, stands, (s, turn, k)))
+  effect_follows (Loop line e t body) (f, turn, k) = valued line (loop_effect line e body) (λ u. Loop line e u body) types.Truth t f (λ v c s. turns line e body v s turn k) (λ u c s. (p, stands, (s, turn, k)))
   effect_follows (EndTurn line e body) (q, closes, turn, k) = (q, stands_after ss vs frames p q stands closes, (turn.0, turn, k))
   effect_follows task.Return r = r
   effect_follows (task.ReturnValue line t) (f, m) = returns line t f m

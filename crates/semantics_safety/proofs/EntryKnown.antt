@@ -4,8 +4,13 @@ use Rattle.std.specs.List.{cons_option}
 use Rattle.std.specs.Str.{bytes_eq}
 use Rattle.std.proofs.lemmas.Bool.{or_parts}
 use Rattle.base.specs.Bytes.{Identifier, ByName, lookup}
-use Rattle.syntax.specs.Tree.{ParameterType, IntParameter, ReferenceParameter, Parameter, Function, JClass}
-use Rattle.type_rules.specs.ExprTypes.{ExprType, Jint, Ref, Global, Weak, Truth, Buffer, Scope, type_in}
+use Rattle.syntax.specs.declared.declared_type.ReferenceType.TheVariants.{Class as JClass}
+use Rattle.syntax.specs.declared.declared_type.ParameterType.{ParameterType}
+use Rattle.syntax.specs.declared.declared_type.ParameterType.TheVariants.{Jint as IntParameter, Reference as ReferenceParameter}
+use Rattle.syntax.specs.Tree.{Parameter, Function}
+use Rattle.type_rules.specs.declared.ty.ExprType.{ExprType}
+use Rattle.type_rules.specs.declared.ty.ExprType.TheVariants.{Jint, Ref, Global, Weak, Truth, Buffer}
+use Rattle.type_rules.specs.ExprTypes.{Scope, type_in}
 use Rattle.type_rules.specs.TypeRules.{parameter_type, has_name, has_repeated}
 use Rattle.region_rules.specs.RegionStates.{VariableState, BufferState, ReferenceAt, BufferIn}
 use Rattle.semantics_safety.proofs.Accepted.{AreStatics}
@@ -13,7 +18,7 @@ use Rattle.semantics_safety.proofs.EntryPoints.{known, known_at, known_is, once_
 use Rattle.semantics_safety.proofs.KnownPoints.{IsKnown, held_of}
 use Rattle.semantics_safety.specs.Points.{Point}
 use Rattle.syntax.specs.Parts.{parameter_names}
-use Rattle.jni.specs.Access.{Access}
+use Rattle.jni.specs.declared.access.Access.{Access}
 use Rattle.semantics_safety.proofs.NameLaws.{front_other}
 use Rattle.semantics_safety.proofs.SetLaws.{none_some}
 

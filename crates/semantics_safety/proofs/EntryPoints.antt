@@ -7,10 +7,14 @@ use Rattle.std.proofs.lemmas.Bool.{and_parts, or_parts}
 use Rattle.std.proofs.lemmas.Bool.Decides.{Decides-eqb}
 use Rattle.std.proofs.lemmas.Slice.Eq.{bytes_eq-Decides}
 use Rattle.base.specs.Bytes.{Identifier, ByName, lookup}
-use Rattle.base.specs.Element.{ElementType}
+use Rattle.base.specs.declared.element.ElementType.{ElementType}
 use Rattle.syntax.specs.Parts.{parameter_names}
-use Rattle.syntax.specs.Tree.{ParameterType, IntParameter, ReferenceParameter, Parameter, Function}
-use Rattle.type_rules.specs.ExprTypes.{ExprType, Ref, Global, Weak, Scope, type_in}
+use Rattle.syntax.specs.declared.declared_type.ParameterType.{ParameterType}
+use Rattle.syntax.specs.declared.declared_type.ParameterType.TheVariants.{Jint as IntParameter, Reference as ReferenceParameter}
+use Rattle.syntax.specs.Tree.{Parameter, Function}
+use Rattle.type_rules.specs.declared.ty.ExprType.{ExprType}
+use Rattle.type_rules.specs.declared.ty.ExprType.TheVariants.{Ref, Global, Weak}
+use Rattle.type_rules.specs.ExprTypes.{Scope, type_in}
 use Rattle.type_rules.specs.TypeRules.{parameter_type, has_name, has_repeated}
 use Rattle.region_rules.specs.RegionStates.{VariableState, ReferenceAt, BufferIn, parameter_state, state_at_entry}
 use Rattle.semantics.specs.Activation.{parameter_variable, parameter_variables, named_object, entry_frame}

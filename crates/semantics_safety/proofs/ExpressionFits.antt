@@ -5,11 +5,19 @@ use Rattle.std.specs.Option.{option_or}
 use Rattle.std.proofs.lemmas.Bool.{and_parts, or_parts}
 use Rattle.std.proofs.lemmas.List.Folds.{list_any-append}
 use Rattle.base.specs.Bytes.{Identifier}
-use Rattle.base.specs.Element.{ElementType}
+use Rattle.base.specs.declared.element.ElementType.{ElementType}
 use Rattle.syntax.specs.Parts.{names_in, elements_in}
-use Rattle.syntax.specs.Tree.{Constant, True, False, Null, PrefixOp, LogicalNot, Complement, ToWord, ToInt, BinaryOp, LogicalOr, LogicalAnd, Equal, NotEqual, Expr, Number, Named, Variable, Element, Prefix, Binary, Paren}
-use Rattle.type_rules.specs.ExprTypes.{ExprType, Word, Jint, Flag, Truth, Ref, Global, Buffer, Array, OperatorGroup, Logic, Equality, Order, OnWords, group, binary_type, prefix_type, is_castable, is_index, has_elements, is_nullable, constant_type, null_test_type, type_in, type_of}
-use Rattle.type_rules.specs.ExprTypes as ty
+use Rattle.syntax.specs.declared.expr.PrefixOp.{PrefixOp}
+use Rattle.syntax.specs.declared.expr.PrefixOp.TheVariants.{LogicalNot, Complement, ToWord, ToInt}
+use Rattle.syntax.specs.declared.expr.BinaryOp.{BinaryOp}
+use Rattle.syntax.specs.declared.expr.BinaryOp.TheVariants.{LogicalOr, LogicalAnd, Equal, NotEqual}
+use Rattle.syntax.specs.declared.expr.Constant.{Constant}
+use Rattle.syntax.specs.declared.expr.Constant.TheVariants.{True, False, Null}
+use Rattle.syntax.specs.Tree.{Expr, Number, Named, Variable, Element, Prefix, Binary, Paren}
+use Rattle.type_rules.specs.declared.ty.ExprType.{ExprType}
+use Rattle.type_rules.specs.declared.ty.ExprType.TheVariants.{Word, Jint, Flag, Truth, Ref, Global, Buffer, Array}
+use Rattle.type_rules.specs.ExprTypes.{OperatorGroup, Logic, Equality, Order, OnWords, group, binary_type, prefix_type, is_castable, is_index, has_elements, is_nullable, constant_type, null_test_type, type_in, type_of}
+use Rattle.type_rules.specs.declared.ty.ExprType.TheVariants as types
 use Rattle.type_rules.specs.TypeGroups.{IsNumberType, OperatorFits}
 use Rattle.type_rules.proofs.TypeCases.{IsValueType, given, castable, indexed, operands, number_is_value, index_is_value, null_cases, none_right, or_none}
 use Rattle.region_rules.specs.RegionRules.{is_dead, is_untested, is_free}
@@ -81,8 +89,8 @@ module _ (p : Point) (stated : AreStated p) where
   nullable_fits : (x : Identifier) (o : Option ExprType) → type_in p.names x ≡ o → is_nullable o ≡ true → is_dead (state_of p.regions x) ≡ false → NullTestFits p x o
   nullable_fits x (Some Ref) e h alive = is_live p stated x e alive
   nullable_fits x (Some Global) e h alive = tt
-  nullable_fits x (Some ty.FieldId) e h alive = tt
-  nullable_fits x (Some ty.MethodId) e h alive = tt
+  nullable_fits x (Some types.FieldId) e h alive = tt
+  nullable_fits x (Some types.MethodId) e h alive = tt
   nullable_fits x (Some (Buffer t writable)) e h alive = tt
   nullable_fits x o e h alive = absurd (cc)
 

@@ -7,9 +7,11 @@ use Rattle.syntax.specs.Tree as tree
 use Rattle.syntax.specs.Tree.{Block, SourceUnit}
 use Rattle.class_rules.specs.Class.{Classes}
 use Rattle.base.specs.Limits.{most_references}
-use Rattle.jni.specs.Access.{Access}
-use Rattle.jni.specs.JniFunction.{DeleteLocalRef, PushLocalFrame, PopLocalFrame}
-use Rattle.jni.specs.Prototype.{ResultKind, NewLocal, GivesInt, GivesNothing, LocalVariable}
+use Rattle.jni.specs.declared.access.Access.{Access}
+use Rattle.jni.specs.declared.function.JniFunction.TheVariants.{DeleteLocalRef, PushLocalFrame, PopLocalFrame}
+use Rattle.jni.specs.declared.kinds.ParameterKind.TheVariants.{LocalVariable}
+use Rattle.jni.specs.declared.kinds.ResultKind.{ResultKind}
+use Rattle.jni.specs.declared.kinds.ResultKind.TheVariants.{NewLocal, GivesInt, GivesNothing}
 use Rattle.region_rules.specs.RegionStates as states
 use Rattle.region_rules.specs.RegionStates.{ReferenceAt, state_of, with_changed, killed, after_pop, get_of}
 use Rattle.semantics.specs.Answer.{Answer, effect_of}
@@ -23,7 +25,8 @@ use Rattle.semantics.specs.Sight.{held_reference}
 use Rattle.semantics.specs.Task.{Task, Target, Declared, Assigned, Tested, Dropped, Operand, Given, Invoke, Branch}
 use Rattle.semantics.specs.Term.{Done}
 use Rattle.semantics.specs.Thread.{Frame, Thread, Shared, BuffersInUse, capacities, sight_of}
-use Rattle.semantics.specs.Value.{Int, Truth, Trap}
+use Rattle.semantics.specs.declared.trap.Trap.{Trap}
+use Rattle.semantics.specs.Value.{Int, Truth}
 use Rattle.semantics.specs.Variable.{Variable, LocalRef, Variables}
 use Rattle.semantics.specs.Effect.{Calls, tasks_after}
 use Rattle.std.specs.Str.{bytes_eq}

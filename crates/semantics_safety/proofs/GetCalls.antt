@@ -5,15 +5,21 @@ use Rattle.std.specs.List.{list_any}
 use Rattle.std.specs.Option.{option_map}
 use Rattle.std.specs.Str.{bytes_eq}
 use Rattle.base.specs.Bytes.{Identifier, ByName, lookup}
-use Rattle.base.specs.Element.{ElementType}
+use Rattle.base.specs.declared.element.ElementType.{ElementType}
 use Rattle.syntax.specs.Tree.{SourceUnit}
 use Rattle.syntax.specs.Tree as tree
 use Rattle.class_rules.specs.Class.{Classes}
-use Rattle.jni.specs.Access.{Access, ElementsCopy, ArrayView, CharsCopy, CharsView, is_critical}
-use Rattle.jni.specs.JniFunction.{GetBuffer, PushLocalFrame}
-use Rattle.jni.specs.Prototype.{ResultKind, GivesBuffer, owner, IsCopy}
-use Rattle.type_rules.specs.ExprTypes.{ExprType, type_in}
-use Rattle.type_rules.specs.ExprTypes as ty
+use Rattle.jni.specs.declared.access.Access.{Access}
+use Rattle.jni.specs.declared.access.Access.TheVariants.{ElementsCopy, ArrayView, CharsCopy, CharsView}
+use Rattle.jni.specs.Access.{is_critical}
+use Rattle.jni.specs.declared.function.JniFunction.TheVariants.{GetBuffer, PushLocalFrame}
+use Rattle.jni.specs.declared.kinds.ParameterKind.TheVariants.{IsCopy}
+use Rattle.jni.specs.declared.kinds.ResultKind.{ResultKind}
+use Rattle.jni.specs.declared.kinds.ResultKind.TheVariants.{GivesBuffer}
+use Rattle.jni.specs.Prototype.{owner}
+use Rattle.type_rules.specs.declared.ty.ExprType.{ExprType}
+use Rattle.type_rules.specs.ExprTypes.{type_in}
+use Rattle.type_rules.specs.declared.ty.ExprType.TheVariants as types
 use Rattle.region_rules.specs.RegionStates.{get_of, VariableState, BufferState, Free, Untested, ReferenceAt, BufferIn, state_of, with_new, with_changed}
 use Rattle.semantics.specs.Object.{Reference}
 use Rattle.semantics.specs.Answer.{Answer, effect_of}
@@ -28,7 +34,8 @@ use Rattle.semantics.specs.Sight.{held_reference}
 use Rattle.semantics.specs.Task.{Task, Target, Declared, Assigned, Tested, Dropped, VariableKind, ScalarKind, ReferenceKind, FieldKind, MethodKind, BufferKind, Operand, Given, Invoke}
 use Rattle.semantics.specs.Thread.{Thread, Shared, BuffersInUse, Frame, sight_of}
 use Rattle.semantics.specs.ThreadStep.{with_tasks}
-use Rattle.semantics.specs.Value.{Flag, Value, Trap}
+use Rattle.semantics.specs.declared.trap.Trap.{Trap}
+use Rattle.semantics.specs.Value.{Flag, Value}
 use Rattle.semantics.specs.Variable.{Variable, Scalar, LocalRef, Elements, Buffer, NoBuffer, Copy, View, Variables, Statics, assign}
 use Rattle.semantics.proofs.CheckLaws.{passed}
 use Rattle.semantics.proofs.AnswerKinds.{AnswersAs, Copying, GetsBuffer, Halting, Viewing, answers_as}
@@ -71,8 +78,8 @@ fewer_owners vs x b l m ((y, v) ∷ known) = by_test (bytes_eq x y) (fewer_owner
 module _ (unit : SourceUnit) (classes : Classes) (in_use : BuffersInUse) (k : ℕ) (s : Shared) (t : Thread) (rest : List Task) (p : Point) {weak : WeakNames} {own : Owners} (stands : Stands weak own s.statics t.variables t.frames p) (access : Access) (a : Identifier) (level : ℕ) (here_a : state_of p.regions a ≡ Some (ReferenceAt level true)) (b : Buffer) (is_lent : IsLentBy t.variables access a b) where
   -- a new variable holds the buffer
   got_declared : (x : Identifier) (u : ElementType) (w : Bool) → IsNew p x
-      → Stands weak own s.statics (assign x (Elements u b) t.variables) t.frames (at (named p x (ty.Buffer u w)) (with_new p.regions x (BufferIn (Untested access a))))
-  got_declared x u w new = stands_at s.statics t.variables t.frames p stands x (Elements u b) t.frames (at (named p x (ty.Buffer u w)) (with_new p.regions x (BufferIn (Untested access a)))) (record {
+      → Stands weak own s.statics (assign x (Elements u b) t.variables) t.frames (at (named p x (types.Buffer u w)) (with_new p.regions x (BufferIn (Untested access a))))
+  got_declared x u w new = stands_at s.statics t.variables t.frames p stands x (Elements u b) t.frames (at (named p x (types.Buffer u w)) (with_new p.regions x (BufferIn (Untested access a)))) (record {
     elsewhere = λ y other. front_other x y (BufferIn (Untested access a)) p.regions.variables other;
     apart = λ y c access' m l h at_c same. new.unused y access' (subst (Holds p y access') same h);
     here = λ v e.
@@ -81,9 +88,9 @@ module _ (unit : SourceUnit) (classes : Classes) (in_use : BuffersInUse) (k : �
         let other : a ≢ x = λ same. none_some (state_of p.regions x) (ReferenceAt level true) new.unknown (subst (λ (z : Identifier). state_of p.regions z ≡ Some (ReferenceAt level true)) same here_a) in
         subst (λ (v : VariableState). Shows (assign x (Elements u b) t.variables) v (Some (Elements u b))) one
         (u, b, refl, lent_moved t.variables (assign x (Elements u b) t.variables) access a b (lookup_other x a (Elements u b) t.variables other) is_lent);
-    types = types_named s.statics t.variables t.frames p stands x (Elements u b) (ty.Buffer u w) (b, refl);
+    types = types_named s.statics t.variables t.frames p stands x (Elements u b) (types.Buffer u w) (b, refl);
     held = λ v c e. inr (access, a, inl (front_same x (BufferIn (Untested access a)) p.regions.variables));
-    kinds = kinds_named weak x (ty.Buffer u w) p.names tt stands.kinds;
+    kinds = kinds_named weak x (types.Buffer u w) p.names tt stands.kinds;
     known_once = (new.unknown, stands.known_once);
     depth = stands.depth;
     backed = λ l m.
@@ -135,14 +142,14 @@ module _ (unit : SourceUnit) (classes : Classes) (in_use : BuffersInUse) (k : �
       known_there x e = known_same p.regions x (λ v. BufferIn (Untested access a)) ∙ ap (option_map (λ (v : VariableState). BufferIn (Untested access a))) e
 
   declared : (kind : VariableKind) (x : Identifier) → DeclaresResult p kind x (GivesBuffer access) (Some (access, Some a)) (GoesOn rest) → Lands weak own s.statics (put (Declared kind x) (BufferResult b) s (with_tasks t rest))
-  declared (BufferKind u) x (new, (w, for_it, g)) = ((at (named p x (ty.Buffer u w)) (with_new p.regions x (BufferIn (Untested access a))), got_declared x u w new, g), same_statics s.statics)
+  declared (BufferKind u) x (new, (w, for_it, g)) = ((at (named p x (types.Buffer u w)) (with_new p.regions x (BufferIn (Untested access a))), got_declared x u w new, g), same_statics s.statics)
   declared ScalarKind x h = absurd h
   declared ReferenceKind x h = absurd h
   declared FieldKind x h = absurd h
   declared MethodKind x h = absurd h
 
   assigned : (x : Identifier) (o : Option ExprType) → AssignsResult p o x (GivesBuffer access) (Some (access, Some a)) (GoesOn rest) → Lands weak own s.statics (put_assigned x (BufferResult b) s (with_tasks t rest) (lookup x t.variables))
-  assigned x (Some (ty.Buffer u w)) (e, for_it, g) =
+  assigned x (Some (types.Buffer u w)) (e, for_it, g) =
       let shown = stands.shows x (BufferIn Free) e in
       subst (λ (v : Option Variable). Lands weak own s.statics (put_assigned x (BufferResult b) s (with_tasks t rest) v)) (sym shown.2)
       ((at p (with_changed p.regions x (λ v. BufferIn (Untested access a))), got_assigned x shown.0 shown.1 e shown.2, g), same_statics s.statics)
@@ -157,11 +164,11 @@ module _ (unit : SourceUnit) (classes : Classes) (in_use : BuffersInUse) (k : �
 
 -- ---- whether it is a copy
 
-module _ (ss : Statics) (vs : Variables) (frames : List Frame) (p : Point) {weak : WeakNames} {own : Owners} (stands : Stands weak own ss vs frames p) (y : Identifier) (flag : type_in p.names y ≡ Some ty.Flag) where
+module _ (ss : Statics) (vs : Variables) (frames : List Frame) (p : Point) {weak : WeakNames} {own : Owners} (stands : Stands weak own ss vs frames p) (y : Identifier) (flag : type_in p.names y ≡ Some types.Flag) where
   flag_set : (v : Bool) → Stands weak own ss (assign y (Scalar (Flag v)) vs) frames p
   flag_set v =
-      let old = stands.types y ty.Flag flag in
-      stands_kept ss vs frames p stands y (Scalar (Flag v)) ty.Flag (Scalar old.0) flag old.1 (λ level r e. no_ref old.0 level r e) (λ u b e. no_buffer old.0 u b e) (Flag v, refl, refl) (λ u b e. absurd (no_buffer (Flag v) u b e))
+      let old = stands.types y types.Flag flag in
+      stands_kept ss vs frames p stands y (Scalar (Flag v)) types.Flag (Scalar old.0) flag old.1 (λ level r e. no_ref old.0 level r e) (λ u b e. no_buffer old.0 u b e) (Flag v, refl, refl) (λ u b e. absurd (no_buffer (Flag v) u b e))
     where
       no_ref : (v : Value) (level : ℕ) (r : _) → Scalar v ≡ LocalRef level r → ⊥
       no_ref v level r e = cc
@@ -171,7 +178,7 @@ module _ (ss : Statics) (vs : Variables) (frames : List Frame) (p : Point) {weak
 
   not_flag : (a : Identifier) (level : ℕ) (r : Reference) → lookup a vs ≡ Some (LocalRef level r) → a ≢ y
   not_flag a level r e same =
-      let old = stands.types y ty.Flag flag in
+      let old = stands.types y types.Flag flag in
       let there : lookup y vs ≡ Some (LocalRef level r) = subst (λ (z : Identifier). lookup z vs ≡ Some (LocalRef level r)) same e in
       let both : Some (Scalar old.0) ≡ Some (LocalRef level r) = sym old.1 ∙ there in
       cc
@@ -208,7 +215,7 @@ module _ (unit : SourceUnit) (classes : Classes) (in_use : BuffersInUse) (k : �
   module _ (access : Access) (a : Identifier) (level : ℕ) (here_a : state_of p.regions a ≡ Some (ReferenceAt level true)) (r : Reference) (at_a : lookup a t.variables ≡ Some (LocalRef level r)) (target : Target) (away : IsNoTest target) (goes : ResultGoes target (GivesBuffer access) (Some (access, Some a)) (GoesOn rest) p) where
     -- the address of a flag, or NULL
     abbrev IsFlagOrNone : Option Identifier → Type 0
-    IsFlagOrNone y = (y ≡ None) ⊎ ((x : Identifier) × (y ≡ Some x) × (type_in p.names x ≡ Some ty.Flag))
+    IsFlagOrNone y = (y ≡ None) ⊎ ((x : Identifier) × (y ≡ Some x) × (type_in p.names x ≡ Some types.Flag))
 
     got : (shared : Shared) → shared.statics ≡ s.statics → (b : Buffer) → IsLentBy t.variables access a b → (y : Option Identifier) → IsFlagOrNone y
         → Lands weak own shared.statics (put target (BufferResult b) shared (record t { tasks = Some (tasks_after line target false ++ rest); variables = tell_copy y (BufferResult b) t.variables }))
@@ -231,7 +238,7 @@ module _ (unit : SourceUnit) (classes : Classes) (in_use : BuffersInUse) (k : �
   abbrev told_in : Operand → Option Identifier
   told_in c = address_in_actual (Some (look_up (sight_of s t) (IsCopy, c)))
 
-  told_fits : (c : Operand) → OperandFits p IsCopy c → (told_in c ≡ None) ⊎ ((x : Identifier) × (told_in c ≡ Some x) × (type_in p.names x ≡ Some ty.Flag))
+  told_fits : (c : Operand) → OperandFits p IsCopy c → (told_in c ≡ None) ⊎ ((x : Identifier) × (told_in c ≡ Some x) × (type_in p.names x ≡ Some types.Flag))
   told_fits (Given (tree.Value (tree.Named n))) fit = inl refl
   told_fits (Given (tree.AddressOf y)) fit = inr (y, refl, fit)
   told_fits c fit = absurd fit

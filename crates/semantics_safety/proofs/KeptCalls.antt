@@ -6,8 +6,10 @@ use Rattle.base.specs.Bytes.{Identifier, lookup}
 use Rattle.base.specs.Limits.{most_references}
 use Rattle.class_rules.specs.Class.{Classes}
 use Rattle.syntax.specs.Tree.{SourceUnit}
-use Rattle.jni.specs.JniFunction.{JniFunction, calls_method, prototype}
-use Rattle.jni.specs.Prototype.{ResultKind, NewLocal}
+use Rattle.jni.specs.declared.function.JniFunction.{JniFunction}
+use Rattle.jni.specs.JniFunction.{calls_method, prototype}
+use Rattle.jni.specs.declared.kinds.ResultKind.{ResultKind}
+use Rattle.jni.specs.declared.kinds.ResultKind.TheVariants.{NewLocal}
 use Rattle.semantics.specs.Answer.{Answer, Ensures, Pushes, Raises}
 use Rattle.semantics.specs.Answer as answer
 use Rattle.semantics.specs.AnswerTable.{call_answer, call_effect}
@@ -21,7 +23,7 @@ use Rattle.semantics.specs.Object.{Object}
 use Rattle.semantics.specs.Task.{Task, Target, Declared, Assigned, Tested, Dropped}
 use Rattle.semantics.specs.Thread.{Thread, Caller, Shared, BuffersInUse, Frame, Advance, Advances, NoAdvance, capacities, sight_of}
 use Rattle.semantics.specs.ThreadStep.{set_element, with_tasks, after_effect, after_refused_effect, step_within}
-use Rattle.semantics.specs.Value.{Trap}
+use Rattle.semantics.specs.declared.trap.Trap.{Trap}
 use Rattle.semantics.specs.Variable.{Variable, Scalar, LocalRef, FieldHandle, MethodHandle, Elements, LocalArray, NoBuffer, Copy, View}
 use Rattle.semantics.specs.World.{Invocation, fresh_object}
 use Rattle.semantics.proofs.AnswerKinds.{CallsNone, calls_none}

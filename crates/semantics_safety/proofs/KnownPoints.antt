@@ -6,9 +6,11 @@ use Rattle.std.specs.Str.{bytes_eq}
 use Rattle.std.proofs.lemmas.List.Folds.{list_any-append}
 use Rattle.std.proofs.lemmas.Slice.Eq.{bytes_eq-Decides}
 use Rattle.base.specs.Bytes.{Identifier, ByName, lookup}
-use Rattle.base.specs.Element.{ElementType}
-use Rattle.jni.specs.Access.{Access}
-use Rattle.type_rules.specs.ExprTypes.{ExprType, Ref, Truth, Buffer, type_in}
+use Rattle.base.specs.declared.element.ElementType.{ElementType}
+use Rattle.jni.specs.declared.access.Access.{Access}
+use Rattle.type_rules.specs.declared.ty.ExprType.{ExprType}
+use Rattle.type_rules.specs.declared.ty.ExprType.TheVariants.{Ref, Truth, Buffer}
+use Rattle.type_rules.specs.ExprTypes.{type_in}
 use Rattle.type_rules.specs.TypeRules.{has_name}
 use Rattle.type_rules.proofs.NameLists.{has_last}
 use Rattle.region_rules.specs.RegionRules.{is_held}

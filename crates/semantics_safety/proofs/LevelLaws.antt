@@ -2,12 +2,16 @@
 use Rattle.std.proofs.Common.{◌≡◌, ℕ, List, length, Option, Some, refl, sym, ap, ◌∙◌, subst}
 use Rattle.std.specs.Prelude.{drop}
 use Rattle.base.specs.Bytes.{Identifier, lookup}
-use Rattle.jni.specs.Access.{Access}
-use Rattle.jni.specs.JniFunction.{JniFunction, ReleaseBuffer, DeleteLocalRef, PopLocalFrame, prototype}
-use Rattle.jni.specs.Prototype.{ResultKind, NewLocal, GivesNothing}
+use Rattle.jni.specs.declared.access.Access.{Access}
+use Rattle.jni.specs.declared.function.JniFunction.{JniFunction}
+use Rattle.jni.specs.declared.function.JniFunction.TheVariants.{ReleaseBuffer, DeleteLocalRef, PopLocalFrame}
+use Rattle.jni.specs.JniFunction.{prototype}
+use Rattle.jni.specs.declared.kinds.ResultKind.{ResultKind}
+use Rattle.jni.specs.declared.kinds.ResultKind.TheVariants.{NewLocal, GivesNothing}
 use Rattle.region_rules.specs.RegionStates.{RegionState, get_of, after_call, after_pop}
-use Rattle.type_rules.specs.ExprTypes.{ExprType, type_in}
-use Rattle.type_rules.specs.ExprTypes as ty
+use Rattle.type_rules.specs.declared.ty.ExprType.{ExprType}
+use Rattle.type_rules.specs.ExprTypes.{type_in}
+use Rattle.type_rules.specs.declared.ty.ExprType.TheVariants as types
 use Rattle.semantics.specs.Checks.{frames_after}
 use Rattle.semantics.specs.Object.{Reference}
 use Rattle.semantics.specs.Task.{Assigned, Operand, Invoke}
@@ -33,7 +37,7 @@ no_local e = cc
 module _ (ss : Statics) (vs : Variables) (frames : List Frame) (p : Point) {weak : WeakNames} {own : Owners} (stands : Stands weak own ss vs frames p) (k : Point → Type 0) (x : Identifier) (level : ℕ) (r : Reference) (there : lookup x vs ≡ Some (LocalRef level r)) where
   -- the variable that is set at a point is of the frame that is current there
   pub set_level : (q : Point) (fs : List Frame) → Stands weak own ss vs fs q → (s : Option ExprType) (get : Option (Access × Option Identifier)) → AssignsResult q s x NewLocal get k → level ≡ length fs
-  set_level q fs now (Some ty.Ref) get (may, goes) =
+  set_level q fs now (Some types.Ref) get (may, goes) =
       let shown = now.shows x _ may.known in
       let same : level ≡ q.regions.frames = cc in
       same ∙ sym now.depth

@@ -5,11 +5,12 @@ use Rattle.std.specs.Option.{option_map}
 use Rattle.std.specs.Str.{bytes_eq}
 use Rattle.std.proofs.lemmas.Slice.Eq.{bytes_eq-Decides}
 use Rattle.base.specs.Bytes.{Identifier, ByName, lookup}
-use Rattle.base.specs.Element.{ElementType}
+use Rattle.base.specs.declared.element.ElementType.{ElementType}
 use Rattle.syntax.specs.Tree.{SourceUnit}
 use Rattle.class_rules.specs.Class.{Classes}
-use Rattle.type_rules.specs.ExprTypes.{ExprType, type_in}
-use Rattle.type_rules.specs.ExprTypes as ty
+use Rattle.type_rules.specs.declared.ty.ExprType.{ExprType}
+use Rattle.type_rules.specs.ExprTypes.{type_in}
+use Rattle.type_rules.specs.declared.ty.ExprType.TheVariants as types
 use Rattle.semantics.specs.CallEffects.{NullResult}
 use Rattle.semantics.specs.CallStep.{put, put_assigned}
 use Rattle.region_rules.specs.RegionStates.{VariableState, Free, ReferenceAt, BufferIn, with_new, with_changed}
@@ -43,7 +44,7 @@ module _ (unit : SourceUnit) (classes : Classes) (in_use : BuffersInUse) (k : �
   null_buffer v u b e = cc
 
   -- a new buffer that is NULL
-  buffer_declared : (x : Identifier) (u : ElementType) (w : Bool) → IsNew p x → Stands weak own s.statics (assign x (Elements u NoBuffer) t.variables) t.frames (at (named p x (ty.Buffer u w)) (with_new p.regions x (BufferIn Free)))
+  buffer_declared : (x : Identifier) (u : ElementType) (w : Bool) → IsNew p x → Stands weak own s.statics (assign x (Elements u NoBuffer) t.variables) t.frames (at (named p x (types.Buffer u w)) (with_new p.regions x (BufferIn Free)))
   buffer_declared x u w new = stands_at s.statics t.variables t.frames p stands x (Elements u NoBuffer) t.frames _ (record {
     elsewhere = λ y other. front_other x y (BufferIn Free) p.regions.variables other;
     apart = λ y a access m level h at_a same. new.unused y access (subst (Holds p y access) same h);
@@ -51,9 +52,9 @@ module _ (unit : SourceUnit) (classes : Classes) (in_use : BuffersInUse) (k : �
         let both : Some (BufferIn Free) ≡ Some v = sym (front_same x (BufferIn Free) p.regions.variables) ∙ e in
         let one : BufferIn Free ≡ v = cc in
         subst (λ (v : VariableState). Shows (assign x (Elements u NoBuffer) t.variables) v (Some (Elements u NoBuffer))) one (u, NoBuffer, refl, refl);
-    types = types_named s.statics t.variables t.frames p stands x (Elements u NoBuffer) (ty.Buffer u w) (NoBuffer, refl);
+    types = types_named s.statics t.variables t.frames p stands x (Elements u NoBuffer) (types.Buffer u w) (NoBuffer, refl);
     held = λ v b e. inl (null_buffer u v b e);
-    kinds = kinds_named weak x (ty.Buffer u w) p.names tt stands.kinds;
+    kinds = kinds_named weak x (types.Buffer u w) p.names tt stands.kinds;
     known_once = (new.unknown, stands.known_once);
     depth = stands.depth;
     backed = λ level n.
@@ -66,12 +67,12 @@ module _ (unit : SourceUnit) (classes : Classes) (in_use : BuffersInUse) (k : �
 
   declared_lands : (kind : VariableKind) (x : Identifier) → DeclaresNull p kind x (GoesOn rest) → Lands weak own s.statics (put (Declared kind x) NullResult s (with_tasks t rest))
   declared_lands ScalarKind x h = absurd h
-  declared_lands ReferenceKind x (new, g) = ((at (named p x ty.Ref) (with_new p.regions x (ReferenceAt p.regions.frames true)), null_declared unit classes in_use k s t rest p stands x new, g), λ y r e. (r, e))
+  declared_lands ReferenceKind x (new, g) = ((at (named p x types.Ref) (with_new p.regions x (ReferenceAt p.regions.frames true)), null_declared unit classes in_use k s t rest p stands x new, g), λ y r e. (r, e))
   declared_lands FieldKind x (new, g) =
-      ((named p x ty.FieldId, stands_new s.statics t.variables t.frames p stands x (FieldHandle None) ty.FieldId new tt (None, refl) (λ u b e. absurd (field_no_buffer None u b e)), g), λ y r e. (r, e))
+      ((named p x types.FieldId, stands_new s.statics t.variables t.frames p stands x (FieldHandle None) types.FieldId new tt (None, refl) (λ u b e. absurd (field_no_buffer None u b e)), g), λ y r e. (r, e))
   declared_lands MethodKind x (new, g) =
-      ((named p x ty.MethodId, stands_new s.statics t.variables t.frames p stands x (MethodHandle None) ty.MethodId new tt (None, refl) (λ u b e. absurd (method_no_buffer None u b e)), g), λ y r e. (r, e))
-  declared_lands (BufferKind u) x (new, (w, g)) = ((at (named p x (ty.Buffer u w)) (with_new p.regions x (BufferIn Free)), buffer_declared x u w new, g), λ y r e. (r, e))
+      ((named p x types.MethodId, stands_new s.statics t.variables t.frames p stands x (MethodHandle None) types.MethodId new tt (None, refl) (λ u b e. absurd (method_no_buffer None u b e)), g), λ y r e. (r, e))
+  declared_lands (BufferKind u) x (new, (w, g)) = ((at (named p x (types.Buffer u w)) (with_new p.regions x (BufferIn Free)), buffer_declared x u w new, g), λ y r e. (r, e))
 
   no_empty : (n : ℕ) → Empty ≡ Weakly n → ⊥
   no_empty n e = cc
@@ -101,17 +102,17 @@ module _ (unit : SourceUnit) (classes : Classes) (in_use : BuffersInUse) (k : �
       there y r e = elim (one_or_other y x) [ inl same ↦ (g, ap (λ (z : Identifier). lookup z (assign x g s.statics)) same ∙ lookup_same x g s.statics) | inr other ↦ (r, lookup_other x y g s.statics other ∙ e) ]
 
       static_fits : (r : ExprType) (y : Identifier) → VariableFits r (lookup y t.variables) (lookup y s.statics) → VariableFits r (lookup y t.variables) (lookup y (assign x g s.statics))
-      static_fits ty.Global y (none, (q, e)) = (none, there y q e)
-      static_fits ty.Weak y (none, (q, e)) = (none, there y q e)
-      static_fits ty.Ref y h = h
-      static_fits ty.FieldId y h = h
-      static_fits ty.MethodId y h = h
-      static_fits (ty.Buffer u w) y h = h
-      static_fits (ty.Array u size) y h = h
-      static_fits ty.Truth y h = h
-      static_fits ty.Word y h = h
-      static_fits ty.Jint y h = h
-      static_fits ty.Flag y h = h
+      static_fits types.Global y (none, (q, e)) = (none, there y q e)
+      static_fits types.Weak y (none, (q, e)) = (none, there y q e)
+      static_fits types.Ref y h = h
+      static_fits types.FieldId y h = h
+      static_fits types.MethodId y h = h
+      static_fits (types.Buffer u w) y h = h
+      static_fits (types.Array u size) y h = h
+      static_fits types.Truth y h = h
+      static_fits types.Word y h = h
+      static_fits types.Jint y h = h
+      static_fits types.Flag y h = h
 
   pub statics_stay : (x : Identifier) (g : StaticReference) (y : Identifier) (r : StaticReference) → lookup y s.statics ≡ Some r → (q : StaticReference) × (lookup y (assign x g s.statics) ≡ Some q)
   statics_stay x g y r e = elim (one_or_other y x) [ inl same ↦ (g, ap (λ (z : Identifier). lookup z (assign x g s.statics)) same ∙ lookup_same x g s.statics) | inr other ↦ (r, lookup_other x y g s.statics other ∙ e) ]
@@ -157,7 +158,7 @@ module _ (unit : SourceUnit) (classes : Classes) (in_use : BuffersInUse) (k : �
   ref_no_buffer : (level : ℕ) (r : _) (u : ElementType) (b : Buffer) → LocalRef level r ≡ Elements u b → ⊥
   ref_no_buffer level r u b e = cc
 
-  pub nulled : (x : Identifier) → MaySet p x → type_in p.names x ≡ Some ty.Ref → Stands weak own s.statics (assign x (LocalRef p.regions.frames None) t.variables) t.frames (at p (with_changed p.regions x revived))
+  pub nulled : (x : Identifier) → MaySet p x → type_in p.names x ≡ Some types.Ref → Stands weak own s.statics (assign x (LocalRef p.regions.frames None) t.variables) t.frames (at p (with_changed p.regions x revived))
   nulled x may e = stands_at s.statics t.variables t.frames p stands x (LocalRef p.regions.frames None) t.frames (at p (with_changed p.regions x revived)) (record {
     elsewhere = λ y other. known_other p.regions x y revived other;
     apart = λ y a access m level h at_a same. may.unused y access (subst (Holds p y access) same h);
@@ -165,7 +166,7 @@ module _ (unit : SourceUnit) (classes : Classes) (in_use : BuffersInUse) (k : �
         let both : Some (ReferenceAt p.regions.frames true) ≡ Some v = sym (known_same p.regions x revived ∙ ap (option_map revived) may.known) ∙ h in
         let one : ReferenceAt p.regions.frames true ≡ v = cc in
         subst (λ (v : VariableState). Shows (assign x (LocalRef p.regions.frames None) t.variables) v (Some (LocalRef p.regions.frames None))) one (None, refl);
-    types = types_kept s.statics t.variables t.frames p stands x (LocalRef p.regions.frames None) ty.Ref e (p.regions.frames, None, refl);
+    types = types_kept s.statics t.variables t.frames p stands x (LocalRef p.regions.frames None) types.Ref e (p.regions.frames, None, refl);
     held = λ u b h. absurd (ref_no_buffer p.regions.frames None u b h);
     kinds = stands.kinds;
     known_once = once_changed (λ (y : Identifier) (old : VariableState). if bytes_eq x y then revived old else old) p.regions.variables stands.known_once;
@@ -176,23 +177,23 @@ module _ (unit : SourceUnit) (classes : Classes) (in_use : BuffersInUse) (k : �
   })
 
   pub assigned_lands : (x : Identifier) (o : Option ExprType) → type_in p.names x ≡ o → AssignsNull p o x (GoesOn rest) → Lands weak own s.statics (put_assigned x NullResult s (with_tasks t rest) (lookup x t.variables))
-  assigned_lands x (Some ty.Ref) e (may, g) =
+  assigned_lands x (Some types.Ref) e (may, g) =
       let shown = stands.shows x _ may.known in
       subst (λ (v : Option Variable). Lands weak own s.statics (put_assigned x NullResult s (with_tasks t rest) v)) (sym shown.1) ((at p (with_changed p.regions x revived), nulled x may e, g), λ y r h. (r, h))
-  assigned_lands x (Some ty.Global) e g =
-      let fits = stands.types x ty.Global e in
+  assigned_lands x (Some types.Global) e g =
+      let fits = stands.types x types.Global e in
       subst (λ (v : Option Variable). Lands weak own s.statics (put_assigned x NullResult s (with_tasks t rest) v)) (sym fits.0) ((p, stands_static x Empty (λ n c. absurd (no_empty n c)), g), statics_stay x Empty)
-  assigned_lands x (Some ty.Weak) e g =
-      let fits = stands.types x ty.Weak e in
+  assigned_lands x (Some types.Weak) e g =
+      let fits = stands.types x types.Weak e in
       subst (λ (v : Option Variable). Lands weak own s.statics (put_assigned x NullResult s (with_tasks t rest) v)) (sym fits.0) ((p, stands_static x Empty (λ n c. absurd (no_empty n c)), g), statics_stay x Empty)
-  assigned_lands x (Some ty.FieldId) e g =
-      let fits = stands.types x ty.FieldId e in
+  assigned_lands x (Some types.FieldId) e g =
+      let fits = stands.types x types.FieldId e in
       subst (λ (v : Option Variable). Lands weak own s.statics (put_assigned x NullResult s (with_tasks t rest) v)) (sym fits.1)
-      ((p, stands_kept s.statics t.variables t.frames p stands x (FieldHandle None) ty.FieldId (FieldHandle fits.0) e fits.1 (field_no_ref fits.0) (field_no_buffer fits.0) (None, refl) (λ u b c. absurd (field_no_buffer None u b c)), g), λ y r h. (r, h))
-  assigned_lands x (Some ty.MethodId) e g =
-      let fits = stands.types x ty.MethodId e in
+      ((p, stands_kept s.statics t.variables t.frames p stands x (FieldHandle None) types.FieldId (FieldHandle fits.0) e fits.1 (field_no_ref fits.0) (field_no_buffer fits.0) (None, refl) (λ u b c. absurd (field_no_buffer None u b c)), g), λ y r h. (r, h))
+  assigned_lands x (Some types.MethodId) e g =
+      let fits = stands.types x types.MethodId e in
       subst (λ (v : Option Variable). Lands weak own s.statics (put_assigned x NullResult s (with_tasks t rest) v)) (sym fits.1)
-      ((p, stands_kept s.statics t.variables t.frames p stands x (MethodHandle None) ty.MethodId (MethodHandle fits.0) e fits.1 (method_no_ref fits.0) (method_no_buffer fits.0) (None, refl) (λ u b c. absurd (method_no_buffer None u b c)), g), λ y r h. (r, h))
+      ((p, stands_kept s.statics t.variables t.frames p stands x (MethodHandle None) types.MethodId (MethodHandle fits.0) e fits.1 (method_no_ref fits.0) (method_no_buffer fits.0) (None, refl) (λ u b c. absurd (method_no_buffer None u b c)), g), λ y r h. (r, h))
   assigned_lands x o e h = absurd h
 
   -- NULL goes where it may

@@ -4,8 +4,10 @@ use Rattle.std.specs.Prelude.{replicate}
 use Rattle.std.specs.List.{list_any}
 use Rattle.std.proofs.lemmas.Bool.{or_parts}
 use Rattle.std.proofs.lemmas.List.{append-nil}
-use Rattle.jni.specs.JniFunction.{JniFunction, calls_method, parameters_for, prototype}
-use Rattle.jni.specs.Prototype.{ParameterKind, Passed}
+use Rattle.jni.specs.declared.function.JniFunction.{JniFunction}
+use Rattle.jni.specs.JniFunction.{calls_method, parameters_for, prototype}
+use Rattle.jni.specs.declared.kinds.ParameterKind.{ParameterKind}
+use Rattle.jni.specs.declared.kinds.ParameterKind.TheVariants.{Passed}
 
 -- a function that calls no method takes its own alone
 pub own_parameters : (f : JniFunction) (n : ℕ) → calls_method f ≡ false → parameters_for f n ≡ (prototype f).parameters

@@ -8,8 +8,13 @@ use Rattle.base.specs.Bytes.{Identifier}
 use Rattle.base.specs.Options.{some_passes}
 use Rattle.syntax.specs.Parts.{statements_of, statements_within, declared_name, names_declared}
 use Rattle.syntax.specs.Tree as tree
-use Rattle.syntax.specs.Tree.{ResultType, Expr, Test, TestExpr, TestCall, Stmt, If, IfElse, While, Block, End, Next}
-use Rattle.type_rules.specs.ExprTypes.{ExprType, Truth, type_in, type_of}
+use Rattle.syntax.specs.declared.expr.BinaryOp.TheVariants as operators
+use Rattle.syntax.specs.declared.expr.Constant.TheVariants as constants
+use Rattle.syntax.specs.declared.unit.ResultType.{ResultType}
+use Rattle.syntax.specs.Tree.{Expr, Test, TestExpr, TestCall, Stmt, If, IfElse, While, Block, End, Next}
+use Rattle.type_rules.specs.declared.ty.ExprType.{ExprType}
+use Rattle.type_rules.specs.declared.ty.ExprType.TheVariants.{Truth}
+use Rattle.type_rules.specs.ExprTypes.{type_in, type_of}
 use Rattle.type_rules.specs.TypeRules.{has_name, with_declared, places_within, places_of}
 use Rattle.region_rules.specs.RegionRules.{Obeys}
 use Rattle.region_rules.specs.RegionStates.{VariableState, Free, Untested, Usable, ReferenceAt, BufferIn, RegionState, state_of, made_free, with_changed}
@@ -56,8 +61,8 @@ covers_skipped taken front back x h = covers_parts taken front back x (covers_fr
 
 -- what a test teaches is what the rules learn of it
 teaches : (p : Point) (e : Expr) → Teaches p (term_of e) (at p (where_true p.regions (TestExpr e))) (at p (where_false p.regions (TestExpr e)))
-teaches p (tree.Binary tree.Equal (tree.Variable x) (tree.Named tree.Null)) = ForNull x
-teaches p (tree.Binary tree.NotEqual (tree.Variable x) (tree.Named tree.Null)) = ForOther x
+teaches p (tree.Binary operators.Equal (tree.Variable x) (tree.Named constants.Null)) = ForNull x
+teaches p (tree.Binary operators.NotEqual (tree.Variable x) (tree.Named constants.Null)) = ForOther x
 teaches p e = Nothing (term_of e)
 
 pub free_kin : (taken : List Identifier) (u : VariableState) → Kin taken u (made_free u)
@@ -98,14 +103,14 @@ module _ (p : Point) (taken : List Identifier) (k : IsKnown p taken) where
   }
 
   known_true : (test : Test) → IsKnown (at p (where_true p.regions test)) taken
-  known_true (TestExpr (tree.Binary tree.Equal (tree.Variable x) (tree.Named tree.Null))) = known_free x
-  known_true (TestExpr (tree.Binary tree.NotEqual (tree.Variable x) (tree.Named tree.Null))) = known_usable x
+  known_true (TestExpr (tree.Binary operators.Equal (tree.Variable x) (tree.Named constants.Null))) = known_free x
+  known_true (TestExpr (tree.Binary operators.NotEqual (tree.Variable x) (tree.Named constants.Null))) = known_usable x
   known_true (TestExpr e) = k
   known_true (TestCall c) = known_frames (p.regions.frames + 1) (omega arith)
 
   known_false : (test : Test) → IsKnown (at p (where_false p.regions test)) taken
-  known_false (TestExpr (tree.Binary tree.Equal (tree.Variable x) (tree.Named tree.Null))) = known_usable x
-  known_false (TestExpr (tree.Binary tree.NotEqual (tree.Variable x) (tree.Named tree.Null))) = known_free x
+  known_false (TestExpr (tree.Binary operators.Equal (tree.Variable x) (tree.Named constants.Null))) = known_usable x
+  known_false (TestExpr (tree.Binary operators.NotEqual (tree.Variable x) (tree.Named constants.Null))) = known_free x
   known_false (TestExpr e) = k
   known_false (TestCall c) = k
 

@@ -6,15 +6,22 @@ use Rattle.std.specs.Str.{bytes_eq}
 use Rattle.std.proofs.lemmas.Bool.{and_parts, or_parts}
 use Rattle.std.proofs.lemmas.Bool.Decides.{nat_tests}
 use Rattle.base.specs.Bytes.{Identifier, ByName, lookup}
-use Rattle.base.specs.Element.{ElementType}
+use Rattle.base.specs.declared.element.ElementType.{ElementType}
 use Rattle.base.specs.Options.{some_passes}
 use Rattle.syntax.specs.Parts.{elements_in, used_names, names_in}
 use Rattle.syntax.specs.Tree as tree
-use Rattle.syntax.specs.Tree.{ResultType, Void, IntResult, ReferenceResult, Null, Expr, Call, Stmt}
-use Rattle.jni.specs.Access.{Access, is_critical}
+use Rattle.syntax.specs.declared.unit.ResultType.{ResultType}
+use Rattle.syntax.specs.declared.unit.ResultType.TheVariants.{Void, Jint as IntResult, Reference as ReferenceResult}
+use Rattle.syntax.specs.declared.expr.Constant.TheVariants.{Null}
+use Rattle.syntax.specs.Tree.{Expr, Call, Stmt}
+use Rattle.jni.specs.declared.access.Access.{Access}
+use Rattle.jni.specs.Access.{is_critical}
 use Rattle.jni.specs.JniFunction.{prototype}
-use Rattle.jni.specs.Prototype.{ResultKind, NewGlobal, NewWeak, GivesBuffer}
-use Rattle.type_rules.specs.ExprTypes.{ExprType, Jint, Array, type_in, type_of, is_jint, is_ref, is_index, has_elements, is_null, name_type}
+use Rattle.jni.specs.declared.kinds.ResultKind.{ResultKind}
+use Rattle.jni.specs.declared.kinds.ResultKind.TheVariants.{NewGlobal, NewWeak, GivesBuffer}
+use Rattle.type_rules.specs.declared.ty.ExprType.{ExprType}
+use Rattle.type_rules.specs.declared.ty.ExprType.TheVariants.{Jint, Array}
+use Rattle.type_rules.specs.ExprTypes.{type_in, type_of, is_jint, is_ref, is_index, has_elements, is_null, name_type}
 use Rattle.type_rules.specs.TypeRules as rules
 use Rattle.type_rules.specs.TypeRules.{may_be_dropped, is_droppable, return_fits}
 use Rattle.type_rules.specs.TypeGroups.{IsNumberType}

@@ -3,7 +3,7 @@ use Rattle.std.proofs.Common.{◌≡◌, ◌≢◌, ℕ, arith, Bool, true, fals
 use Rattle.std.specs.Option.{option_map}
 use Rattle.std.specs.Str.{bytes_eq}
 use Rattle.base.specs.Bytes.{Identifier, lookup}
-use Rattle.jni.specs.Access.{Access}
+use Rattle.jni.specs.declared.access.Access.{Access}
 use Rattle.region_rules.specs.RegionStates.{VariableState, RegionState, BufferState, Free, Untested, Usable, ReferenceAt, BufferIn, state_of, with_changed, made_free}
 use Rattle.region_rules.specs.Regions.{made_usable}
 use Rattle.semantics.specs.Sight.{variable_is_null, holds_null}

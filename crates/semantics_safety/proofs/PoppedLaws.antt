@@ -7,7 +7,7 @@ use Rattle.std.proofs.Math.Bool.{and-false}
 use Rattle.std.proofs.lemmas.Bool.{and_parts, le-ltb}
 use Rattle.std.proofs.lemmas.Bool.Decides.{Decides-eqb, nat_tests}
 use Rattle.base.specs.Bytes.{Identifier, ByName, lookup}
-use Rattle.jni.specs.Access.{Access}
+use Rattle.jni.specs.declared.access.Access.{Access}
 use Rattle.region_rules.specs.RegionStates.{VariableState, ReferenceAt, BufferIn, state_of, killed_from, after_pop}
 use Rattle.semantics.specs.Object.{Reference}
 use Rattle.semantics.specs.Thread.{Frame}

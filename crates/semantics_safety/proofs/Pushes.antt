@@ -3,14 +3,21 @@ use Rattle.std.proofs.Common.{◌≡◌, ℕ, ◌+◌, ◌≤◌, arith, Bool, t
 use Rattle.std.specs.Prelude.{◌==◌}
 use Rattle.std.proofs.lemmas.List.{drop-map, length-map}
 use Rattle.base.specs.Bytes.{Identifier, lookup}
-use Rattle.base.specs.Element.{ElementType}
+use Rattle.base.specs.declared.element.ElementType.{ElementType}
 use Rattle.base.specs.Limits.{most_further}
 use Rattle.base.specs.Options.{some_passes}
 use Rattle.class_rules.specs.Class.{Classes}
 use Rattle.syntax.specs.Tree as tree
-use Rattle.syntax.specs.Tree.{Block, Expr, Function, ParameterType, IntParameter, ReferenceParameter, Parameter, ResultType, SourceUnit}
-use Rattle.jni.specs.JniFunction.{JniFunction, CallStaticVoidMethod, CallStaticIntMethod, CallStaticObjectMethod, PushLocalFrame, calls_method, parameters_for, prototype}
-use Rattle.jni.specs.Prototype.{ParameterKind, ResultKind, ClassObject, MethodID}
+use Rattle.syntax.specs.declared.declared_type.ParameterType.{ParameterType}
+use Rattle.syntax.specs.declared.declared_type.ParameterType.TheVariants.{Jint as IntParameter, Reference as ReferenceParameter}
+use Rattle.syntax.specs.declared.unit.ResultType.{ResultType}
+use Rattle.syntax.specs.Tree.{Block, Expr, Function, Parameter, SourceUnit}
+use Rattle.jni.specs.declared.function.JniFunction.{JniFunction}
+use Rattle.jni.specs.declared.function.JniFunction.TheVariants.{CallStaticVoidMethod, CallStaticIntMethod, CallStaticObjectMethod, PushLocalFrame}
+use Rattle.jni.specs.JniFunction.{calls_method, parameters_for, prototype}
+use Rattle.jni.specs.declared.kinds.ParameterKind.{ParameterKind}
+use Rattle.jni.specs.declared.kinds.ParameterKind.TheVariants.{ClassObject, MethodID}
+use Rattle.jni.specs.declared.kinds.ResultKind.{ResultKind}
 use Rattle.jni.proofs.MethodCalls.{own_are_two}
 use Rattle.region_rules.specs.RegionStates as states
 use Rattle.region_rules.specs.RegionStates.{get_of}
@@ -28,7 +35,8 @@ use Rattle.semantics.specs.Sight.{Sight, held_method}
 use Rattle.semantics.specs.Task.{Task, Target, Declared, Assigned, Tested, Dropped, Operand, NumberOperand, PassedName, Given, Invoke}
 use Rattle.semantics.specs.Term.{Term, Done}
 use Rattle.semantics.specs.Thread.{Thread, Caller, Shared, BuffersInUse, Frame, Quiet, Trapped, Advance, Advances, NoAdvance}
-use Rattle.semantics.specs.Value.{Int, Trap}
+use Rattle.semantics.specs.declared.trap.Trap.{Trap}
+use Rattle.semantics.specs.Value.{Int}
 use Rattle.semantics.specs.Variable.{Variable, MethodHandle, Variables}
 use Rattle.semantics.specs.World.{Invocation}
 use Rattle.semantics.proofs.CheckLaws.{passed as checks_passed}

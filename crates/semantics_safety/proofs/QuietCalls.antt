@@ -5,10 +5,12 @@ use Rattle.std.proofs.lemmas.Bool.{cond_both}
 use Rattle.base.specs.Limits.{most_references}
 use Rattle.syntax.specs.Tree.{SourceUnit}
 use Rattle.class_rules.specs.Class.{Classes}
-use Rattle.jni.specs.Access.{Access}
-use Rattle.jni.specs.JniFunction as jni
-use Rattle.jni.specs.JniFunction.{JniFunction, prototype}
-use Rattle.jni.specs.Prototype.{NewLocal, NewGlobal, NewWeak, GivesFlag, GivesField, GivesMethod, GivesInt, GivesNothing, GivesBuffer, ResultKind}
+use Rattle.jni.specs.declared.access.Access.{Access}
+use Rattle.jni.specs.declared.function.JniFunction.TheVariants as functions
+use Rattle.jni.specs.declared.function.JniFunction.{JniFunction}
+use Rattle.jni.specs.JniFunction.{prototype}
+use Rattle.jni.specs.declared.kinds.ResultKind.{ResultKind}
+use Rattle.jni.specs.declared.kinds.ResultKind.TheVariants.{NewLocal, NewGlobal, NewWeak, GivesFlag, GivesField, GivesMethod, GivesInt, GivesNothing, GivesBuffer}
 use Rattle.semantics.specs.Answer.{Answer, effect_of}
 use Rattle.semantics.specs.Arguments.{Actual}
 use Rattle.semantics.specs.CallEffects.{CallResult, with_capacity}
@@ -35,7 +37,7 @@ failure_is_simple GivesNothing differs = NoResultThere
 failure_is_simple (GivesBuffer access) differs = absurd (differs access refl)
 
 gives_no_buffer : (f : JniFunction) → IsPlain (call_kind f) → (access : Access) → (prototype f).result ≡ GivesBuffer access → ⊥
-gives_no_buffer (jni.GetBuffer a) h access e = h
+gives_no_buffer (functions.GetBuffer a) h access e = h
 gives_no_buffer f h access e = cc
 
 pub fails_simply : (f : JniFunction) → IsPlain (call_kind f) → Simple (prototype f).result (failure (prototype f).result)

@@ -1,18 +1,21 @@
 -- The step of a plain call keeps what holds of its thread, and is possible.
 use Rattle.std.proofs.Common.{◌≡◌, ℕ, true, false, List, [], ◌∷◌, map, Option, Some, None, refl, subst, length}
 use Rattle.std.specs.Prelude.{slice_get}
-use Rattle.base.specs.Element.{ElementType}
+use Rattle.base.specs.declared.element.ElementType.{ElementType}
 use Rattle.class_rules.specs.Class.{Classes}
-use Rattle.jni.specs.Access.{Access}
-use Rattle.jni.specs.JniFunction as jni
-use Rattle.jni.specs.JniFunction.{JniFunction, PushLocalFrame, is_allowed_pending, parameters_for, prototype}
-use Rattle.jni.specs.Prototype.{ResultKind, NewLocal}
+use Rattle.jni.specs.declared.access.Access.{Access}
+use Rattle.jni.specs.declared.function.JniFunction.TheVariants as functions
+use Rattle.jni.specs.declared.function.JniFunction.{JniFunction}
+use Rattle.jni.specs.declared.function.JniFunction.TheVariants.{PushLocalFrame}
+use Rattle.jni.specs.JniFunction.{is_allowed_pending, parameters_for, prototype}
+use Rattle.jni.specs.declared.kinds.ResultKind.{ResultKind}
+use Rattle.jni.specs.declared.kinds.ResultKind.TheVariants.{NewLocal}
 use Rattle.semantics.specs.Arguments.{Actual}
 use Rattle.semantics.specs.CallStep.{trap_of_call, target_element, checked, after_call, call_step}
 use Rattle.semantics.specs.AnswerTable.{call_effect}
 use Rattle.semantics.specs.CallSight.{is_full, sight_of_call}
 use Rattle.semantics.specs.Checks.{frames_after, lacks_room, trap_of}
-use Rattle.semantics.specs.Value.{Trap}
+use Rattle.semantics.specs.declared.trap.Trap.{Trap}
 use Rattle.region_rules.specs.RegionStates as states
 use Rattle.region_rules.specs.RegionStates.{RegionState, get_of}
 use Rattle.semantics.specs.Task.{Task, Target, Declared, Assigned, Tested, Dropped, Operand, Invoke}
@@ -48,7 +51,7 @@ has_room classes s t element f args none is =
     has_no_full f (subst (λ (kind : ResultKind). lacks_room classes (sight_of_call s t f args) f kind ≡ false) is (passed classes (sight_of_call s t f args) element f none).room)
   where
     has_no_full : (g : JniFunction) → lacks_room classes (sight_of_call s t g args) g NewLocal ≡ false → is_full (slice_get (frames_after g t.frames) 0) ≡ false
-    has_no_full jni.PopLocalFrame h = h
+    has_no_full functions.PopLocalFrame h = h
     has_no_full g h = cc
 
 module _ (unit : SourceUnit) (classes : Classes) (in_use : BuffersInUse) (k : ℕ) (s : Shared) (t : Thread) (line : ℕ) (f : JniFunction) (args : List Actual) (rest : List Task) (p : Point) {weak : WeakNames} {own : Owners} (stands : Stands weak own s.statics t.variables t.frames p) (plain : IsPlain (call_kind f)) (whole : Goes weak own s.statics t t.tasks) where

@@ -5,10 +5,11 @@ use Rattle.std.specs.Option.{option_map}
 use Rattle.std.specs.Str.{bytes_eq}
 use Rattle.std.proofs.lemmas.Slice.Eq.{bytes_eq-Decides}
 use Rattle.base.specs.Bytes.{Identifier, ByName, lookup}
-use Rattle.jni.specs.Access.{Access}
-use Rattle.jni.specs.Prototype.{NewLocal}
-use Rattle.type_rules.specs.ExprTypes.{ExprType, type_in}
-use Rattle.type_rules.specs.ExprTypes as ty
+use Rattle.jni.specs.declared.access.Access.{Access}
+use Rattle.jni.specs.declared.kinds.ResultKind.TheVariants.{NewLocal}
+use Rattle.type_rules.specs.declared.ty.ExprType.{ExprType}
+use Rattle.type_rules.specs.ExprTypes.{type_in}
+use Rattle.type_rules.specs.declared.ty.ExprType.TheVariants as types
 use Rattle.semantics.specs.CallEffects.{ReferenceResult, with_local}
 use Rattle.semantics.specs.CallStep.{put, put_assigned}
 use Rattle.region_rules.specs.RegionStates.{VariableState, ReferenceAt, BufferIn, with_new, with_changed}
@@ -110,8 +111,8 @@ module _ (ss : Statics) (vs : Variables) (frame : Frame) (below : List Frame) (p
 
   -- a new variable holds it
   pub stands_declared : {new : Owners} (x : Identifier) → ((y : Identifier) → y ≢ x → new y ≡ own y) → new x ≡ Some p.regions.frames → IsNew p x
-      → Stands weak new ss (assign x (LocalRef (suc (length below)) (Some n)) vs) (with_local n (frame ∷ below)) (at (named p x ty.Ref) (with_new p.regions x (ReferenceAt p.regions.frames true)))
-  stands_declared x keeps here_own new = stands_at ss vs (frame ∷ below) p stands x (LocalRef (suc (length below)) (Some n)) (with_local n (frame ∷ below)) (at (named p x ty.Ref) (with_new p.regions x (ReferenceAt p.regions.frames true))) (record {
+      → Stands weak new ss (assign x (LocalRef (suc (length below)) (Some n)) vs) (with_local n (frame ∷ below)) (at (named p x types.Ref) (with_new p.regions x (ReferenceAt p.regions.frames true)))
+  stands_declared x keeps here_own new = stands_at ss vs (frame ∷ below) p stands x (LocalRef (suc (length below)) (Some n)) (with_local n (frame ∷ below)) (at (named p x types.Ref) (with_new p.regions x (ReferenceAt p.regions.frames true))) (record {
     elsewhere = λ y other. front_other x y (ReferenceAt p.regions.frames true) p.regions.variables other;
     apart = λ y a access m level h at_a same. new.unused y access (subst (Holds p y access) same h);
     here = λ v e.
@@ -119,9 +120,9 @@ module _ (ss : Statics) (vs : Variables) (frame : Frame) (below : List Frame) (p
         let one : ReferenceAt p.regions.frames true ≡ v = cc in
         subst (λ (v : VariableState). Shows (assign x (LocalRef (suc (length below)) (Some n)) vs) v (Some (LocalRef (suc (length below)) (Some n)))) one
         (Some n, ap (λ (l : ℕ). Some (LocalRef l (Some n))) stands.depth);
-    types = types_named ss vs (frame ∷ below) p stands x (LocalRef (suc (length below)) (Some n)) ty.Ref (suc (length below), Some n, refl);
+    types = types_named ss vs (frame ∷ below) p stands x (LocalRef (suc (length below)) (Some n)) types.Ref (suc (length below), Some n, refl);
     held = λ u b e. absurd (ref_no_buffer (suc (length below)) (Some n) u b e);
-    kinds = kinds_named weak x ty.Ref p.names tt stands.kinds;
+    kinds = kinds_named weak x types.Ref p.names tt stands.kinds;
     known_once = (new.unknown, stands.known_once);
     depth = stands.depth;
     backed = λ level m.
@@ -134,7 +135,7 @@ module _ (ss : Statics) (vs : Variables) (frame : Frame) (below : List Frame) (p
   })
 
   -- a variable that is there holds it
-  pub stands_assigned : {new : Owners} (x : Identifier) → ((y : Identifier) → y ≢ x → new y ≡ own y) → new x ≡ Some p.regions.frames → MaySet p x → type_in p.names x ≡ Some ty.Ref
+  pub stands_assigned : {new : Owners} (x : Identifier) → ((y : Identifier) → y ≢ x → new y ≡ own y) → new x ≡ Some p.regions.frames → MaySet p x → type_in p.names x ≡ Some types.Ref
       → Stands weak new ss (assign x (LocalRef p.regions.frames (Some n)) vs) (with_local n (frame ∷ below)) (at p (with_changed p.regions x revived))
   stands_assigned x keeps here_own may e = stands_at ss vs (frame ∷ below) p stands x (LocalRef p.regions.frames (Some n)) (with_local n (frame ∷ below)) (at p (with_changed p.regions x revived)) (record {
     elsewhere = λ y other. known_other p.regions x y revived other;
@@ -143,7 +144,7 @@ module _ (ss : Statics) (vs : Variables) (frame : Frame) (below : List Frame) (p
         let both : Some (ReferenceAt p.regions.frames true) ≡ Some v = sym (known_same p.regions x revived ∙ ap (option_map revived) may.known) ∙ h in
         let one : ReferenceAt p.regions.frames true ≡ v = cc in
         subst (λ (v : VariableState). Shows (assign x (LocalRef p.regions.frames (Some n)) vs) v (Some (LocalRef p.regions.frames (Some n)))) one (Some n, refl);
-    types = types_kept ss vs (frame ∷ below) p stands x (LocalRef p.regions.frames (Some n)) ty.Ref e (p.regions.frames, Some n, refl);
+    types = types_kept ss vs (frame ∷ below) p stands x (LocalRef p.regions.frames (Some n)) types.Ref e (p.regions.frames, Some n, refl);
     held = λ u b h. absurd (ref_no_buffer p.regions.frames (Some n) u b h);
     kinds = stands.kinds;
     known_once = once_changed (λ (y : Identifier) (old : VariableState). if bytes_eq x y then revived old else old) p.regions.variables stands.known_once;
@@ -177,14 +178,14 @@ module _ (s : Shared) (t : Thread) (rest : List Task) (frame : Frame) (below : L
 
   declared : (kind : VariableKind) (x : Identifier) (get : Option (Access × Option Identifier)) → DeclaresResult p kind x NewLocal get (GoesOn rest) → Lands weak (with_target (Declared kind x) p.regions.frames own) s.statics (put (Declared kind x) (ReferenceResult (Some n)) s with_it)
   declared ReferenceKind x get (new, g) =
-      ((at (named p x ty.Ref) (with_new p.regions x (ReferenceAt p.regions.frames true)), stands_declared s.statics t.variables frame below p stands n x (λ y other. ap (λ (b : Bool). if b then Some p.regions.frames else own y) (name_other x y other)) (ap (λ (b : Bool). if b then Some p.regions.frames else own x) (is_same x)) new, g), same_statics s.statics)
+      ((at (named p x types.Ref) (with_new p.regions x (ReferenceAt p.regions.frames true)), stands_declared s.statics t.variables frame below p stands n x (λ y other. ap (λ (b : Bool). if b then Some p.regions.frames else own y) (name_other x y other)) (ap (λ (b : Bool). if b then Some p.regions.frames else own x) (is_same x)) new, g), same_statics s.statics)
   declared ScalarKind x get h = absurd h
   declared FieldKind x get h = absurd h
   declared MethodKind x get h = absurd h
   declared (BufferKind u) x get h = absurd h
 
   assigned : (x : Identifier) (o : Option ExprType) (get : Option (Access × Option Identifier)) → type_in p.names x ≡ o → AssignsResult p o x NewLocal get (GoesOn rest) → Lands weak (with_target (Assigned x) p.regions.frames own) s.statics (put_assigned x (ReferenceResult (Some n)) s with_it (lookup x t.variables))
-  assigned x (Some ty.Ref) get e (may, g) =
+  assigned x (Some types.Ref) get e (may, g) =
       let shown = stands.shows x _ may.known in
       subst (λ (v : Option Variable). Lands weak (with_target (Assigned x) p.regions.frames own) s.statics (put_assigned x (ReferenceResult (Some n)) s with_it v)) (sym shown.1)
       ((at p (with_changed p.regions x revived), stands_assigned s.statics t.variables frame below p stands n x (λ y other. ap (λ (b : Bool). if b then Some p.regions.frames else own y) (name_other x y other)) (ap (λ (b : Bool). if b then Some p.regions.frames else own x) (is_same x)) may e, g), same_statics s.statics)

@@ -5,8 +5,9 @@ use Rattle.std.proofs.lemmas.Bool.{cond_both}
 use Rattle.base.specs.Limits.{most_references}
 use Rattle.class_rules.specs.Class.{Classes}
 use Rattle.syntax.specs.Tree.{SourceUnit}
-use Rattle.jni.specs.JniFunction.{JniFunction, calls_method, prototype}
-use Rattle.jni.specs.Prototype.{ResultKind}
+use Rattle.jni.specs.declared.function.JniFunction.{JniFunction}
+use Rattle.jni.specs.JniFunction.{calls_method, prototype}
+use Rattle.jni.specs.declared.kinds.ResultKind.{ResultKind}
 use Rattle.semantics.specs.Answer.{Answer, Ensures, Makes, Pushes, Raises, RaisesWith}
 use Rattle.semantics.specs.Answer as answer
 use Rattle.semantics.specs.AnswerTable.{call_answer, call_effect}
@@ -18,7 +19,7 @@ use Rattle.semantics.specs.Effect.{Effect, Calls, effect_of}
 use Rattle.semantics.specs.Task.{Task, Target, Operand, Invoke}
 use Rattle.semantics.specs.Thread.{Thread, Shared, BuffersInUse, Frame, capacities, sight_of}
 use Rattle.semantics.specs.ThreadStep.{after_refused_effect, step_within}
-use Rattle.semantics.specs.Value.{Trap}
+use Rattle.semantics.specs.declared.trap.Trap.{Trap}
 use Rattle.semantics.proofs.AnswerKinds.{AnswersAs, CallKind, CallsMethod, EndsStatic, FillingNone, FillsArray, Making, Quiet, Raising, RaisingWith, answers_of, call_kind, calls_as}
 use Rattle.semantics_safety.proofs.OwnerLaws.{LandsByIfPossible}
 use Rattle.semantics_safety.specs.Owners.{Owners}

@@ -4,13 +4,21 @@ use Rattle.std.proofs.lemmas.List.{append-nil}
 use Rattle.std.specs.Option.{option_map}
 use Rattle.std.specs.Str.{bytes_eq}
 use Rattle.base.specs.Bytes.{Identifier, lookup}
-use Rattle.base.specs.Element.{ElementType}
+use Rattle.base.specs.declared.element.ElementType.{ElementType}
 use Rattle.syntax.specs.Tree.{SourceUnit}
 use Rattle.syntax.specs.Tree as tree
+use Rattle.syntax.specs.declared.expr.Constant.TheVariants as constants
 use Rattle.class_rules.specs.Class.{Classes}
-use Rattle.jni.specs.Access.{Access, ElementsCopy, ArrayView, CharsCopy, CharsView, is_critical}
-use Rattle.jni.specs.JniFunction.{ReleaseBuffer, PushLocalFrame, parameters_for, prototype}
-use Rattle.jni.specs.Prototype.{ParameterKind, ResultKind, GivesNothing, release_mode, Mode}
+use Rattle.jni.specs.declared.access.Access.{Access}
+use Rattle.jni.specs.declared.access.Access.TheVariants.{ElementsCopy, ArrayView, CharsCopy, CharsView}
+use Rattle.jni.specs.Access.{is_critical}
+use Rattle.jni.specs.declared.function.JniFunction.TheVariants.{ReleaseBuffer, PushLocalFrame}
+use Rattle.jni.specs.JniFunction.{parameters_for, prototype}
+use Rattle.jni.specs.declared.kinds.ParameterKind.{ParameterKind}
+use Rattle.jni.specs.declared.kinds.ParameterKind.TheVariants.{Mode}
+use Rattle.jni.specs.declared.kinds.ResultKind.{ResultKind}
+use Rattle.jni.specs.declared.kinds.ResultKind.TheVariants.{GivesNothing}
+use Rattle.jni.specs.Prototype.{release_mode}
 use Rattle.type_rules.specs.ExprTypes.{type_in}
 use Rattle.region_rules.specs.RegionStates as states
 use Rattle.region_rules.specs.RegionStates.{VariableState, Free, Usable, BufferIn, state_of, with_changed, made_free, has_commit}
@@ -22,7 +30,7 @@ use Rattle.semantics.specs.CallSight.{sight_of_call}
 use Rattle.semantics.specs.CallStep.{trap_of_call, checked, after_call, call_step}
 use Rattle.semantics.specs.Task.{Task, Target, Declared, Assigned, Tested, Dropped, Operand, Given, Invoke}
 use Rattle.semantics.specs.Thread.{Thread, Shared, BuffersInUse, sight_of}
-use Rattle.semantics.specs.Value.{Trap}
+use Rattle.semantics.specs.declared.trap.Trap.{Trap}
 use Rattle.semantics.specs.Variable.{Variable, Elements, Buffer, NoBuffer, Variables, Statics, assign, change, LocalRef}
 use Rattle.semantics.specs.Effect.{Calls}
 use Rattle.semantics.proofs.AnswerFacts.{frees_in}
@@ -112,8 +120,8 @@ module _ (unit : SourceUnit) (classes : Classes) (in_use : BuffersInUse) (k : �
   -- a mode commits where it gives no buffer up
   commit_is : (m : Operand) → OperandsFit p (Mode ∷ []) (m ∷ []) → has_commit (operand_argument m ∷ []) ≡ not (frees_in (mode_in_actual (Some (look_up (sight_of s t) (Mode, m)))))
   commit_is (Given (tree.Value (tree.Number n unsigned))) fit = refl
-  commit_is (Given (tree.Value (tree.Named tree.Commit))) fit = refl
-  commit_is (Given (tree.Value (tree.Named tree.Abort))) fit = refl
+  commit_is (Given (tree.Value (tree.Named constants.Commit))) fit = refl
+  commit_is (Given (tree.Value (tree.Named constants.Abort))) fit = refl
   commit_is (Given (tree.Value (tree.Named c))) fit = refl
   commit_is m fit = absurd fit.0
 

@@ -2,8 +2,10 @@
 use Rattle.std.proofs.Common.{◌≡◌, ℕ, Bool, true, false, List, ◌∷◌, map, Option, Some, refl, sym, ap, ◌∙◌}
 use Rattle.base.specs.Bytes.{Identifier, lookup}
 use Rattle.syntax.specs.Tree as tree
-use Rattle.jni.specs.Access.{Access, ElementsCopy, ArrayView, CharsCopy, CharsView, is_critical}
-use Rattle.jni.specs.JniFunction.{ReleaseBuffer}
+use Rattle.jni.specs.declared.access.Access.{Access}
+use Rattle.jni.specs.declared.access.Access.TheVariants.{ElementsCopy, ArrayView, CharsCopy, CharsView}
+use Rattle.jni.specs.Access.{is_critical}
+use Rattle.jni.specs.declared.function.JniFunction.TheVariants.{ReleaseBuffer}
 use Rattle.jni.specs.Prototype.{owner}
 use Rattle.semantics.specs.Arguments.{Actual, ReferenceActual, look_up, actuals, object_given, variable_given, reference_in_actual, name_or_zero}
 use Rattle.semantics.specs.Heap.{Heap}

@@ -2,14 +2,16 @@
 use Rattle.std.proofs.Common.{◌≡◌, ℕ, Bool, true, List, Option, Some, None, refl, sym, ◌∙◌, subst}
 use Rattle.std.specs.Prelude.{ℤ}
 use Rattle.base.specs.Bytes.{Identifier, lookup}
-use Rattle.base.specs.Element.{ElementType}
+use Rattle.base.specs.declared.element.ElementType.{ElementType}
 use Rattle.syntax.specs.Tree.{SourceUnit}
 use Rattle.class_rules.specs.Class.{Classes}
 use Rattle.class_rules.specs.Fields.{FieldId}
-use Rattle.jni.specs.Access.{Access}
-use Rattle.jni.specs.Prototype.{ResultKind, NewLocal, NewGlobal, NewWeak, GivesFlag, GivesInt, GivesField, GivesMethod, GivesNothing}
-use Rattle.type_rules.specs.ExprTypes.{ExprType, type_in}
-use Rattle.type_rules.specs.ExprTypes as ty
+use Rattle.jni.specs.declared.access.Access.{Access}
+use Rattle.jni.specs.declared.kinds.ResultKind.{ResultKind}
+use Rattle.jni.specs.declared.kinds.ResultKind.TheVariants.{NewLocal, NewGlobal, NewWeak, GivesFlag, GivesInt, GivesField, GivesMethod, GivesNothing}
+use Rattle.type_rules.specs.declared.ty.ExprType.{ExprType}
+use Rattle.type_rules.specs.ExprTypes.{type_in}
+use Rattle.type_rules.specs.declared.ty.ExprType.TheVariants as types
 use Rattle.semantics.specs.Object.{Reference}
 use Rattle.semantics.specs.CallEffects.{CallResult, NoResult, NullResult, ScalarResult, ReferenceResult, WeakResult, FieldResult, MethodResult}
 use Rattle.semantics.specs.CallStep.{put, put_assigned, static_result}
@@ -69,13 +71,13 @@ module _ (unit : SourceUnit) (classes : Classes) (in_use : BuffersInUse) (k : �
 
   declared : (kind : VariableKind) (x : Identifier) (result : ResultKind) (given : CallResult) (get : Option (Access × Option Identifier)) → Simple result given → DeclaresResult p kind x result get (GoesOn rest) → Lands weak own s.statics (put (Declared kind x) given s (with_tasks t rest))
   declared ScalarKind x result given get (AnInt z) (new, g) =
-      ((named p x ty.Jint, stands_new s.statics t.variables t.frames p stands x (Scalar (Int z)) ty.Jint new tt (Int z, refl, refl) (λ u b c. absurd (scalar_no_buffer (Int z) u b c)), g), stay)
+      ((named p x types.Jint, stands_new s.statics t.variables t.frames p stands x (Scalar (Int z)) types.Jint new tt (Int z, refl, refl) (λ u b c. absurd (scalar_no_buffer (Int z) u b c)), g), stay)
   declared ScalarKind x result given get (AFlag b) (new, g) =
-      ((named p x ty.Flag, stands_new s.statics t.variables t.frames p stands x (Scalar (Flag b)) ty.Flag new tt (Flag b, refl, refl) (λ u c d. absurd (scalar_no_buffer (Flag b) u c d)), g), stay)
+      ((named p x types.Flag, stands_new s.statics t.variables t.frames p stands x (Scalar (Flag b)) types.Flag new tt (Flag b, refl, refl) (λ u c d. absurd (scalar_no_buffer (Flag b) u c d)), g), stay)
   declared FieldKind x result given get (AField f) (new, g) =
-      ((named p x ty.FieldId, stands_new s.statics t.variables t.frames p stands x (FieldHandle f) ty.FieldId new tt (f, refl) (λ u b c. absurd (field_no_buffer f u b c)), g), stay)
+      ((named p x types.FieldId, stands_new s.statics t.variables t.frames p stands x (FieldHandle f) types.FieldId new tt (f, refl) (λ u b c. absurd (field_no_buffer f u b c)), g), stay)
   declared MethodKind x result given get (AMethod f) (new, g) =
-      ((named p x ty.MethodId, stands_new s.statics t.variables t.frames p stands x (MethodHandle f) ty.MethodId new tt (f, refl) (λ u b c. absurd (method_no_buffer f u b c)), g), stay)
+      ((named p x types.MethodId, stands_new s.statics t.variables t.frames p stands x (MethodHandle f) types.MethodId new tt (f, refl) (λ u b c. absurd (method_no_buffer f u b c)), g), stay)
   declared FieldKind x result given get NoField h = null_lands unit classes in_use k s t rest p stands (Declared FieldKind x) h
   declared MethodKind x result given get NoMethod h = null_lands unit classes in_use k s t rest p stands (Declared MethodKind x) h
   declared ReferenceKind x result given get NoLocal h = null_lands unit classes in_use k s t rest p stands (Declared ReferenceKind x) h
@@ -100,15 +102,15 @@ module _ (unit : SourceUnit) (classes : Classes) (in_use : BuffersInUse) (k : �
       subst (λ (w : Option Variable). Lands weak own s.statics (put_assigned x (ScalarResult v) s (with_tasks t rest) w)) (sym is)
       ((p, stands_kept s.statics t.variables t.frames p stands x (Scalar v) r (Scalar old) e (at_x ∙ is) (scalar_no_ref old) (scalar_no_buffer old) fits (λ u b c. absurd (scalar_no_buffer v u b c)), g), stay)
 
-  field_put : (x : Identifier) (f : Option FieldId) (o : Option Variable) → type_in p.names x ≡ Some ty.FieldId → lookup x t.variables ≡ o → (old : Option FieldId) × (o ≡ Some (FieldHandle old)) → GoesOn rest p → Lands weak own s.statics (put_assigned x (FieldResult f) s (with_tasks t rest) o)
+  field_put : (x : Identifier) (f : Option FieldId) (o : Option Variable) → type_in p.names x ≡ Some types.FieldId → lookup x t.variables ≡ o → (old : Option FieldId) × (o ≡ Some (FieldHandle old)) → GoesOn rest p → Lands weak own s.statics (put_assigned x (FieldResult f) s (with_tasks t rest) o)
   field_put x f o e at_x (old, is) g =
       subst (λ (w : Option Variable). Lands weak own s.statics (put_assigned x (FieldResult f) s (with_tasks t rest) w)) (sym is)
-      ((p, stands_kept s.statics t.variables t.frames p stands x (FieldHandle f) ty.FieldId (FieldHandle old) e (at_x ∙ is) (field_no_ref old) (field_no_buffer old) (f, refl) (λ u b c. absurd (field_no_buffer f u b c)), g), stay)
+      ((p, stands_kept s.statics t.variables t.frames p stands x (FieldHandle f) types.FieldId (FieldHandle old) e (at_x ∙ is) (field_no_ref old) (field_no_buffer old) (f, refl) (λ u b c. absurd (field_no_buffer f u b c)), g), stay)
 
-  method_put : (x : Identifier) (f : Option MethodId) (o : Option Variable) → type_in p.names x ≡ Some ty.MethodId → lookup x t.variables ≡ o → (old : Option MethodId) × (o ≡ Some (MethodHandle old)) → GoesOn rest p → Lands weak own s.statics (put_assigned x (MethodResult f) s (with_tasks t rest) o)
+  method_put : (x : Identifier) (f : Option MethodId) (o : Option Variable) → type_in p.names x ≡ Some types.MethodId → lookup x t.variables ≡ o → (old : Option MethodId) × (o ≡ Some (MethodHandle old)) → GoesOn rest p → Lands weak own s.statics (put_assigned x (MethodResult f) s (with_tasks t rest) o)
   method_put x f o e at_x (old, is) g =
       subst (λ (w : Option Variable). Lands weak own s.statics (put_assigned x (MethodResult f) s (with_tasks t rest) w)) (sym is)
-      ((p, stands_kept s.statics t.variables t.frames p stands x (MethodHandle f) ty.MethodId (MethodHandle old) e (at_x ∙ is) (method_no_ref old) (method_no_buffer old) (f, refl) (λ u b c. absurd (method_no_buffer f u b c)), g), stay)
+      ((p, stands_kept s.statics t.variables t.frames p stands x (MethodHandle f) types.MethodId (MethodHandle old) e (at_x ∙ is) (method_no_ref old) (method_no_buffer old) (f, refl) (λ u b c. absurd (method_no_buffer f u b c)), g), stay)
 
   no_empty : (n : ℕ) → Empty ≡ Weakly n → ⊥
   no_empty n e = cc
@@ -123,33 +125,33 @@ module _ (unit : SourceUnit) (classes : Classes) (in_use : BuffersInUse) (k : �
       ((p, stands_static unit classes in_use k s t rest p stands x (static_result given) right, g), statics_stay unit classes in_use k s t rest p stands x (static_result given))
 
   assigned : (x : Identifier) (o : Option ExprType) (result : ResultKind) (given : CallResult) (get : Option (Access × Option Identifier)) → type_in p.names x ≡ o → Simple result given → AssignsResult p o x result get (GoesOn rest) → Lands weak own s.statics (put_assigned x given s (with_tasks t rest) (lookup x t.variables))
-  assigned x (Some ty.Jint) result given get e (AnInt z) g = let old = stands.types x ty.Jint e in number_put x ty.Jint (Int z) (lookup x t.variables) e refl (old.0, old.1) (Int z, refl, refl) g
-  assigned x (Some ty.Flag) result given get e (AFlag b) g = let old = stands.types x ty.Flag e in number_put x ty.Flag (Flag b) (lookup x t.variables) e refl (old.0, old.1) (Flag b, refl, refl) g
-  assigned x (Some ty.FieldId) result given get e (AField f) g = field_put x f (lookup x t.variables) e refl (stands.types x ty.FieldId e) g
-  assigned x (Some ty.MethodId) result given get e (AMethod f) g = method_put x f (lookup x t.variables) e refl (stands.types x ty.MethodId e) g
-  assigned x (Some ty.FieldId) result given get e NoField g = assigned_lands unit classes in_use k s t rest p stands x (Some ty.FieldId) e g
-  assigned x (Some ty.MethodId) result given get e NoMethod g = assigned_lands unit classes in_use k s t rest p stands x (Some ty.MethodId) e g
-  assigned x (Some ty.Ref) result given get e NoLocal h = assigned_lands unit classes in_use k s t rest p stands x (Some ty.Ref) e h
-  assigned x (Some ty.Ref) result given get e NullLocal (may, g) =
+  assigned x (Some types.Jint) result given get e (AnInt z) g = let old = stands.types x types.Jint e in number_put x types.Jint (Int z) (lookup x t.variables) e refl (old.0, old.1) (Int z, refl, refl) g
+  assigned x (Some types.Flag) result given get e (AFlag b) g = let old = stands.types x types.Flag e in number_put x types.Flag (Flag b) (lookup x t.variables) e refl (old.0, old.1) (Flag b, refl, refl) g
+  assigned x (Some types.FieldId) result given get e (AField f) g = field_put x f (lookup x t.variables) e refl (stands.types x types.FieldId e) g
+  assigned x (Some types.MethodId) result given get e (AMethod f) g = method_put x f (lookup x t.variables) e refl (stands.types x types.MethodId e) g
+  assigned x (Some types.FieldId) result given get e NoField g = assigned_lands unit classes in_use k s t rest p stands x (Some types.FieldId) e g
+  assigned x (Some types.MethodId) result given get e NoMethod g = assigned_lands unit classes in_use k s t rest p stands x (Some types.MethodId) e g
+  assigned x (Some types.Ref) result given get e NoLocal h = assigned_lands unit classes in_use k s t rest p stands x (Some types.Ref) e h
+  assigned x (Some types.Ref) result given get e NullLocal (may, g) =
       let shown = stands.shows x _ may.known in
       subst (λ (v : Option Variable). Lands weak own s.statics (put_assigned x (ReferenceResult None) s (with_tasks t rest) v)) (sym shown.1) ((at p (with_changed p.regions x revived), nulled unit classes in_use k s t rest p stands x may e, g), stay)
-  assigned x (Some ty.Global) result given get e (AGlobal r) g = static_put x (ReferenceResult r) (lookup x t.variables) (λ n c. absurd (no_global r n c)) ((stands.types x ty.Global e).0) g
-  assigned x (Some ty.Global) result given get e NoGlobal g = static_put x NullResult (lookup x t.variables) (λ n c. absurd (no_empty n c)) ((stands.types x ty.Global e).0) g
-  assigned x (Some ty.Weak) result given get e (AWeak r) g = static_put x (WeakResult r) (lookup x t.variables) (λ n c. stands.kinds x ty.Weak e) ((stands.types x ty.Weak e).0) g
-  assigned x (Some ty.Weak) result given get e NoWeak g = static_put x NullResult (lookup x t.variables) (λ n c. absurd (no_empty n c)) ((stands.types x ty.Weak e).0) g
-  assigned x (Some (ty.Buffer u w)) result given get e (AnInt z) h = absurd h
-  assigned x (Some (ty.Buffer u w)) result given get e (AFlag b) h = absurd h
-  assigned x (Some (ty.Buffer u w)) result given get e (AField f) h = absurd h
-  assigned x (Some (ty.Buffer u w)) result given get e (AMethod f) h = absurd h
-  assigned x (Some (ty.Buffer u w)) result given get e NoField h = absurd h
-  assigned x (Some (ty.Buffer u w)) result given get e NoMethod h = absurd h
-  assigned x (Some (ty.Buffer u w)) result given get e (AGlobal r) h = absurd h
-  assigned x (Some (ty.Buffer u w)) result given get e NoGlobal h = absurd h
-  assigned x (Some (ty.Buffer u w)) result given get e (AWeak r) h = absurd h
-  assigned x (Some (ty.Buffer u w)) result given get e NoWeak h = absurd h
-  assigned x (Some (ty.Buffer u w)) result given get e NoLocal h = absurd h
-  assigned x (Some (ty.Buffer u w)) result given get e NullLocal h = absurd h
-  assigned x (Some (ty.Buffer u w)) result given get e NoResultThere h = absurd h
+  assigned x (Some types.Global) result given get e (AGlobal r) g = static_put x (ReferenceResult r) (lookup x t.variables) (λ n c. absurd (no_global r n c)) ((stands.types x types.Global e).0) g
+  assigned x (Some types.Global) result given get e NoGlobal g = static_put x NullResult (lookup x t.variables) (λ n c. absurd (no_empty n c)) ((stands.types x types.Global e).0) g
+  assigned x (Some types.Weak) result given get e (AWeak r) g = static_put x (WeakResult r) (lookup x t.variables) (λ n c. stands.kinds x types.Weak e) ((stands.types x types.Weak e).0) g
+  assigned x (Some types.Weak) result given get e NoWeak g = static_put x NullResult (lookup x t.variables) (λ n c. absurd (no_empty n c)) ((stands.types x types.Weak e).0) g
+  assigned x (Some (types.Buffer u w)) result given get e (AnInt z) h = absurd h
+  assigned x (Some (types.Buffer u w)) result given get e (AFlag b) h = absurd h
+  assigned x (Some (types.Buffer u w)) result given get e (AField f) h = absurd h
+  assigned x (Some (types.Buffer u w)) result given get e (AMethod f) h = absurd h
+  assigned x (Some (types.Buffer u w)) result given get e NoField h = absurd h
+  assigned x (Some (types.Buffer u w)) result given get e NoMethod h = absurd h
+  assigned x (Some (types.Buffer u w)) result given get e (AGlobal r) h = absurd h
+  assigned x (Some (types.Buffer u w)) result given get e NoGlobal h = absurd h
+  assigned x (Some (types.Buffer u w)) result given get e (AWeak r) h = absurd h
+  assigned x (Some (types.Buffer u w)) result given get e NoWeak h = absurd h
+  assigned x (Some (types.Buffer u w)) result given get e NoLocal h = absurd h
+  assigned x (Some (types.Buffer u w)) result given get e NullLocal h = absurd h
+  assigned x (Some (types.Buffer u w)) result given get e NoResultThere h = absurd h
   assigned x o result given get e simple g = absurd g
 
   -- such a result goes where it may

@@ -6,8 +6,9 @@ use Rattle.std.proofs.lemmas.List.Concat.{flat_map-cons}
 use Rattle.base.specs.Bytes.{Identifier, lookup}
 use Rattle.syntax.specs.Tree.{SourceUnit}
 use Rattle.class_rules.specs.Class.{Classes}
-use Rattle.jni.specs.JniFunction.{ExceptionClear}
-use Rattle.jni.specs.Prototype.{ResultKind, NewLocal, NewGlobal, NewWeak, GivesFlag, GivesInt, GivesField, GivesMethod, GivesNothing, GivesBuffer}
+use Rattle.jni.specs.declared.function.JniFunction.TheVariants.{ExceptionClear}
+use Rattle.jni.specs.declared.kinds.ResultKind.{ResultKind}
+use Rattle.jni.specs.declared.kinds.ResultKind.TheVariants.{NewLocal, NewGlobal, NewWeak, GivesFlag, GivesInt, GivesField, GivesMethod, GivesNothing, GivesBuffer}
 use Rattle.semantics.specs.Object.{Reference}
 use Rattle.semantics.specs.World.{Invocation}
 use Rattle.semantics.specs.CallEffects.{CallResult, NoResult, NullResult, ScalarResult, ReferenceResult, WeakResult, FieldResult, MethodResult, BufferResult, with_local}

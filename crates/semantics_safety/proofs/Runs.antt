@@ -11,8 +11,10 @@ use Rattle.base.specs.Options.{some_passes}
 use Rattle.class_rules.specs.Class.{Classes}
 use Rattle.syntax.specs.Parts.{functions_of, statics_of}
 use Rattle.syntax.specs.Tree.{Static, Function, SourceUnit}
-use Rattle.type_rules.specs.ExprTypes.{ExprType, Word, Jint, Flag, Truth, Ref, Global, Weak, Buffer, Array, Scope}
-use Rattle.type_rules.specs.ExprTypes as ty
+use Rattle.type_rules.specs.declared.ty.ExprType.{ExprType}
+use Rattle.type_rules.specs.declared.ty.ExprType.TheVariants.{Word, Jint, Flag, Truth, Ref, Global, Weak, Buffer, Array}
+use Rattle.type_rules.specs.ExprTypes.{Scope}
+use Rattle.type_rules.specs.declared.ty.ExprType.TheVariants as types
 use Rattle.semantics.specs.Activation.{function_at, class_of_function, entered, entered_function, enter, entry_advance}
 use Rattle.semantics.specs.Journal.{Entry, Step, Clearing, Journal}
 use Rattle.semantics.specs.Load.{fit_parameters, is_callable, call_loads, Loads}
@@ -23,8 +25,9 @@ use Rattle.semantics.specs.Step.{is_unfinished, is_waiting, is_live, can_step, s
 use Rattle.semantics.specs.Task.{Task, Target, Operand, Invoke, tasks_of}
 use Rattle.semantics.specs.Arguments.{Actual, actuals, method_given}
 use Rattle.semantics.specs.Method.{MethodId, find_method}
-use Rattle.semantics.specs.Value.{Trap}
-use Rattle.jni.specs.JniFunction.{JniFunction, calls_method}
+use Rattle.semantics.specs.declared.trap.Trap.{Trap}
+use Rattle.jni.specs.declared.function.JniFunction.{JniFunction}
+use Rattle.jni.specs.JniFunction.{calls_method}
 use Rattle.semantics.specs.Thread.{Thread, Caller, Ending, Unfinished, Ended, Uncaught, Shared, Frame, BuffersInUse, Event, Quiet, PrintedNumber, Trapped, Advance, Advances, NoAdvance, sight_of}
 use Rattle.semantics.specs.ThreadStep.{after_effect, after_refused_effect, step_within, thread_step}
 use Rattle.semantics.specs.Reachable.{is_in}
@@ -105,8 +108,8 @@ fits_later : (s : ExprType) (v : Option Variable) (g h : Option StaticReference)
 fits_later Global v g h stay (none, (r, e)) = (none, stay r e)
 fits_later Weak v g h stay (none, (r, e)) = (none, stay r e)
 fits_later Ref v g h stay fits = fits
-fits_later ty.FieldId v g h stay fits = fits
-fits_later ty.MethodId v g h stay fits = fits
+fits_later types.FieldId v g h stay fits = fits
+fits_later types.MethodId v g h stay fits = fits
 fits_later (Buffer t writable) v g h stay fits = fits
 fits_later (Array t size) v g h stay fits = fits
 fits_later Truth v g h stay fits = fits

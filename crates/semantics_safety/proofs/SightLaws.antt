@@ -3,8 +3,9 @@ use Rattle.std.proofs.Common.{◌≡◌, ℕ, Bool, true, false, List, Option, S
 use Rattle.std.specs.Prelude.{ℤ, slice_get}
 use Rattle.base.specs.Bytes.{Identifier, lookup}
 use Rattle.jni.specs.Access.{is_critical}
-use Rattle.type_rules.specs.ExprTypes.{ExprType, type_in}
-use Rattle.type_rules.specs.ExprTypes as ty
+use Rattle.type_rules.specs.declared.ty.ExprType.{ExprType}
+use Rattle.type_rules.specs.ExprTypes.{type_in}
+use Rattle.type_rules.specs.declared.ty.ExprType.TheVariants as types
 use Rattle.type_rules.specs.TypeGroups.{IsNumberType}
 use Rattle.semantics.specs.Heap.{Heap, numbers_of}
 use Rattle.semantics.specs.Sight.{seen, scalar, variable_is_null, static_is_null, holds_null, elements_of, in_range}
@@ -19,9 +20,9 @@ use Rattle.semantics_safety.proofs.Values.{ValueFits}
 use Rattle.semantics_safety.proofs.TermLaws.{Answers, Sees}
 
 number_seen : (s : ExprType) (v : Option Variable) (g : Option StaticReference) → IsNumberType s → VariableFits s v g → ValueFits s (scalar v)
-number_seen ty.Word v g n (w, e, f) = subst (λ (o : Option Variable). ValueFits ty.Word (scalar o)) (sym e) f
-number_seen ty.Jint v g n (w, e, f) = subst (λ (o : Option Variable). ValueFits ty.Jint (scalar o)) (sym e) f
-number_seen ty.Flag v g n (w, e, f) = subst (λ (o : Option Variable). ValueFits ty.Flag (scalar o)) (sym e) f
+number_seen types.Word v g n (w, e, f) = subst (λ (o : Option Variable). ValueFits types.Word (scalar o)) (sym e) f
+number_seen types.Jint v g n (w, e, f) = subst (λ (o : Option Variable). ValueFits types.Jint (scalar o)) (sym e) f
+number_seen types.Flag v g n (w, e, f) = subst (λ (o : Option Variable). ValueFits types.Flag (scalar o)) (sym e) f
 number_seen s v g n h = absurd n
 
 static_seen : (r : StaticReference) → Answers (static_is_null (Some r))
@@ -37,11 +38,11 @@ buffer_seen u (Copy n zs) = tt
 buffer_seen u (View n) = tt
 
 null_seen : (s : ExprType) (v : Option Variable) (g : Option StaticReference) (p : Point) (x : Identifier) → NullTestFits p x (Some s) → VariableFits s v g → Answers (holds_null v g)
-null_seen ty.Ref v g p x n (level, r, e) = subst (λ (o : Option Variable). Answers (holds_null o g)) (sym e) tt
-null_seen ty.Global v g p x n (none, (r, e)) = subst (λ (o : Option Variable). Answers (holds_null o g)) (sym none) (subst (λ (o : Option StaticReference). Answers (static_is_null o)) (sym e) (static_seen r))
-null_seen ty.FieldId v g p x n (f, e) = subst (λ (o : Option Variable). Answers (holds_null o g)) (sym e) tt
-null_seen ty.MethodId v g p x n (f, e) = subst (λ (o : Option Variable). Answers (holds_null o g)) (sym e) tt
-null_seen (ty.Buffer t w) v g p x n (b, e) = subst (λ (o : Option Variable). Answers (holds_null o g)) (sym e) (buffer_seen t b)
+null_seen types.Ref v g p x n (level, r, e) = subst (λ (o : Option Variable). Answers (holds_null o g)) (sym e) tt
+null_seen types.Global v g p x n (none, (r, e)) = subst (λ (o : Option Variable). Answers (holds_null o g)) (sym none) (subst (λ (o : Option StaticReference). Answers (static_is_null o)) (sym e) (static_seen r))
+null_seen types.FieldId v g p x n (f, e) = subst (λ (o : Option Variable). Answers (holds_null o g)) (sym e) tt
+null_seen types.MethodId v g p x n (f, e) = subst (λ (o : Option Variable). Answers (holds_null o g)) (sym e) tt
+null_seen (types.Buffer t w) v g p x n (b, e) = subst (λ (o : Option Variable). Answers (holds_null o g)) (sym e) (buffer_seen t b)
 null_seen s v g p x n h = absurd n
 
 at_range : (o : Option ℤ) → Answers (in_range o)
@@ -67,8 +68,8 @@ module _ (ss : Statics) (vs : Variables) (frames : List Frame) (p : Point) (heap
       subst (HasElements heap) (sym shown.2) (lent_elements heap shown.0 (is_critical access) lends.0 shown.1 lends.3)
 
   elements_seen : (x : Identifier) (s : ExprType) → type_in p.names x ≡ Some s → ElementsFit p x (Some s) → HasElements heap (lookup x vs)
-  elements_seen x (ty.Buffer t w) e h = usable_elements x h
-  elements_seen x (ty.Array t n) e h = let there = stands.types x (ty.Array t n) e in subst (HasElements heap) (sym there.1) (there.0, refl)
+  elements_seen x (types.Buffer t w) e h = usable_elements x h
+  elements_seen x (types.Array t n) e h = let there = stands.types x (types.Array t n) e in subst (HasElements heap) (sym there.1) (there.0, refl)
   elements_seen x s e h = absurd h
 
   -- a name that fits is known

@@ -7,8 +7,11 @@ use Rattle.std.proofs.lemmas.Bool.Decides.{nat_tests}
 use Rattle.base.specs.Bytes.{Identifier}
 use Rattle.base.specs.Options.{some_passes}
 use Rattle.syntax.specs.Parts.{argument_expressions, own_expressions, own_call}
-use Rattle.syntax.specs.Tree.{ResultType, Call, TestCall, Stmt, If, IfElse, End}
-use Rattle.jni.specs.JniFunction.{JniFunction, PushLocalFrame, function_named, parameters_for, takes_count, prototype}
+use Rattle.syntax.specs.declared.unit.ResultType.{ResultType}
+use Rattle.syntax.specs.Tree.{Call, TestCall, Stmt, If, IfElse, End}
+use Rattle.jni.specs.declared.function.JniFunction.{JniFunction}
+use Rattle.jni.specs.declared.function.JniFunction.TheVariants.{PushLocalFrame}
+use Rattle.jni.specs.JniFunction.{function_named, parameters_for, takes_count, prototype}
 use Rattle.type_rules.specs.ExprTypes.{call_arguments_fit, arguments_fit}
 use Rattle.type_rules.specs.TypeRules as rules
 use Rattle.type_rules.specs.TypeRules.{has_wrong_count, has_wrong_mode, modes_fit, may_be_tested}

@@ -2,14 +2,17 @@
 use Rattle.std.proofs.Common.{◌≡◌, ◌≢◌, ℕ, true, ◌+◌, ◌≤◌, List, [], ◌∷◌, ◌++◌, length, flat_map, Option, Some, None, refl, sym, subst, ap, ◌∙◌}
 use Rattle.std.specs.List.{AllByRecursion, AllZip}
 use Rattle.base.specs.Bytes.{Identifier, lookup}
-use Rattle.jni.specs.Access.{Access}
-use Rattle.jni.specs.JniFunction.{JniFunction, ReleaseBuffer, calls_method, prototype}
+use Rattle.jni.specs.declared.access.Access.{Access}
+use Rattle.jni.specs.declared.function.JniFunction.{JniFunction}
+use Rattle.jni.specs.declared.function.JniFunction.TheVariants.{ReleaseBuffer}
+use Rattle.jni.specs.JniFunction.{calls_method, prototype}
 use Rattle.base.specs.Limits.{most_further}
 use Rattle.class_rules.specs.Class.{Classes}
 use Rattle.syntax.specs.Tree.{SourceUnit}
 use Rattle.type_rules.specs.ExprTypes.{type_in}
 use Rattle.semantics.specs.Method.{MethodId}
-use Rattle.jni.specs.Prototype.{ResultKind, NewLocal}
+use Rattle.jni.specs.declared.kinds.ResultKind.{ResultKind}
+use Rattle.jni.specs.declared.kinds.ResultKind.TheVariants.{NewLocal}
 use Rattle.semantics.specs.Arguments.{Actual, method_given, object_given, variable_given}
 use Rattle.semantics.specs.CallEffects.{CallResult}
 use Rattle.semantics.specs.Checks.{frames_after}

@@ -2,10 +2,11 @@
 use Rattle.std.proofs.Common.{◌≡◌, ◌≢◌, ℕ, arith, Bool, true, false, inl, inr, List, ◌∷◌, replicate, Option, Some, None, refl, sym, ap, ◌∙◌, subst, if◌then◌else◌}
 use Rattle.std.specs.Prelude.{ℤ, pos, slice_set}
 use Rattle.base.specs.Bytes.{Identifier, lookup}
-use Rattle.base.specs.Element.{ElementType}
+use Rattle.base.specs.declared.element.ElementType.{ElementType}
 use Rattle.class_rules.specs.Class.{Classes}
-use Rattle.type_rules.specs.ExprTypes.{ExprType, type_in}
-use Rattle.type_rules.specs.ExprTypes as ty
+use Rattle.type_rules.specs.declared.ty.ExprType.{ExprType}
+use Rattle.type_rules.specs.ExprTypes.{type_in}
+use Rattle.type_rules.specs.declared.ty.ExprType.TheVariants as types
 use Rattle.type_rules.specs.TypeGroups.{IsNumberType}
 use Rattle.semantics.specs.Effect.{Effect, Becomes, Sets, SetsNull, SetsElement, MakesArray, Prints, Calls, Returns, TrapsAt, NoEffect}
 use Rattle.semantics.specs.Task.{Task}
@@ -43,9 +44,9 @@ module _ (unit : SourceUnit) (classes : Classes) (in_use : BuffersInUse) (k : �
   -- ---- numbers
 
   number_old : (ty : ExprType) (o : Option Variable) (g : Option StaticReference) → IsNumberType ty → VariableFits ty o g → (v : Value) × (o ≡ Some (Scalar v))
-  number_old ty.Word o g n (v, e, f) = (v, e)
-  number_old ty.Jint o g n (v, e, f) = (v, e)
-  number_old ty.Flag o g n (v, e, f) = (v, e)
+  number_old types.Word o g n (v, e, f) = (v, e)
+  number_old types.Jint o g n (v, e, f) = (v, e)
+  number_old types.Flag o g n (v, e, f) = (v, e)
   number_old r o g n h = absurd n
 
   number_fits : (v : Value) (g : Option StaticReference) → IsNumberType (value_type v) → VariableFits (value_type v) (Some (Scalar v)) g
@@ -84,10 +85,10 @@ module _ (unit : SourceUnit) (classes : Classes) (in_use : BuffersInUse) (k : �
   array_no_buffer : (v : ElementType) (zs : List ℤ) (u : ElementType) (b : Buffer) → LocalArray v zs ≡ Elements u b → ⊥
   array_no_buffer v zs u b e = cc
 
-  makes_lands : (u : ElementType) (x : Identifier) (size : ℕ) → IsNew p x → GoesOn rest (named p x (ty.Array u size)) → GoesFrom weak own s.statics (assign x (LocalArray u (replicate size (pos 0))) t.variables) t.frames rest
+  makes_lands : (u : ElementType) (x : Identifier) (size : ℕ) → IsNew p x → GoesOn rest (named p x (types.Array u size)) → GoesFrom weak own s.statics (assign x (LocalArray u (replicate size (pos 0))) t.variables) t.frames rest
   makes_lands u x size new g = (
-    named p x (ty.Array u size),
-    stands_new s.statics t.variables t.frames p stands x (LocalArray u (replicate size (pos 0))) (ty.Array u size) new tt (replicate size (pos 0), refl) (λ v b c. absurd (array_no_buffer u (replicate size (pos 0)) v b c)),
+    named p x (types.Array u size),
+    stands_new s.statics t.variables t.frames p stands x (LocalArray u (replicate size (pos 0))) (types.Array u size) new tt (replicate size (pos 0), refl) (λ v b c. absurd (array_no_buffer u (replicate size (pos 0)) v b c)),
     g,
   )
 
@@ -121,20 +122,20 @@ module _ (unit : SourceUnit) (classes : Classes) (in_use : BuffersInUse) (k : �
       let d : Some (Elements u b) ≡ Some (LocalRef level (Some m)) = sym e ∙ c in cc
 
   pub type_of_buffer : (r : ExprType) (o : Option Variable) (g : Option StaticReference) (u : ElementType) (b c : Buffer) → o ≡ Some (Elements u b) → VariableFits r o g → VariableFits r (Some (Elements u c)) g
-  type_of_buffer ty.Ref o g u b c e (level, q, h) = absurd (let d : Some (Elements u b) ≡ Some (LocalRef level q) = sym e ∙ h in cc)
-  type_of_buffer ty.Global o g u b c e (none, h) = absurd (none_some o (Elements u b) none e)
-  type_of_buffer ty.Weak o g u b c e (none, h) = absurd (none_some o (Elements u b) none e)
-  type_of_buffer ty.FieldId o g u b c e (f, h) = absurd (let d : Some (Elements u b) ≡ Some (FieldHandle f) = sym e ∙ h in cc)
-  type_of_buffer ty.MethodId o g u b c e (f, h) = absurd (let d : Some (Elements u b) ≡ Some (MethodHandle f) = sym e ∙ h in cc)
-  type_of_buffer (ty.Buffer v w) o g u b c e (d, h) =
+  type_of_buffer types.Ref o g u b c e (level, q, h) = absurd (let d : Some (Elements u b) ≡ Some (LocalRef level q) = sym e ∙ h in cc)
+  type_of_buffer types.Global o g u b c e (none, h) = absurd (none_some o (Elements u b) none e)
+  type_of_buffer types.Weak o g u b c e (none, h) = absurd (none_some o (Elements u b) none e)
+  type_of_buffer types.FieldId o g u b c e (f, h) = absurd (let d : Some (Elements u b) ≡ Some (FieldHandle f) = sym e ∙ h in cc)
+  type_of_buffer types.MethodId o g u b c e (f, h) = absurd (let d : Some (Elements u b) ≡ Some (MethodHandle f) = sym e ∙ h in cc)
+  type_of_buffer (types.Buffer v w) o g u b c e (d, h) =
       let both : Some (Elements u b) ≡ Some (Elements v d) = sym e ∙ h in
       let same : u ≡ v = cc in
       (c, ap (λ (x : ElementType). Some (Elements x c)) same)
-  type_of_buffer (ty.Array v size) o g u b c e (zs, h) = absurd (let d : Some (Elements u b) ≡ Some (LocalArray v zs) = sym e ∙ h in cc)
-  type_of_buffer ty.Truth o g u b c e h = absurd h
-  type_of_buffer ty.Word o g u b c e (v, h, f) = absurd (let d : Some (Elements u b) ≡ Some (Scalar v) = sym e ∙ h in cc)
-  type_of_buffer ty.Jint o g u b c e (v, h, f) = absurd (let d : Some (Elements u b) ≡ Some (Scalar v) = sym e ∙ h in cc)
-  type_of_buffer ty.Flag o g u b c e (v, h, f) = absurd (let d : Some (Elements u b) ≡ Some (Scalar v) = sym e ∙ h in cc)
+  type_of_buffer (types.Array v size) o g u b c e (zs, h) = absurd (let d : Some (Elements u b) ≡ Some (LocalArray v zs) = sym e ∙ h in cc)
+  type_of_buffer types.Truth o g u b c e h = absurd h
+  type_of_buffer types.Word o g u b c e (v, h, f) = absurd (let d : Some (Elements u b) ≡ Some (Scalar v) = sym e ∙ h in cc)
+  type_of_buffer types.Jint o g u b c e (v, h, f) = absurd (let d : Some (Elements u b) ≡ Some (Scalar v) = sym e ∙ h in cc)
+  type_of_buffer types.Flag o g u b c e (v, h, f) = absurd (let d : Some (Elements u b) ≡ Some (Scalar v) = sym e ∙ h in cc)
 
   pub buffer_no_copy : (level n : ℕ) (u : ElementType) (b c : Buffer) (o : Option Variable) → o ≡ Some (Elements u b) → is_copy level n (Some (Elements u c)) ≡ is_copy level n o
   buffer_no_copy level n u b c o e = subst (λ (v : Option Variable). false ≡ is_copy level n v) (sym e) refl
@@ -184,18 +185,18 @@ module _ (unit : SourceUnit) (classes : Classes) (in_use : BuffersInUse) (k : �
   lent_store u false n b (zs, e) = subst (λ (c : Buffer). Store (Some (Elements u c))) (sym e) (InCopy u n zs)
 
   stores : (x : Identifier) (r : Option ExprType) → type_in p.names x ≡ r → ElementsFit p x r → Store (lookup x t.variables)
-  stores x (Some (ty.Buffer v w)) e (access, a, known) =
+  stores x (Some (types.Buffer v w)) e (access, a, known) =
       let shown = stands.shows x _ known in
       subst Store (sym shown.2) (lent_store shown.0 (is_critical access) shown.3.0 shown.1 shown.3.3)
-  stores x (Some (ty.Array v size)) e h = let there = stands.types x (ty.Array v size) e in subst Store (sym there.1) (InArray v there.0)
+  stores x (Some (types.Array v size)) e h = let there = stands.types x (types.Array v size) e in subst Store (sym there.1) (InArray v there.0)
   stores x r e h = absurd h
 
   array_type : (x : Identifier) (r : ExprType) (o : Option Variable) (g : Option StaticReference) (u : ElementType) (zs ys : List ℤ) → ElementsFit p x (Some r) → o ≡ Some (LocalArray u zs) → VariableFits r o g → VariableFits r (Some (LocalArray u ys)) g
-  array_type x (ty.Array v size) o g u zs ys fit e (xs, h) =
+  array_type x (types.Array v size) o g u zs ys fit e (xs, h) =
       let c : Some (LocalArray v xs) ≡ Some (LocalArray u zs) = sym h ∙ e in
       let d : v ≡ u = cc in
       (ys, ap (λ (w : ElementType). Some (LocalArray w ys)) (sym d))
-  array_type x (ty.Buffer v w) o g u zs ys fit e (b, h) = absurd (let c : Some (Elements v b) ≡ Some (LocalArray u zs) = sym h ∙ e in cc)
+  array_type x (types.Buffer v w) o g u zs ys fit e (b, h) = absurd (let c : Some (Elements v b) ≡ Some (LocalArray u zs) = sym h ∙ e in cc)
   array_type x r o g u zs ys fit e h = absurd fit
 
   array_set : (x : Identifier) (u : ElementType) (zs ys : List ℤ) (r : Option ExprType) → type_in p.names x ≡ r → ElementsFit p x r → lookup x t.variables ≡ Some (LocalArray u zs) → Stands weak own s.statics (assign x (LocalArray u ys) t.variables) t.frames p
@@ -229,7 +230,7 @@ module _ (unit : SourceUnit) (classes : Classes) (in_use : BuffersInUse) (k : �
   null_owns x level l n (BufferIn b) = refl
 
   -- a new reference that is NULL
-  pub null_declared : (x : Identifier) → IsNew p x → Stands weak own s.statics (assign x (LocalRef (length t.frames) None) t.variables) t.frames (at (named p x ty.Ref) (with_new p.regions x (ReferenceAt p.regions.frames true)))
+  pub null_declared : (x : Identifier) → IsNew p x → Stands weak own s.statics (assign x (LocalRef (length t.frames) None) t.variables) t.frames (at (named p x types.Ref) (with_new p.regions x (ReferenceAt p.regions.frames true)))
   null_declared x new = stands_at s.statics t.variables t.frames p stands x (LocalRef (length t.frames) None) t.frames _ (record {
     elsewhere = λ y other. front_other x y (ReferenceAt p.regions.frames true) p.regions.variables other;
     apart = λ y a access m level h at_a same. new.unused y access (subst (Holds p y access) same h);
@@ -238,9 +239,9 @@ module _ (unit : SourceUnit) (classes : Classes) (in_use : BuffersInUse) (k : �
         let one : ReferenceAt p.regions.frames true ≡ v = cc in
         subst (λ (v : VariableState). Shows (assign x (LocalRef (length t.frames) None) t.variables) v (Some (LocalRef (length t.frames) None))) one
         (None, ap (λ (n : ℕ). Some (LocalRef n None)) stands.depth);
-    types = types_named s.statics t.variables t.frames p stands x (LocalRef (length t.frames) None) ty.Ref (length t.frames, None, refl);
+    types = types_named s.statics t.variables t.frames p stands x (LocalRef (length t.frames) None) types.Ref (length t.frames, None, refl);
     held = λ u b e. absurd (ref_no_buffer (length t.frames) None u b e);
-    kinds = kinds_named weak x ty.Ref p.names tt stands.kinds;
+    kinds = kinds_named weak x types.Ref p.names tt stands.kinds;
     known_once = (new.unknown, stands.known_once);
     depth = stands.depth;
     backed = λ level n.

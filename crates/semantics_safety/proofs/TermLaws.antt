@@ -2,9 +2,10 @@
 use Rattle.std.proofs.Common.{◌≡◌, ℕ, Bool, true, false, not, Some, sym, subst}
 use Rattle.std.specs.Prelude.{ℤ}
 use Rattle.base.specs.Bytes.{Identifier}
-use Rattle.syntax.specs.Tree as tree
-use Rattle.type_rules.specs.ExprTypes.{ExprType, type_in}
-use Rattle.type_rules.specs.ExprTypes as ty
+use Rattle.syntax.specs.declared.expr.Constant.TheVariants as constants
+use Rattle.type_rules.specs.declared.ty.ExprType.{ExprType}
+use Rattle.type_rules.specs.ExprTypes.{type_in}
+use Rattle.type_rules.specs.declared.ty.ExprType.TheVariants as types
 use Rattle.type_rules.specs.TypeGroups.{IsNumberType}
 use Rattle.semantics.specs.Sight.{Sight}
 use Rattle.semantics.specs.Term as term
@@ -52,27 +53,27 @@ module _ (p : Point) (sight : Sight) (sees : Sees p sight) where
   part_fits use_value whole (Done v) o r s h step value inside = value v h
   part_fits use_value whole t o r s h step value inside = mapped_fits whole r s o (step tt) inside
 
-  null_fits : (o : Outcome Bool) (f : Bool → Bool) (s : ExprType) → Answers o → s ≡ ty.Truth → TermFits p s (done (outcome_map (λ b. Truth (f b)) o))
+  null_fits : (o : Outcome Bool) (f : Bool → Bool) (s : ExprType) → Answers o → s ≡ types.Truth → TermFits p s (done (outcome_map (λ b. Truth (f b)) o))
   null_fits (Gives b) f s h e = sym e
   null_fits (Traps trap) f s h e = tt
   null_fits Stuck f s h e = h
 
-  int_fits : (o : Outcome ℤ) (s : ExprType) → Answers o → s ≡ ty.Jint → ValueFits s (outcome_map Int o)
+  int_fits : (o : Outcome ℤ) (s : ExprType) → Answers o → s ≡ types.Jint → ValueFits s (outcome_map Int o)
   int_fits (Gives z) s h e = sym e
   int_fits (Traps trap) s h e = tt
   int_fits Stuck s h e = h
 
-  element_fits : (x : Identifier) (o : Outcome ℕ) (s : ExprType) → ElementsFit p x (type_in p.names x) → IndexFits o → s ≡ ty.Jint → ValueFits s (outcome_then (λ n. outcome_map Int (sight.element x n)) o)
+  element_fits : (x : Identifier) (o : Outcome ℕ) (s : ExprType) → ElementsFit p x (type_in p.names x) → IndexFits o → s ≡ types.Jint → ValueFits s (outcome_then (λ n. outcome_map Int (sight.element x n)) o)
   element_fits x (Gives n) s h i e = int_fits (sight.element x n) s (sees.element x n h) e
   element_fits x (Traps trap) s h i e = tt
   element_fits x Stuck s h i e = i
 
-  and_fits : (b : Term) (s : ExprType) (v : Value) → value_type v ≡ ty.Truth → HasType p b ty.Truth → s ≡ ty.Truth → TermFits p s (and_then b v)
+  and_fits : (b : Term) (s : ExprType) (v : Value) → value_type v ≡ types.Truth → HasType p b types.Truth → s ≡ types.Truth → TermFits p s (and_then b v)
   and_fits b s (Truth true) h k e = subst (HasType p b) (sym e) k
   and_fits b s (Truth false) h k e = sym e
   and_fits b s v h k e = absurd (cc)
 
-  or_fits : (b : Term) (s : ExprType) (v : Value) → value_type v ≡ ty.Truth → HasType p b ty.Truth → s ≡ ty.Truth → TermFits p s (or_else b v)
+  or_fits : (b : Term) (s : ExprType) (v : Value) → value_type v ≡ types.Truth → HasType p b types.Truth → s ≡ types.Truth → TermFits p s (or_else b v)
   or_fits b s (Truth true) h k e = sym e
   or_fits b s (Truth false) h k e = subst (HasType p b) (sym e) k
   or_fits b s v h k e = absurd (cc)
@@ -81,8 +82,8 @@ module _ (p : Point) (sight : Sight) (sees : Sees p sight) where
   reduce_fits (Done v) s h o = absurd o
   reduce_fits (term.Number n true) s h o = sym h
   reduce_fits (term.Number n false) s h o = sym h
-  reduce_fits (term.Named tree.True) s h o = sym h
-  reduce_fits (term.Named tree.False) s h o = sym h
+  reduce_fits (term.Named constants.True) s h o = sym h
+  reduce_fits (term.Named constants.False) s h o = sym h
   reduce_fits (term.Named c) s h o = absurd h
   reduce_fits (Read x) s h o = done_fits s (sight.number x) (sees.number x s h.0 h.1)
   reduce_fits (term.Element x t) s h o =
@@ -93,8 +94,8 @@ module _ (p : Point) (sight : Sight) (sees : Sees p sight) where
   reduce_fits (IsNull false x) s h o = null_fits (sight.is_null x) not s (sees.is_null x h.0) h.1
   reduce_fits (Prefix op t) s h o =
       part_fits _ (Prefix op) t (reduce sight t) h.0 s h.2 (reduce_fits t h.0 h.2) (λ v e. done_fits s (prefix_value op v) (prefix_fits op v h.0 s h.1 e)) (λ u k. (h.0, h.1, k))
-  reduce_fits (And a b) s h o = part_fits _ (λ t. And t b) a (reduce sight a) ty.Truth s h.0 (reduce_fits a ty.Truth h.0) (λ v e. and_fits b s v e h.1 h.2) (λ u k. (k, h.1, h.2))
-  reduce_fits (Or a b) s h o = part_fits _ (λ t. Or t b) a (reduce sight a) ty.Truth s h.0 (reduce_fits a ty.Truth h.0) (λ v e. or_fits b s v e h.1 h.2) (λ u k. (k, h.1, h.2))
+  reduce_fits (And a b) s h o = part_fits _ (λ t. And t b) a (reduce sight a) types.Truth s h.0 (reduce_fits a types.Truth h.0) (λ v e. and_fits b s v e h.1 h.2) (λ u k. (k, h.1, h.2))
+  reduce_fits (Or a b) s h o = part_fits _ (λ t. Or t b) a (reduce sight a) types.Truth s h.0 (reduce_fits a types.Truth h.0) (λ v e. or_fits b s v e h.1 h.2) (λ u k. (k, h.1, h.2))
   reduce_fits (Binary op a b) s h o =
       part_fits _ (λ t. Binary op t b) a (reduce sight a) h.0 s h.2 (reduce_fits a h.0 h.2)
       (λ v e. part_fits _ (Binary op (Done v)) b (reduce sight b) h.0 s h.3 (reduce_fits b h.0 h.3) (λ w f. done_fits s (binary_value op v w) (binary_fits op v w h.0 s h.1 e f)) (λ u k. (h.0, h.1, e, k)))

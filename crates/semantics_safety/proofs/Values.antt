@@ -2,12 +2,17 @@
 use Rattle.std.proofs.Common.{◌≡◌, ℕ, Bool, sym, subst}
 use Rattle.std.specs.Prelude.{◌==◌, nat_lt, ℤ, pos, negsuc}
 use Rattle.std.proofs.lemmas.Bool.{cond_both}
-use Rattle.syntax.specs.Tree.{PrefixOp, LogicalNot, Complement, ToWord, ToInt, BinaryOp, LogicalOr, LogicalAnd, BitOr, BitXor, BitAnd, Equal, NotEqual, Less, LessEqual, Greater, GreaterEqual, ShiftLeft, ShiftRight, Add, Subtract, Multiply, Divide, Remainder}
-use Rattle.type_rules.specs.ExprTypes.{ExprType, OperatorGroup, Logic, Equality, Order, OnWords, group}
-use Rattle.type_rules.specs.ExprTypes as ty
+use Rattle.syntax.specs.declared.expr.PrefixOp.{PrefixOp}
+use Rattle.syntax.specs.declared.expr.PrefixOp.TheVariants.{LogicalNot, Complement, ToWord, ToInt}
+use Rattle.syntax.specs.declared.expr.BinaryOp.{BinaryOp}
+use Rattle.syntax.specs.declared.expr.BinaryOp.TheVariants.{LogicalOr, LogicalAnd, BitOr, BitXor, BitAnd, Equal, NotEqual, Less, LessEqual, Greater, GreaterEqual, ShiftLeft, ShiftRight, Add, Subtract, Multiply, Divide, Remainder}
+use Rattle.type_rules.specs.declared.ty.ExprType.{ExprType}
+use Rattle.type_rules.specs.ExprTypes.{OperatorGroup, Logic, Equality, Order, OnWords, group}
+use Rattle.type_rules.specs.declared.ty.ExprType.TheVariants as types
 use Rattle.type_rules.specs.TypeGroups.{IsIndexType, IsNumberType, OperatorFits}
 use Rattle.semantics.specs.Term.{index_of}
-use Rattle.semantics.specs.Value.{Value, Word, Int, Flag, Truth, Outcome, Gives, Traps, Stuck, on_words, on_ints, on_flags, binary_value, prefix_value, DivisionByZero, ShiftTooFar}
+use Rattle.semantics.specs.declared.trap.Trap.TheVariants.{DivisionByZero, ShiftTooFar}
+use Rattle.semantics.specs.Value.{Value, Word, Int, Flag, Truth, Outcome, Gives, Traps, Stuck, on_words, on_ints, on_flags, binary_value, prefix_value}
 use Rattle.semantics_safety.specs.Points.{value_type, PrefixFits}
 
 -- a value of this type, or a trap
@@ -16,7 +21,7 @@ ValueFits s (Gives v) = value_type v ≡ s
 ValueFits s (Traps trap) = Unit {0}
 ValueFits s Stuck = ⊥
 
-words_fit : (op : BinaryOp) (a b : ℕ) (s : ExprType) → OperatorFits (group op) ty.Word s → ValueFits s (on_words op a b)
+words_fit : (op : BinaryOp) (a b : ℕ) (s : ExprType) → OperatorFits (group op) types.Word s → ValueFits s (on_words op a b)
 words_fit Add a b s h = sym h.1
 words_fit Subtract a b s h = sym h.1
 words_fit Multiply a b s h = sym h.1
@@ -36,10 +41,10 @@ words_fit GreaterEqual a b s h = sym h.1
 words_fit LogicalOr a b s h = h
 words_fit LogicalAnd a b s h = h
 
-no_words : (s : ExprType) → OperatorFits OnWords ty.Jint s → ⊥
+no_words : (s : ExprType) → OperatorFits OnWords types.Jint s → ⊥
 no_words s h = let e = h.0 in cc
 
-ints_fit : (op : BinaryOp) (a b : ℤ) (s : ExprType) → OperatorFits (group op) ty.Jint s → ValueFits s (on_ints op a b)
+ints_fit : (op : BinaryOp) (a b : ℤ) (s : ExprType) → OperatorFits (group op) types.Jint s → ValueFits s (on_ints op a b)
 ints_fit Equal a b s h = sym h.1
 ints_fit NotEqual a b s h = sym h.1
 ints_fit Less a b s h = sym h.1
@@ -50,10 +55,10 @@ ints_fit LogicalOr a b s h = h
 ints_fit LogicalAnd a b s h = h
 ints_fit op a b s h = no_words s h
 
-no_flags : (s : ExprType) → OperatorFits OnWords ty.Flag s → ⊥
+no_flags : (s : ExprType) → OperatorFits OnWords types.Flag s → ⊥
 no_flags s h = let e = h.0 in cc
 
-flags_fit : (op : BinaryOp) (a b : Bool) (s : ExprType) → OperatorFits (group op) ty.Flag s → ValueFits s (on_flags op a b)
+flags_fit : (op : BinaryOp) (a b : Bool) (s : ExprType) → OperatorFits (group op) types.Flag s → ValueFits s (on_flags op a b)
 flags_fit Equal a b s h = sym h.1
 flags_fit NotEqual a b s h = sym h.1
 flags_fit LogicalOr a b s h = h
@@ -64,7 +69,7 @@ flags_fit Greater a b s h = h.0
 flags_fit GreaterEqual a b s h = h.0
 flags_fit op a b s h = no_flags s h
 
-no_truths : (g : OperatorGroup) (s : ExprType) → OperatorFits g ty.Truth s → ⊥
+no_truths : (g : OperatorGroup) (s : ExprType) → OperatorFits g types.Truth s → ⊥
 no_truths Logic s h = h
 no_truths Equality s h = h.0
 no_truths Order s h = h.0

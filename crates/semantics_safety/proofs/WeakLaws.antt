@@ -3,16 +3,21 @@ use Rattle.std.proofs.Common.{◌≡◌, ◌≢◌, inl, inr, ℕ, Bool, true, f
 use Rattle.std.specs.List.{list_any, AllByRecursion}
 use Rattle.std.proofs.lemmas.Bool.{or_parts}
 use Rattle.base.specs.Bytes.{Identifier, lookup}
-use Rattle.jni.specs.Access.{ElementsCopy, ArrayView, CharsCopy, CharsView}
-use Rattle.jni.specs.JniFunction.{JniFunction, GetBuffer, ReleaseBuffer, prototype, parameters_for}
-use Rattle.jni.specs.Prototype.{ParameterKind, FieldID, IntNumber, TextBytes, AnyReference, LocalVariable, StaticVariable, WeakVariable, ArrayVariable, BufferVariable, Mode, IsCopy, MethodID, Passed}
-use Rattle.type_rules.specs.ExprTypes.{ExprType, type_in}
-use Rattle.type_rules.specs.ExprTypes as ty
+use Rattle.jni.specs.declared.access.Access.TheVariants.{ElementsCopy, ArrayView, CharsCopy, CharsView}
+use Rattle.jni.specs.declared.function.JniFunction.{JniFunction}
+use Rattle.jni.specs.declared.function.JniFunction.TheVariants.{GetBuffer, ReleaseBuffer}
+use Rattle.jni.specs.JniFunction.{prototype, parameters_for}
+use Rattle.jni.specs.declared.kinds.ParameterKind.{ParameterKind}
+use Rattle.jni.specs.declared.kinds.ParameterKind.TheVariants.{FieldID, IntNumber, TextBytes, AnyReference, LocalVariable, StaticVariable, WeakVariable, ArrayVariable, BufferVariable, Mode, IsCopy, MethodID, Passed}
+use Rattle.type_rules.specs.declared.ty.ExprType.{ExprType}
+use Rattle.type_rules.specs.ExprTypes.{type_in}
+use Rattle.type_rules.specs.declared.ty.ExprType.TheVariants as types
 use Rattle.semantics.specs.Task.{Task, Invoke, Target, Declared, Assigned, Tested, Dropped, Operand, NumberOperand, Given, PassedName}
 use Rattle.semantics.specs.Thread.{Frame}
 use Rattle.semantics.specs.Variable.{Variable, LocalRef, FieldHandle, Elements, LocalArray, Weakly, Variables, Statics, MethodHandle, Scalar}
 use Rattle.semantics.specs.WeakArguments.{takes_weak, NamesNoWeak, WeakAreTaken}
 use Rattle.syntax.specs.Tree as tree
+use Rattle.syntax.specs.declared.expr.Constant.TheVariants as constants
 use Rattle.syntax.specs.Tree.{Argument}
 use Rattle.semantics_safety.specs.Owners.{Owners}
 use Rattle.semantics_safety.specs.Points.{Point, IsLive, IsUsable, ReferenceFits, ReferenceArgumentFits, NameFits, FieldArgumentFits, ModeFits, CopyFits, TextFits, GivenFits, OperandFits, OperandsFit, PassedFits, NullFits, MethodArgumentFits}
@@ -51,8 +56,8 @@ module _ (ss : Statics) (vs : Variables) (frames : List Frame) (p : Point) {weak
   variable_strong : (x : Identifier) (v : Variable) → lookup x vs ≡ Some v → IsStrong x
   variable_strong x v is none n e = none_some (lookup x vs) v none is
 
-  static_strong : (x : Identifier) → type_in p.names x ≡ Some ty.Global → IsStrong x
-  static_strong x is none n e = let c : true ≡ false = sym (stands.only x n e) ∙ stands.kinds x ty.Global is in no_kind c
+  static_strong : (x : Identifier) → type_in p.names x ≡ Some types.Global → IsStrong x
+  static_strong x is none n e = let c : true ≡ false = sym (stands.only x n e) ∙ stands.kinds x types.Global is in no_kind c
 
   live_strong : (x : Identifier) → IsLive p x → IsStrong x
   live_strong x (level, known) = let shown = stands.shows x _ known in variable_strong x (LocalRef level shown.0) shown.1
@@ -60,27 +65,27 @@ module _ (ss : Statics) (vs : Variables) (frames : List Frame) (p : Point) {weak
   usable_strong : (x : Identifier) → IsUsable p x → IsStrong x
   usable_strong x (access, a, known) = let shown = stands.shows x _ known in variable_strong x (Elements shown.0 shown.1) shown.2
 
-  field_strong : (x : Identifier) → type_in p.names x ≡ Some ty.FieldId → IsStrong x
-  field_strong x is = let there = stands.types x ty.FieldId is in variable_strong x (FieldHandle there.0) there.1
+  field_strong : (x : Identifier) → type_in p.names x ≡ Some types.FieldId → IsStrong x
+  field_strong x is = let there = stands.types x types.FieldId is in variable_strong x (FieldHandle there.0) there.1
 
-  array_strong : (t : _) (x : Identifier) → (size : ℕ) × (type_in p.names x ≡ Some (ty.Array t size)) → IsStrong x
-  array_strong t x (size, is) = let there = stands.types x (ty.Array t size) is in variable_strong x (LocalArray t there.0) there.1
+  array_strong : (t : _) (x : Identifier) → (size : ℕ) × (type_in p.names x ≡ Some (types.Array t size)) → IsStrong x
+  array_strong t x (size, is) = let there = stands.types x (types.Array t size) is in variable_strong x (LocalArray t there.0) there.1
 
   reference_strong : (x : Identifier) (o : Option ExprType) → type_in p.names x ≡ o → ReferenceFits p x o → IsStrong x
-  reference_strong x (Some ty.Ref) e h = live_strong x h
-  reference_strong x (Some ty.Global) e h = static_strong x e
+  reference_strong x (Some types.Ref) e h = live_strong x h
+  reference_strong x (Some types.Global) e h = static_strong x e
   reference_strong x o e h = absurd h
 
-  method_strong : (x : Identifier) → type_in p.names x ≡ Some ty.MethodId → IsStrong x
-  method_strong x is = let there = stands.types x ty.MethodId is in variable_strong x (MethodHandle there.0) there.1
+  method_strong : (x : Identifier) → type_in p.names x ≡ Some types.MethodId → IsStrong x
+  method_strong x is = let there = stands.types x types.MethodId is in variable_strong x (MethodHandle there.0) there.1
 
-  number_strong : (x : Identifier) → type_in p.names x ≡ Some ty.Jint → IsStrong x
-  number_strong x is = let there = stands.types x ty.Jint is in variable_strong x (Scalar there.0) there.1
+  number_strong : (x : Identifier) → type_in p.names x ≡ Some types.Jint → IsStrong x
+  number_strong x is = let there = stands.types x types.Jint is in variable_strong x (Scalar there.0) there.1
 
   passed_strong : (x : Identifier) (o : Option ExprType) → type_in p.names x ≡ o → PassedFits p x o → IsStrong x
-  passed_strong x (Some ty.Jint) e h = number_strong x e
-  passed_strong x (Some ty.Ref) e h = live_strong x h
-  passed_strong x (Some ty.Global) e h = static_strong x e
+  passed_strong x (Some types.Jint) e h = number_strong x e
+  passed_strong x (Some types.Ref) e h = live_strong x h
+  passed_strong x (Some types.Global) e h = static_strong x e
   passed_strong x o e h = absurd h
 
   -- ---- arguments
@@ -90,7 +95,7 @@ module _ (ss : Statics) (vs : Variables) (frames : List Frame) (p : Point) {weak
   named_strong ok a strong h = absurd h
 
   reference_argument_strong : (a : Argument) → ReferenceArgumentFits p a → NamesNoWeak vs ss (Given a)
-  reference_argument_strong (tree.Value (tree.Named tree.Null)) h = tt
+  reference_argument_strong (tree.Value (tree.Named constants.Null)) h = tt
   reference_argument_strong (tree.Value (tree.Variable x)) h = reference_strong x (type_in p.names x) refl h
   reference_argument_strong a h = absurd h
 
@@ -105,7 +110,7 @@ module _ (ss : Statics) (vs : Variables) (frames : List Frame) (p : Point) {weak
   method_argument_strong a h = absurd h
 
   null_argument_strong : (a : Argument) → NullFits a → NamesNoWeak vs ss (Given a)
-  null_argument_strong (tree.Value (tree.Named tree.Null)) h = tt
+  null_argument_strong (tree.Value (tree.Named constants.Null)) h = tt
   null_argument_strong a h = absurd h
 
   mode_strong : (a : Argument) → ModeFits a → NamesNoWeak vs ss (Given a)
@@ -126,13 +131,13 @@ module _ (ss : Statics) (vs : Variables) (frames : List Frame) (p : Point) {weak
   given_strong IntNumber a strong h = absurd h
   given_strong TextBytes a strong h = text_strong a h
   given_strong LocalVariable a strong h = named_strong (IsLive p) a live_strong h
-  given_strong StaticVariable a strong h = named_strong (λ x. type_in p.names x ≡ Some ty.Global) a static_strong h
+  given_strong StaticVariable a strong h = named_strong (λ x. type_in p.names x ≡ Some types.Global) a static_strong h
   given_strong WeakVariable a strong h = absurd (no_kind strong)
   given_strong AnyReference a strong h = absurd (no_kind strong)
   given_strong FieldID a strong h = field_argument_strong a h
   given_strong MethodID a strong h = method_argument_strong a h
   given_strong Passed a strong h = null_argument_strong a h
-  given_strong (ArrayVariable t) a strong h = named_strong (λ x. (size : ℕ) × (type_in p.names x ≡ Some (ty.Array t size))) a (array_strong t) h
+  given_strong (ArrayVariable t) a strong h = named_strong (λ x. (size : ℕ) × (type_in p.names x ≡ Some (types.Array t size))) a (array_strong t) h
   given_strong (BufferVariable access) a strong h = named_strong (IsUsable p) a usable_strong h
   given_strong Mode a strong h = mode_strong a h
   given_strong IsCopy a strong h = copy_strong a h

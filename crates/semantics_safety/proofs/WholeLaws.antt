@@ -4,11 +4,16 @@ use Rattle.std.specs.Prelude.{drop}
 use Rattle.std.proofs.lemmas.Slice.Eq.{bytes_eq-Decides}
 use Rattle.base.specs.Bytes.{Identifier, lookup}
 use Rattle.syntax.specs.Tree as tree
-use Rattle.jni.specs.JniFunction.{JniFunction, GetBuffer, ReleaseBuffer, DeleteLocalRef, PopLocalFrame, parameters_for, prototype}
-use Rattle.jni.specs.Prototype.{ResultKind, NewLocal, NewGlobal, NewWeak, GivesFlag, GivesInt, GivesField, GivesMethod, GivesNothing, GivesBuffer, IsCopy}
+use Rattle.jni.specs.declared.function.JniFunction.{JniFunction}
+use Rattle.jni.specs.declared.function.JniFunction.TheVariants.{GetBuffer, ReleaseBuffer, DeleteLocalRef, PopLocalFrame}
+use Rattle.jni.specs.JniFunction.{parameters_for, prototype}
+use Rattle.jni.specs.declared.kinds.ParameterKind.TheVariants.{IsCopy}
+use Rattle.jni.specs.declared.kinds.ResultKind.{ResultKind}
+use Rattle.jni.specs.declared.kinds.ResultKind.TheVariants.{NewLocal, NewGlobal, NewWeak, GivesFlag, GivesInt, GivesField, GivesMethod, GivesNothing, GivesBuffer}
 use Rattle.region_rules.specs.RegionStates.{RegionState, Free, BufferIn, state_of, get_of, after_call, after_pop}
-use Rattle.type_rules.specs.ExprTypes.{ExprType, type_in}
-use Rattle.type_rules.specs.ExprTypes as ty
+use Rattle.type_rules.specs.declared.ty.ExprType.{ExprType}
+use Rattle.type_rules.specs.ExprTypes.{type_in}
+use Rattle.type_rules.specs.declared.ty.ExprType.TheVariants as types
 use Rattle.type_rules.specs.TypeGroups.{IsNumberType}
 use Rattle.semantics.specs.Arguments.{Actual, look_up, actuals, address_in_actual}
 use Rattle.semantics.specs.Effect.{Effect, Sets, SetsNull, MakesArray, Calls}
@@ -44,9 +49,9 @@ none_holds : (o : Option Variable) → o ≡ None → HoldsNoBuffer o
 none_holds o e u b h = absurd (none_some o (Elements u b) e h)
 
 number_holds : (s : ExprType) (o : Option Variable) (g : Option StaticReference) → IsNumberType s → VariableFits s o g → HoldsNoBuffer o
-number_holds ty.Word o g n (v, e, f) = scalar_holds o v e
-number_holds ty.Jint o g n (v, e, f) = scalar_holds o v e
-number_holds ty.Flag o g n (v, e, f) = scalar_holds o v e
+number_holds types.Word o g n (v, e, f) = scalar_holds o v e
+number_holds types.Jint o g n (v, e, f) = scalar_holds o v e
+number_holds types.Flag o g n (v, e, f) = scalar_holds o v e
 number_holds s o g n h = absurd n
 
 module _ (ss : Statics) (vs : Variables) (frames : List Frame) (p : Point) {weak : WeakNames} {own : Owners} (stands : Stands weak own ss vs frames p) where
@@ -70,20 +75,20 @@ module _ (ss : Statics) (vs : Variables) (frames : List Frame) (p : Point) {weak
   typed_holds : (x : Identifier) (s : ExprType) → IsNumberType s → type_in p.names x ≡ Some s → Nothing x
   typed_holds x s n e = number_holds s (lookup x vs) (lookup x ss) n (stands.types x s e)
 
-  reference_there : (x : Identifier) → type_in p.names x ≡ Some ty.Ref → Nothing x
-  reference_there x e = let h = stands.types x ty.Ref e in reference_holds (lookup x vs) h.0 h.1 h.2
+  reference_there : (x : Identifier) → type_in p.names x ≡ Some types.Ref → Nothing x
+  reference_there x e = let h = stands.types x types.Ref e in reference_holds (lookup x vs) h.0 h.1 h.2
 
-  static_there : (x : Identifier) → type_in p.names x ≡ Some ty.Global → Nothing x
-  static_there x e = none_holds (lookup x vs) (stands.types x ty.Global e).0
+  static_there : (x : Identifier) → type_in p.names x ≡ Some types.Global → Nothing x
+  static_there x e = none_holds (lookup x vs) (stands.types x types.Global e).0
 
-  weak_there : (x : Identifier) → type_in p.names x ≡ Some ty.Weak → Nothing x
-  weak_there x e = none_holds (lookup x vs) (stands.types x ty.Weak e).0
+  weak_there : (x : Identifier) → type_in p.names x ≡ Some types.Weak → Nothing x
+  weak_there x e = none_holds (lookup x vs) (stands.types x types.Weak e).0
 
-  field_there : (x : Identifier) → type_in p.names x ≡ Some ty.FieldId → Nothing x
-  field_there x e = let h = stands.types x ty.FieldId e in field_holds (lookup x vs) h.0 h.1
+  field_there : (x : Identifier) → type_in p.names x ≡ Some types.FieldId → Nothing x
+  field_there x e = let h = stands.types x types.FieldId e in field_holds (lookup x vs) h.0 h.1
 
-  method_there : (x : Identifier) → type_in p.names x ≡ Some ty.MethodId → Nothing x
-  method_there x e = let h = stands.types x ty.MethodId e in method_holds (lookup x vs) h.0 h.1
+  method_there : (x : Identifier) → type_in p.names x ≡ Some types.MethodId → Nothing x
+  method_there x e = let h = stands.types x types.MethodId e in method_holds (lookup x vs) h.0 h.1
 
   -- ---- NULL
 
@@ -95,11 +100,11 @@ module _ (ss : Statics) (vs : Variables) (frames : List Frame) (p : Point) {weak
   null_declared (BufferKind t) x k h = new_holds x h.0
 
   null_assigned : (o : Option ExprType) (x : Identifier) (k : Point → Type 0) → type_in p.names x ≡ o → AssignsNull p o x k → Nothing x
-  null_assigned (Some ty.Ref) x k e h = reference_there x e
-  null_assigned (Some ty.Global) x k e h = static_there x e
-  null_assigned (Some ty.Weak) x k e h = weak_there x e
-  null_assigned (Some ty.FieldId) x k e h = field_there x e
-  null_assigned (Some ty.MethodId) x k e h = method_there x e
+  null_assigned (Some types.Ref) x k e h = reference_there x e
+  null_assigned (Some types.Global) x k e h = static_there x e
+  null_assigned (Some types.Weak) x k e h = weak_there x e
+  null_assigned (Some types.FieldId) x k e h = field_there x e
+  null_assigned (Some types.MethodId) x k e h = method_there x e
   null_assigned o x k e h = absurd h
 
   null_holds : (target : Target) (k : Point → Type 0) (x : Identifier) → is_target target x ≡ true → SetsNullThere p target k → Nothing x
@@ -120,14 +125,14 @@ module _ (ss : Statics) (vs : Variables) (frames : List Frame) (p : Point) {weak
   result_declared kind x result get k h = absurd h
 
   result_assigned : (o : Option ExprType) (x : Identifier) (result : ResultKind) (get : _) (k : Point → Type 0) → type_in p.names x ≡ o → AssignsResult p o x result get k → Nothing x
-  result_assigned (Some ty.Jint) x GivesInt get k e h = typed_holds x ty.Jint tt e
-  result_assigned (Some ty.Flag) x GivesFlag get k e h = typed_holds x ty.Flag tt e
-  result_assigned (Some ty.Ref) x NewLocal get k e h = reference_there x e
-  result_assigned (Some ty.Global) x NewGlobal get k e h = static_there x e
-  result_assigned (Some ty.Weak) x NewWeak get k e h = weak_there x e
-  result_assigned (Some ty.FieldId) x GivesField get k e h = field_there x e
-  result_assigned (Some ty.MethodId) x GivesMethod get k e h = method_there x e
-  result_assigned (Some (ty.Buffer t w)) x (GivesBuffer access) get k e h = free_holds x h.0
+  result_assigned (Some types.Jint) x GivesInt get k e h = typed_holds x types.Jint tt e
+  result_assigned (Some types.Flag) x GivesFlag get k e h = typed_holds x types.Flag tt e
+  result_assigned (Some types.Ref) x NewLocal get k e h = reference_there x e
+  result_assigned (Some types.Global) x NewGlobal get k e h = static_there x e
+  result_assigned (Some types.Weak) x NewWeak get k e h = weak_there x e
+  result_assigned (Some types.FieldId) x GivesField get k e h = field_there x e
+  result_assigned (Some types.MethodId) x GivesMethod get k e h = method_there x e
+  result_assigned (Some (types.Buffer t w)) x (GivesBuffer access) get k e h = free_holds x h.0
   result_assigned o x result get k e h = absurd h
 
   pub result_holds : (target : Target) (result : ResultKind) (get : _) (k : Point → Type 0) (x : Identifier) → is_target target x ≡ true → ResultGoes target result get k p → Nothing x
@@ -148,14 +153,14 @@ no_result q (Assigned y) get k x is h = on_type (type_in q.names y) h
   where
     on_type : (o : Option ExprType) → AssignsResult q o y GivesNothing get k → ⊥
     on_type None h = h
-    on_type (Some ty.Jint) h = h
-    on_type (Some ty.Flag) h = h
-    on_type (Some ty.Ref) h = h
-    on_type (Some ty.Global) h = h
-    on_type (Some ty.Weak) h = h
-    on_type (Some ty.FieldId) h = h
-    on_type (Some ty.MethodId) h = h
-    on_type (Some (ty.Buffer t w)) h = h
+    on_type (Some types.Jint) h = h
+    on_type (Some types.Flag) h = h
+    on_type (Some types.Ref) h = h
+    on_type (Some types.Global) h = h
+    on_type (Some types.Weak) h = h
+    on_type (Some types.FieldId) h = h
+    on_type (Some types.MethodId) h = h
+    on_type (Some (types.Buffer t w)) h = h
     on_type (Some s) h = h
 no_result q (Tested a b) get k x is h = h
 no_result q Dropped get k x is h = let no : false ≡ true = is in cc
@@ -187,7 +192,7 @@ module _ (ss : Statics) (vs : Variables) (frames : List Frame) (p : Point) {weak
   -- the variable of `isCopy` holds a flag
   told_operand : (sight : Sight) (c : Operand) (x : Identifier) → OperandFits p IsCopy c → address_in_actual (Some (look_up sight (IsCopy, c))) ≡ Some x → HoldsNoBuffer (lookup x vs)
   told_operand sight (Given (tree.Value (tree.Named n))) x fit e = absurd (cc (e))
-  told_operand sight (Given (tree.AddressOf y)) x fit e = let same : y ≡ x = cc in subst (λ (z : Identifier). HoldsNoBuffer (lookup z vs)) same (typed_holds ss vs frames p stands y ty.Flag tt fit)
+  told_operand sight (Given (tree.AddressOf y)) x fit e = let same : y ≡ x = cc in subst (λ (z : Identifier). HoldsNoBuffer (lookup z vs)) same (typed_holds ss vs frames p stands y types.Flag tt fit)
   told_operand sight c x fit e = absurd fit
 
   told_holds : (sight : Sight) (f : JniFunction) (operands : List Operand) (x : Identifier) → OperandsFit p (parameters_for f (length operands)) operands → IsTold f (actuals sight f operands) x → HoldsNoBuffer (lookup x vs)

@@ -1,6 +1,7 @@
 -- What the effect of a task's step has to meet: the point after it has what is wanted of the tasks that are left.
 use Rattle.std.specs.Prelude.{◌≡◌, List, ◌++◌, IsTrue}
-use Rattle.type_rules.specs.ExprTypes.{Array, type_in}
+use Rattle.type_rules.specs.declared.ty.ExprType.TheVariants.{Array}
+use Rattle.type_rules.specs.ExprTypes.{type_in}
 use Rattle.type_rules.specs.TypeGroups.{IsNumberType}
 use Rattle.semantics.specs.Arguments.{actuals}
 use Rattle.semantics.specs.Effect.{Effect, Becomes, Sets, SetsNull, SetsElement, MakesArray, Prints, Calls, Returns, TrapsAt, NoEffect, is_ready}

@@ -5,7 +5,9 @@ use Rattle.std.specs.Str.{bytes_eq}
 use Rattle.base.specs.Bytes.{Identifier, lookup}
 use Rattle.syntax.specs.Tree.{SourceUnit}
 use Rattle.class_rules.specs.Class.{Classes}
-use Rattle.jni.specs.JniFunction.{JniFunction, DeleteLocalRef, PopLocalFrame, calls_method}
+use Rattle.jni.specs.declared.function.JniFunction.{JniFunction}
+use Rattle.jni.specs.declared.function.JniFunction.TheVariants.{DeleteLocalRef, PopLocalFrame}
+use Rattle.jni.specs.JniFunction.{calls_method}
 use Rattle.semantics.specs.Arguments.{Actual, variable_given}
 use Rattle.semantics.specs.Effect.{Effect, Calls, Returns}
 use Rattle.semantics.specs.Journal.{Entry, Step, Clearing, Journal}

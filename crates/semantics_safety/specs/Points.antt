@@ -2,11 +2,17 @@
 use Rattle.std.specs.Prelude.{◌≡◌, ℕ, Bool, true, false, ◌&&◌, ◌==◌, List, [], ◌∷◌, length, filter, Option, Some, None, if◌then◌else◌}
 use Rattle.base.specs.Bytes.{Identifier, ByName, lookup}
 use Rattle.syntax.specs.Tree as tree
-use Rattle.syntax.specs.Tree.{PrefixOp, LogicalNot, Complement, ToWord, ToInt, Argument}
-use Rattle.jni.specs.Access.{Access}
-use Rattle.jni.specs.Prototype.{ParameterKind, FieldID, MethodID, Passed, IntNumber, TextBytes, AnyReference, LocalVariable, StaticVariable, WeakVariable, ArrayVariable, BufferVariable, Mode, IsCopy}
-use Rattle.type_rules.specs.ExprTypes.{ExprType, Word, Jint, Flag, Truth, Ref, Global, Weak, FieldId, Buffer, Array, Scope, OperatorGroup, Logic, Equality, Order, OnWords, group, type_in}
-use Rattle.type_rules.specs.ExprTypes as ty
+use Rattle.syntax.specs.declared.expr.Constant.TheVariants as constants
+use Rattle.syntax.specs.declared.expr.PrefixOp.{PrefixOp}
+use Rattle.syntax.specs.declared.expr.PrefixOp.TheVariants.{LogicalNot, Complement, ToWord, ToInt}
+use Rattle.syntax.specs.Tree.{Argument}
+use Rattle.jni.specs.declared.access.Access.{Access}
+use Rattle.jni.specs.declared.kinds.ParameterKind.{ParameterKind}
+use Rattle.jni.specs.declared.kinds.ParameterKind.TheVariants.{FieldID, MethodID, Passed, IntNumber, TextBytes, AnyReference, LocalVariable, StaticVariable, WeakVariable, ArrayVariable, BufferVariable, Mode, IsCopy}
+use Rattle.type_rules.specs.declared.ty.ExprType.{ExprType}
+use Rattle.type_rules.specs.declared.ty.ExprType.TheVariants.{Word, Jint, Flag, Truth, Ref, Global, Weak, FieldId, Buffer, Array}
+use Rattle.type_rules.specs.ExprTypes.{Scope, OperatorGroup, Logic, Equality, Order, OnWords, group, type_in}
+use Rattle.type_rules.specs.declared.ty.ExprType.TheVariants as types
 use Rattle.type_rules.specs.TypeGroups.{IsIndexType, IsNumberType, OperatorFits}
 use Rattle.region_rules.specs.RegionStates.{RegionState, VariableState, ReferenceAt, BufferIn, Usable, state_of}
 use Rattle.semantics.specs.Variable.{Variable, LocalRef, Variables}
@@ -40,8 +46,8 @@ IsUsable p x = (access : Access) × (array : Identifier) × (state_of p.regions 
 abbrev pub NullTestFits : Point → Identifier → Option ExprType → Type 0
 NullTestFits p x (Some Ref) = IsLive p x
 NullTestFits p x (Some Global) = Unit {0}
-NullTestFits p x (Some ty.FieldId) = Unit {0}
-NullTestFits p x (Some ty.MethodId) = Unit {0}
+NullTestFits p x (Some types.FieldId) = Unit {0}
+NullTestFits p x (Some types.MethodId) = Unit {0}
 NullTestFits p x (Some (Buffer t writable)) = Unit {0}
 NullTestFits p x s = ⊥
 
@@ -82,8 +88,8 @@ PrefixFits ToInt r s = IsNumberType r × (s ≡ Jint)
 abbrev pub HasType : Point → Term → ExprType → Type 0
 HasType p (Done v) s = value_type v ≡ s
 HasType p (term.Number n unsigned) s = s ≡ (if unsigned then Word else Jint)
-HasType p (term.Named tree.True) s = s ≡ Flag
-HasType p (term.Named tree.False) s = s ≡ Flag
+HasType p (term.Named constants.True) s = s ≡ Flag
+HasType p (term.Named constants.False) s = s ≡ Flag
 HasType p (term.Named c) s = ⊥
 HasType p (Read x) s = (type_in p.names x ≡ Some s) × IsNumberType s
 HasType p (term.Element x t) s = ElementsFit p x (type_in p.names x) × ((r : ExprType) × IsIndexType r × HasType p t r) × (s ≡ Jint)
@@ -97,13 +103,13 @@ HasType p (Binary op a b) s = (r : ExprType) × OperatorFits (group op) r s × H
 
 -- NULL or a name where a reference is asked for
 abbrev pub ReferenceArgumentFits : Point → Argument → Type 0
-ReferenceArgumentFits p (tree.Value (tree.Named tree.Null)) = Unit {0}
+ReferenceArgumentFits p (tree.Value (tree.Named constants.Null)) = Unit {0}
 ReferenceArgumentFits p (tree.Value (tree.Variable x)) = ReferenceFits p x (type_in p.names x)
 ReferenceArgumentFits p a = ⊥
 
 -- the same where it may be a weak static too
 abbrev pub AnyReferenceArgumentFits : Point → Argument → Type 0
-AnyReferenceArgumentFits p (tree.Value (tree.Named tree.Null)) = Unit {0}
+AnyReferenceArgumentFits p (tree.Value (tree.Named constants.Null)) = Unit {0}
 AnyReferenceArgumentFits p (tree.Value (tree.Variable x)) = AnyReferenceFits p x (type_in p.names x)
 AnyReferenceArgumentFits p a = ⊥
 
@@ -115,18 +121,18 @@ NameFits ok a = ⊥
 -- a constant, or a bare name of a field ID
 abbrev pub FieldArgumentFits : Point → Argument → Type 0
 FieldArgumentFits p (tree.Value (tree.Named c)) = Unit {0}
-FieldArgumentFits p (tree.Value (tree.Variable x)) = type_in p.names x ≡ Some ty.FieldId
+FieldArgumentFits p (tree.Value (tree.Variable x)) = type_in p.names x ≡ Some types.FieldId
 FieldArgumentFits p a = ⊥
 
 -- a constant, or a bare name of a method ID
 abbrev pub MethodArgumentFits : Point → Argument → Type 0
 MethodArgumentFits p (tree.Value (tree.Named c)) = Unit {0}
-MethodArgumentFits p (tree.Value (tree.Variable x)) = type_in p.names x ≡ Some ty.MethodId
+MethodArgumentFits p (tree.Value (tree.Variable x)) = type_in p.names x ≡ Some types.MethodId
 MethodArgumentFits p a = ⊥
 
 -- NULL, where a method is given something
 abbrev pub NullFits : Argument → Type 0
-NullFits (tree.Value (tree.Named tree.Null)) = Unit {0}
+NullFits (tree.Value (tree.Named constants.Null)) = Unit {0}
 NullFits a = ⊥
 
 -- a bare name of what a method may be given

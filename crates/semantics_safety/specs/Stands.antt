@@ -2,14 +2,17 @@
 use Rattle.std.specs.Prelude.{◌≡◌, ℕ, ◌≤◌, ◌==◌, Bool, true, false, ◌⊎◌, ℤ, List, [], length, Option, Some, None, IsTrue, filter, slice_get}
 use Rattle.std.specs.List.{list_all, AllByRecursion, AllZip}
 use Rattle.base.specs.Bytes.{Identifier, lookup}
-use Rattle.base.specs.Element.{ElementType}
+use Rattle.base.specs.declared.element.ElementType.{ElementType}
 use Rattle.syntax.specs.Tree.{SourceUnit}
 use Rattle.class_rules.specs.Class.{Classes}
 use Rattle.class_rules.specs.Fields.{FieldId}
-use Rattle.jni.specs.Access.{Access, is_critical}
-use Rattle.type_rules.specs.ExprTypes.{ExprType, Truth, Ref, Global, Weak, Buffer, Array, type_in}
-use Rattle.type_rules.specs.ExprTypes as ty
-use Rattle.jni.specs.Prototype.{NewLocal}
+use Rattle.jni.specs.declared.access.Access.{Access}
+use Rattle.jni.specs.Access.{is_critical}
+use Rattle.type_rules.specs.declared.ty.ExprType.{ExprType}
+use Rattle.type_rules.specs.declared.ty.ExprType.TheVariants.{Truth, Ref, Global, Weak, Buffer, Array}
+use Rattle.type_rules.specs.ExprTypes.{type_in}
+use Rattle.type_rules.specs.declared.ty.ExprType.TheVariants as types
+use Rattle.jni.specs.declared.kinds.ResultKind.TheVariants.{NewLocal}
 use Rattle.semantics.specs.CallSight.{is_full}
 use Rattle.semantics.specs.Method.{MethodId}
 use Rattle.semantics.specs.Object.{Reference}
@@ -33,8 +36,8 @@ abbrev pub VariableFits : ExprType → Option Variable → Option StaticReferenc
 VariableFits Ref v g = (level : ℕ) × (r : Reference) × (v ≡ Some (LocalRef level r))
 VariableFits Global v g = (v ≡ None) × ((r : StaticReference) × (g ≡ Some r))
 VariableFits Weak v g = (v ≡ None) × ((r : StaticReference) × (g ≡ Some r))
-VariableFits ty.FieldId v g = (f : Option FieldId) × (v ≡ Some (FieldHandle f))
-VariableFits ty.MethodId v g = (m : Option MethodId) × (v ≡ Some (MethodHandle m))
+VariableFits types.FieldId v g = (f : Option FieldId) × (v ≡ Some (FieldHandle f))
+VariableFits types.MethodId v g = (m : Option MethodId) × (v ≡ Some (MethodHandle m))
 VariableFits (Buffer t writable) v g = (b : Buffer_) × (v ≡ Some (Elements t b))
 VariableFits (Array t size) v g = (zs : List ℤ) × (v ≡ Some (LocalArray t zs))
 VariableFits Truth v g = ⊥

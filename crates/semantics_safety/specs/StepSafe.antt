@@ -2,12 +2,15 @@
 use Rattle.std.specs.Prelude.{◌≡◌, ◌≢◌, ◌⊎◌, ℕ, ◌-◌, ◌==◌, nat_le, if◌then◌else◌, Bool, true, false, List, [], ◌∷◌, length, slice_get, Option, Some, None, IsTrue, ◌+◌, ◌≤◌}
 use Rattle.std.specs.List.{list_any, list_all, AllByRecursion}
 use Rattle.base.specs.Bytes.{Identifier, lookup}
-use Rattle.base.specs.Element.{ElementType}
+use Rattle.base.specs.declared.element.ElementType.{ElementType}
 use Rattle.base.specs.Limits.{most_further}
 use Rattle.class_rules.specs.Class.{Classes}
 use Rattle.syntax.specs.Tree.{SourceUnit, Block}
-use Rattle.jni.specs.JniFunction.{JniFunction, GetBuffer, ReleaseBuffer, prototype, calls_method}
-use Rattle.jni.specs.Prototype.{ResultKind, NewLocal, GivesInt, GivesNothing}
+use Rattle.jni.specs.declared.function.JniFunction.{JniFunction}
+use Rattle.jni.specs.declared.function.JniFunction.TheVariants.{GetBuffer, ReleaseBuffer}
+use Rattle.jni.specs.JniFunction.{prototype, calls_method}
+use Rattle.jni.specs.declared.kinds.ResultKind.{ResultKind}
+use Rattle.jni.specs.declared.kinds.ResultKind.TheVariants.{NewLocal, GivesInt, GivesNothing}
 use Rattle.type_rules.specs.TypeRules.{IsWellTyped}
 use Rattle.semantics.specs.Journal.{Journal}
 use Rattle.semantics.specs.World.{Invocation, World}

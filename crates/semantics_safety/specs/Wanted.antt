@@ -2,12 +2,19 @@
 use Rattle.std.specs.Prelude.{◌≡◌, ℕ, ◌+◌, ◌<◌, ◌≤◌, Bool, true, false, ◌⊎◌, List, [], ◌∷◌, length, map, Option, Some, None, IsTrue}
 use Rattle.base.specs.Bytes.{Identifier}
 use Rattle.syntax.specs.Tree as tree
+use Rattle.syntax.specs.declared.expr.Constant.TheVariants as constants
 use Rattle.syntax.specs.Tree.{Stmt, If, IfElse, While, Block, End, Next, Argument, Expr, TestExpr, TestCall}
-use Rattle.jni.specs.Access.{Access, is_critical}
-use Rattle.jni.specs.JniFunction.{JniFunction, GetBuffer, ReleaseBuffer, DeleteLocalRef, PushLocalFrame, PopLocalFrame, parameters_for, takes_count, prototype}
-use Rattle.jni.specs.Prototype.{ResultKind, NewLocal, NewGlobal, NewWeak, GivesFlag, GivesInt, GivesField, GivesMethod, GivesBuffer}
-use Rattle.type_rules.specs.ExprTypes.{ExprType, Jint, Flag, Truth, Ref, Global, Weak, Buffer, Array, type_in, is_buffer_for}
-use Rattle.type_rules.specs.ExprTypes as ty
+use Rattle.jni.specs.declared.access.Access.{Access}
+use Rattle.jni.specs.Access.{is_critical}
+use Rattle.jni.specs.declared.function.JniFunction.{JniFunction}
+use Rattle.jni.specs.declared.function.JniFunction.TheVariants.{GetBuffer, ReleaseBuffer, DeleteLocalRef, PushLocalFrame, PopLocalFrame}
+use Rattle.jni.specs.JniFunction.{parameters_for, takes_count, prototype}
+use Rattle.jni.specs.declared.kinds.ResultKind.{ResultKind}
+use Rattle.jni.specs.declared.kinds.ResultKind.TheVariants.{NewLocal, NewGlobal, NewWeak, GivesFlag, GivesInt, GivesField, GivesMethod, GivesBuffer}
+use Rattle.type_rules.specs.declared.ty.ExprType.{ExprType}
+use Rattle.type_rules.specs.declared.ty.ExprType.TheVariants.{Jint, Flag, Truth, Ref, Global, Weak, Buffer, Array}
+use Rattle.type_rules.specs.ExprTypes.{type_in, is_buffer_for}
+use Rattle.type_rules.specs.declared.ty.ExprType.TheVariants as types
 use Rattle.type_rules.specs.TypeGroups.{IsIndexType, IsNumberType}
 use Rattle.region_rules.specs.RegionRules.{is_critical_call}
 use Rattle.region_rules.specs.RegionStates.{RegionState, VariableState, Free, Untested, Usable, ReferenceAt, BufferIn, state_of, with_new, with_changed, made_free, after_call, get_of, buffer_from, has_commit, FunctionCall}
@@ -84,8 +91,8 @@ call_seen f operands = Some (f, map operand_argument operands)
 abbrev pub DeclaresNull : Point → VariableKind → Identifier → (Point → Type 0) → Type 0
 DeclaresNull p ScalarKind x k = ⊥
 DeclaresNull p ReferenceKind x k = IsNew p x × k (at (named p x Ref) (with_new p.regions x (ReferenceAt p.regions.frames true)))
-DeclaresNull p FieldKind x k = IsNew p x × k (named p x ty.FieldId)
-DeclaresNull p MethodKind x k = IsNew p x × k (named p x ty.MethodId)
+DeclaresNull p FieldKind x k = IsNew p x × k (named p x types.FieldId)
+DeclaresNull p MethodKind x k = IsNew p x × k (named p x types.MethodId)
 DeclaresNull p (BufferKind t) x k = IsNew p x × ((writable : Bool) × k (at (named p x (Buffer t writable)) (with_new p.regions x (BufferIn Free))))
 
 -- a reference is set where the frames are those of its declaration, and no buffer is of it
@@ -104,8 +111,8 @@ abbrev pub AssignsNull : Point → Option ExprType → Identifier → (Point →
 AssignsNull p (Some Ref) x k = MaySet p x × k (at p (with_changed p.regions x revived))
 AssignsNull p (Some Global) x k = k p
 AssignsNull p (Some Weak) x k = k p
-AssignsNull p (Some ty.FieldId) x k = k p
-AssignsNull p (Some ty.MethodId) x k = k p
+AssignsNull p (Some types.FieldId) x k = k p
+AssignsNull p (Some types.MethodId) x k = k p
 AssignsNull p s x k = ⊥
 
 -- NULL goes to a target
@@ -119,8 +126,8 @@ abbrev pub DeclaresResult : Point → VariableKind → Identifier → ResultKind
 DeclaresResult p ScalarKind x GivesInt get k = IsNew p x × k (named p x Jint)
 DeclaresResult p ScalarKind x GivesFlag get k = IsNew p x × k (named p x Flag)
 DeclaresResult p ReferenceKind x NewLocal get k = IsNew p x × k (at (named p x Ref) (with_new p.regions x (ReferenceAt p.regions.frames true)))
-DeclaresResult p FieldKind x GivesField get k = IsNew p x × k (named p x ty.FieldId)
-DeclaresResult p MethodKind x GivesMethod get k = IsNew p x × k (named p x ty.MethodId)
+DeclaresResult p FieldKind x GivesField get k = IsNew p x × k (named p x types.FieldId)
+DeclaresResult p MethodKind x GivesMethod get k = IsNew p x × k (named p x types.MethodId)
 DeclaresResult p (BufferKind t) x (GivesBuffer access) get k =
     IsNew p x × ((writable : Bool) × (is_buffer_for access (Some (Buffer t writable)) ≡ true)
     × k (at (named p x (Buffer t writable)) (with_new p.regions x (BufferIn (buffer_from get)))))
@@ -133,8 +140,8 @@ AssignsResult p (Some Flag) x GivesFlag get k = k p
 AssignsResult p (Some Ref) x NewLocal get k = MaySet p x × k (at p (with_changed p.regions x revived))
 AssignsResult p (Some Global) x NewGlobal get k = k p
 AssignsResult p (Some Weak) x NewWeak get k = k p
-AssignsResult p (Some ty.FieldId) x GivesField get k = k p
-AssignsResult p (Some ty.MethodId) x GivesMethod get k = k p
+AssignsResult p (Some types.FieldId) x GivesField get k = k p
+AssignsResult p (Some types.MethodId) x GivesMethod get k = k p
 AssignsResult p (Some (Buffer t writable)) x (GivesBuffer access) get k =
     (state_of p.regions x ≡ Some (BufferIn Free)) × (is_buffer_for access (Some (Buffer t writable)) ≡ true)
     × k (at p (with_changed p.regions x (λ old. BufferIn (buffer_from get))))
@@ -189,7 +196,7 @@ ReturnedFits p x s = ⊥
 
 -- what is returned: NULL, a live reference or a number
 abbrev pub ReturnFits : Point → Term → Type 0
-ReturnFits p (term.Named tree.Null) = Unit {0}
+ReturnFits p (term.Named constants.Null) = Unit {0}
 ReturnFits p (Read x) = ReturnedFits p x (type_in p.names x)
 ReturnFits p t = HasType p t Jint
 

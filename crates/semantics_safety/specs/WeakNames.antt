@@ -3,7 +3,9 @@ use Rattle.std.specs.Prelude.{◌≡◌, ℕ, Bool, true, false, List, map, Some
 use Rattle.base.specs.Bytes.{Identifier, lookup}
 use Rattle.syntax.specs.Parts.{statics_of}
 use Rattle.syntax.specs.Tree.{Static, SourceUnit}
-use Rattle.type_rules.specs.ExprTypes.{ExprType, Global, Weak, Scope, is_weak, type_in}
+use Rattle.type_rules.specs.declared.ty.ExprType.{ExprType}
+use Rattle.type_rules.specs.declared.ty.ExprType.TheVariants.{Global, Weak}
+use Rattle.type_rules.specs.ExprTypes.{Scope, is_weak, type_in}
 use Rattle.type_rules.specs.TypeRules.{static_type}
 use Rattle.semantics.specs.Variable.{Weakly, Statics}
 

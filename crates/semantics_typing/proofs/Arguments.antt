@@ -6,13 +6,16 @@ use Rattle.std.specs.Str.{bytes_eq}
 use Rattle.std.proofs.lemmas.Bool.{eqb-true, not-false}
 use Rattle.base.specs.Bytes.{Identifier, lookup}
 use Rattle.syntax.specs.Tree as tree
+use Rattle.syntax.specs.declared.expr.Constant.TheVariants as constants
 use Rattle.syntax.specs.Tree.{Argument}
 use Rattle.class_rules.specs.BuiltIns.{class_class, string_class, number_array}
 use Rattle.class_rules.specs.Class.{Classes, class_kind, is_object_array}
 use Rattle.class_rules.specs.Fields.{FieldId}
-use Rattle.jni.specs.Prototype.{ParameterKind, Nullable, NonNull, AnyReference, ClassObject, AnyArray, ObjectArray, StringObject, NumberArray, LocalVariable, StaticVariable, WeakVariable, FieldID, MethodID, Passed, IntNumber, TextBytes, ArrayVariable, BufferVariable, Mode, IsCopy}
-use Rattle.type_rules.specs.ExprTypes as ty
-use Rattle.type_rules.specs.ExprTypes.{ExprType, type_in}
+use Rattle.jni.specs.declared.kinds.ParameterKind.{ParameterKind}
+use Rattle.jni.specs.declared.kinds.ParameterKind.TheVariants.{Nullable, NonNull, AnyReference, ClassObject, AnyArray, ObjectArray, StringObject, NumberArray, LocalVariable, StaticVariable, WeakVariable, FieldID, MethodID, Passed, IntNumber, TextBytes, ArrayVariable, BufferVariable, Mode, IsCopy}
+use Rattle.type_rules.specs.declared.ty.ExprType.TheVariants as types
+use Rattle.type_rules.specs.declared.ty.ExprType.{ExprType}
+use Rattle.type_rules.specs.ExprTypes.{type_in}
 use Rattle.semantics.specs.Arguments.{Actual, ReferenceActual, FieldActual, look_up, reference_in_actual, name_or_zero, field_in_actual, text_in_actual, variable_in_actual}
 use Rattle.semantics.specs.CallSight.{ArgumentSight, argument_seen, is_deleted}
 use Rattle.semantics.specs.Checks.{misfits, misses}
@@ -159,16 +162,16 @@ module _ (classes : Classes) (heap : Heap) (ss : Statics) (vs : Variables) (fram
   all_seen kinds operands = map (λ (a : Actual). argument_seen heap (Some a)) (map (look_up sight) (zip kinds operands))
 
   one_known : (kind : ParameterKind) (o : Operand) → OperandFits p kind o → HasActualText (look_up sight (kind, o)) → is_deleted (look_up sight (kind, o)) ≡ false → misses (kind, of_operand kind o) ≡ false → misfits classes (kind, of_operand kind o) ≡ false → Known kind (look_up sight (kind, o))
-  one_known ClassObject (Given (tree.Value (tree.Named tree.Null))) fit text d m f = object_known classes heap vs ClassObject tt [] Empty tt d m f
+  one_known ClassObject (Given (tree.Value (tree.Named constants.Null))) fit text d m f = object_known classes heap vs ClassObject tt [] Empty tt d m f
   one_known ClassObject (Given (tree.Value (tree.Variable x))) fit text d m f = object_known classes heap vs ClassObject tt x (sight.reference x) (held_argument (lookup x vs) (lookup x ss)) d m f
   one_known ClassObject o fit text d m f = absurd fit
-  one_known ObjectArray (Given (tree.Value (tree.Named tree.Null))) fit text d m f = object_known classes heap vs ObjectArray tt [] Empty tt d m f
+  one_known ObjectArray (Given (tree.Value (tree.Named constants.Null))) fit text d m f = object_known classes heap vs ObjectArray tt [] Empty tt d m f
   one_known ObjectArray (Given (tree.Value (tree.Variable x))) fit text d m f = object_known classes heap vs ObjectArray tt x (sight.reference x) (held_argument (lookup x vs) (lookup x ss)) d m f
   one_known ObjectArray o fit text d m f = absurd fit
-  one_known StringObject (Given (tree.Value (tree.Named tree.Null))) fit text d m f = object_known classes heap vs StringObject tt [] Empty tt d m f
+  one_known StringObject (Given (tree.Value (tree.Named constants.Null))) fit text d m f = object_known classes heap vs StringObject tt [] Empty tt d m f
   one_known StringObject (Given (tree.Value (tree.Variable x))) fit text d m f = object_known classes heap vs StringObject tt x (sight.reference x) (held_argument (lookup x vs) (lookup x ss)) d m f
   one_known StringObject o fit text d m f = absurd fit
-  one_known (NumberArray t) (Given (tree.Value (tree.Named tree.Null))) fit text d m f = object_known classes heap vs (NumberArray t) tt [] Empty tt d m f
+  one_known (NumberArray t) (Given (tree.Value (tree.Named constants.Null))) fit text d m f = object_known classes heap vs (NumberArray t) tt [] Empty tt d m f
   one_known (NumberArray t) (Given (tree.Value (tree.Variable x))) fit text d m f = object_known classes heap vs (NumberArray t) tt x (sight.reference x) (held_argument (lookup x vs) (lookup x ss)) d m f
   one_known (NumberArray t) o fit text d m f = absurd fit
   one_known FieldID (Given (tree.Value (tree.Named c))) fit text d m f = field_known classes heap vs None m (λ g e. absurd (cc))
@@ -176,7 +179,7 @@ module _ (classes : Classes) (heap : Heap) (ss : Statics) (vs : Variables) (fram
   one_known FieldID o fit text d m f = absurd fit
   one_known MethodID o fit text d m f = tt
   one_known Passed o fit text d m f = tt
-  one_known (ArrayVariable t) (Given (tree.Value (tree.Variable x))) fit text d m f = let h = stands.types x (ty.Array t fit.0) fit.1 in (h.0, h.1)
+  one_known (ArrayVariable t) (Given (tree.Value (tree.Variable x))) fit text d m f = let h = stands.types x (types.Array t fit.0) fit.1 in (h.0, h.1)
   one_known (ArrayVariable t) o fit text d m f = absurd fit
   one_known Nullable o fit text d m f = tt
   one_known NonNull o fit text d m f = tt

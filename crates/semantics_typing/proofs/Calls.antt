@@ -8,18 +8,24 @@ use Rattle.std.proofs.lemmas.Option.{slice_get_within}
 use lib.ListN.{length-set}
 use Rattle.std.proofs.lemmas.List.{append-nil, length-take-le, length-drop}
 use Rattle.base.specs.Bytes.{Identifier, lookup}
-use Rattle.base.specs.Element.{ElementType, JChar}
+use Rattle.base.specs.declared.element.ElementType.{ElementType}
+use Rattle.base.specs.declared.element.ElementType.TheVariants.{Char as JChar}
 use Rattle.base.specs.Limits.{most_copied, most_references, most_views}
 use Rattle.syntax.specs.Tree.{SourceUnit}
 use Rattle.class_rules.specs.BuiltIns.{built_ins, class_class, string_class, throwable_class, number_array, no_class_def_found_error, no_such_field_error, no_such_method_error, array_index_out_of_bounds, string_index_out_of_bounds, array_store_exception, negative_array_size, illegal_monitor_state}
 use Rattle.class_rules.specs.Class.{FieldType, NumberField, ReferenceField, Plain, ArrayOfObjects, Class, Classes, class_at, class_kind, is_plain, element_class, assignable, array_class_of}
 use Rattle.class_rules.specs.Fields.{FieldId}
 use Rattle.class_rules.specs.Grown.{IsGrown}
-use Rattle.jni.specs.Access.{Access, ElementsCopy, ArrayView, CharsCopy, CharsView}
-use Rattle.jni.specs.JniFunction as jni
-use Rattle.jni.specs.JniFunction.{JniFunction, parameters_for, prototype}
-use Rattle.jni.specs.Prototype.{ParameterKind, ClassObject, ObjectArray, StringObject, NumberArray, FieldID, TextBytes, ArrayVariable, ResultKind}
-use Rattle.type_rules.specs.ExprTypes.{Buffer, is_buffer_for}
+use Rattle.jni.specs.declared.access.Access.{Access}
+use Rattle.jni.specs.declared.access.Access.TheVariants.{ElementsCopy, ArrayView, CharsCopy, CharsView}
+use Rattle.jni.specs.declared.function.JniFunction.TheVariants as functions
+use Rattle.jni.specs.declared.function.JniFunction.{JniFunction}
+use Rattle.jni.specs.JniFunction.{parameters_for, prototype}
+use Rattle.jni.specs.declared.kinds.ParameterKind.{ParameterKind}
+use Rattle.jni.specs.declared.kinds.ParameterKind.TheVariants.{ClassObject, ObjectArray, StringObject, NumberArray, FieldID, TextBytes, ArrayVariable}
+use Rattle.jni.specs.declared.kinds.ResultKind.{ResultKind}
+use Rattle.type_rules.specs.declared.ty.ExprType.TheVariants.{Buffer}
+use Rattle.type_rules.specs.ExprTypes.{is_buffer_for}
 use Rattle.type_rules.proofs.TypeTests.{same_types}
 use Rattle.semantics.specs.Answer.{Answer, Region, with_region_got, with_region_set}
 use Rattle.semantics.specs.Answer as answer
@@ -74,9 +80,9 @@ EffectFits classes u heap before (Leaves made s t given) = IsLeft classes u heap
 
 -- what is known of some calls beside their arguments
 abbrev pub IsReady : Classes → ElementType → Variables → JniFunction → List Actual → Type 0
-IsReady classes u vs (jni.ReleaseBuffer (ElementsCopy t)) args = (kind : ElementType) × (zs : List ℤ) × (lookup (variable_given args 1) vs ≡ Some (Elements kind (Copy (object_given args 0) zs)))
-IsReady classes u vs (jni.GetBuffer access) args = (writable : Bool) × (is_buffer_for access (Some (Buffer u writable)) ≡ true)
-IsReady classes u vs jni.GetStaticMethodID args = IsMakeable classes no_such_method_error
+IsReady classes u vs (functions.ReleaseBuffer (ElementsCopy t)) args = (kind : ElementType) × (zs : List ℤ) × (lookup (variable_given args 1) vs ≡ Some (Elements kind (Copy (object_given args 0) zs)))
+IsReady classes u vs (functions.GetBuffer access) args = (writable : Bool) × (is_buffer_for access (Some (Buffer u writable)) ≡ true)
+IsReady classes u vs functions.GetStaticMethodID args = IsMakeable classes no_such_method_error
 IsReady classes u vs f args = Unit {0}
 
 -- ---- texts
@@ -303,19 +309,19 @@ module _ (unit : SourceUnit) (classes : Classes) (well : DeclaresWell classes) (
     numbers_as : (e : ElementType) (n : ℕ) → u ≡ e → HasNumbers classes s.heap e n → HasNumbers classes s.heap u n
     numbers_as e n is h = subst (λ (x : ElementType). HasNumbers classes s.heap x n) (sym is) h
 
-    of_view : Together (jni.GetBuffer ArrayView) → class_of s.heap (object_given args 0) ≡ number_array u
+    of_view : Together (functions.GetBuffer ArrayView) → class_of s.heap (object_given args 0) ≡ number_array u
     unfolding go_together
     of_view h = eqb-true (class_of s.heap (object_given args 0)) (number_array u) h
 
     -- what a buffer is got of has numbers of its type
-    got_numbers : (access : Access) → Known (jni.GetBuffer access) → Together (jni.GetBuffer access) → IsReady classes u t.variables (jni.GetBuffer access) args → HasNumbers classes s.heap u (object_given args 0)
+    got_numbers : (access : Access) → Known (functions.GetBuffer access) → Together (functions.GetBuffer access) → IsReady classes u t.variables (functions.GetBuffer access) args → HasNumbers classes s.heap u (object_given args 0)
     got_numbers (ElementsCopy e) h together (writable, is) =
-        numbers_as e (object_given args 0) (same_kind (ElementsCopy e) e writable refl is) (has_numbers (object_given args 0) e (known (jni.GetBuffer (ElementsCopy e)) 0 (NumberArray e) h (λ n. refl)))
+        numbers_as e (object_given args 0) (same_kind (ElementsCopy e) e writable refl is) (has_numbers (object_given args 0) e (known (functions.GetBuffer (ElementsCopy e)) 0 (NumberArray e) h (λ n. refl)))
     got_numbers ArrayView h together ready = has_numbers (object_given args 0) u (of_view together)
     got_numbers CharsCopy h together (writable, is) =
-        numbers_as JChar (object_given args 0) (chars_copy writable is) (has_units (object_given args 0) (known (jni.GetBuffer CharsCopy) 0 StringObject h (λ n. refl)))
+        numbers_as JChar (object_given args 0) (chars_copy writable is) (has_units (object_given args 0) (known (functions.GetBuffer CharsCopy) 0 StringObject h (λ n. refl)))
     got_numbers CharsView h together (writable, is) =
-        numbers_as JChar (object_given args 0) (chars_view writable is) (has_units (object_given args 0) (known (jni.GetBuffer CharsView) 0 StringObject h (λ n. refl)))
+        numbers_as JChar (object_given args 0) (chars_view writable is) (has_units (object_given args 0) (known (functions.GetBuffer CharsView) 0 StringObject h (λ n. refl)))
 
     module _ (f : JniFunction) (h : Known f) (go : Together f) (ready : IsReady classes u t.variables f args) where
       -- what the call sees
@@ -325,7 +331,7 @@ module _ (unit : SourceUnit) (classes : Classes) (well : DeclaresWell classes) (
       checked : IsChecked classes seen f
       checked = (u, go)
 
-      buffer_numbers : (access : Access) → f ≡ jni.GetBuffer access → HasNumbers classes s.heap u (object_given args 0)
+      buffer_numbers : (access : Access) → f ≡ functions.GetBuffer access → HasNumbers classes s.heap u (object_given args 0)
       buffer_numbers access is = got_numbers access (subst Known is h) (subst Together is go) (subst (λ (g : JniFunction). IsReady classes u t.variables g args) is ready)
 
       -- ---- what is given and raised

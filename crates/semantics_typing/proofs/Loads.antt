@@ -7,7 +7,7 @@ use Rattle.std.proofs.lemmas.Bool.Decides.{nat_tests, eqb_tells}
 use Rattle.std.proofs.lemmas.List.{length-map}
 use Rattle.std.proofs.lemmas.Option.{slice_get-map, slice_get-get_or}
 use Rattle.std.proofs.lemmas.Slice.Zip.{AllZip-long}
-use Rattle.base.specs.Element.{JChar}
+use Rattle.base.specs.declared.element.ElementType.TheVariants.{Char as JChar}
 use Rattle.base.proofs.Lists.{get_front}
 use Rattle.class_rules.specs.BuiltIns.{built_ins, class_class, string_class, out_of_memory_error}
 use Rattle.class_rules.specs.Class.{FieldType, NumberField, ReferenceField, ClassKind, Plain, ArrayOfNumbers, ArrayOfObjects, Classes, class_kind, assignable}

@@ -7,7 +7,7 @@ use Rattle.class_rules.specs.BuiltIns.{no_such_method_error}
 use Rattle.class_rules.specs.Class.{Plain, Class, Classes, class_kind}
 use Rattle.class_rules.specs.Grown.{HasMethodError}
 use Rattle.class_rules.specs.Mangling.{IsInverse}
-use Rattle.jni.specs.JniFunction.{GetStaticMethodID}
+use Rattle.jni.specs.declared.function.JniFunction.TheVariants.{GetStaticMethodID}
 use Rattle.syntax.specs.Tree.{SourceUnit}
 use Rattle.region_rules.specs.Regions.{HasRegions}
 use Rattle.type_rules.specs.TypeRules.{IsWellTyped}

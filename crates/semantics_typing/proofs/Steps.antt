@@ -7,18 +7,25 @@ use Rattle.std.specs.Str.{bytes_eq}
 use Rattle.std.proofs.lemmas.List.{length-map}
 use lib.ListN.{length-set}
 use Rattle.base.specs.Bytes.{Identifier, lookup}
-use Rattle.base.specs.Element.{ElementType, JInt}
+use Rattle.base.specs.declared.element.ElementType.{ElementType}
+use Rattle.base.specs.declared.element.ElementType.TheVariants.{Int as JInt}
 use Rattle.syntax.specs.Parts.{functions_of}
 use Rattle.syntax.specs.Tree as tree
 use Rattle.syntax.specs.Tree.{Argument, Function, Parameter, SourceUnit}
 use Rattle.class_rules.specs.BuiltIns.{no_such_method_error}
 use Rattle.class_rules.specs.Class.{Classes}
 use Rattle.class_rules.specs.Grown.{IsGrown}
-use Rattle.jni.specs.Access.{Access, ElementsCopy, ArrayView, CharsCopy, CharsView}
-use Rattle.jni.specs.JniFunction.{JniFunction, GetBuffer, ReleaseBuffer, PushLocalFrame, GetStaticMethodID, parameters_for}
-use Rattle.jni.specs.Prototype.{ResultKind, NewLocal, NewGlobal, NewWeak, GivesFlag, GivesInt, GivesField, GivesMethod, GivesNothing, GivesBuffer}
-use Rattle.type_rules.specs.ExprTypes.{ExprType, Buffer, is_buffer_for, type_in}
-use Rattle.type_rules.specs.ExprTypes as ty
+use Rattle.jni.specs.declared.access.Access.{Access}
+use Rattle.jni.specs.declared.access.Access.TheVariants.{ElementsCopy, ArrayView, CharsCopy, CharsView}
+use Rattle.jni.specs.declared.function.JniFunction.{JniFunction}
+use Rattle.jni.specs.declared.function.JniFunction.TheVariants.{GetBuffer, ReleaseBuffer, PushLocalFrame, GetStaticMethodID}
+use Rattle.jni.specs.JniFunction.{parameters_for}
+use Rattle.jni.specs.declared.kinds.ResultKind.{ResultKind}
+use Rattle.jni.specs.declared.kinds.ResultKind.TheVariants.{NewLocal, NewGlobal, NewWeak, GivesFlag, GivesInt, GivesField, GivesMethod, GivesNothing, GivesBuffer}
+use Rattle.type_rules.specs.declared.ty.ExprType.{ExprType}
+use Rattle.type_rules.specs.declared.ty.ExprType.TheVariants.{Buffer}
+use Rattle.type_rules.specs.ExprTypes.{is_buffer_for, type_in}
+use Rattle.type_rules.specs.declared.ty.ExprType.TheVariants as types
 use Rattle.semantics.specs.Activation.{function_at, class_of_function, parameter_variables, entered, entered_function, enter, entry_advance}
 use Rattle.semantics.specs.Arguments.{Actual, ReferenceActual, actuals, object_given, variable_given, reference_in_actual, name_or_zero}
 use Rattle.semantics.specs.CallEffects.{CallResult, NoResult, NullResult, ScalarResult, ReferenceResult, WeakResult, FieldResult, MethodResult, BufferResult}
@@ -35,7 +42,8 @@ use Rattle.semantics.specs.Return.{fitted, given_back, nothing_of, resumed_in, r
 use Rattle.semantics.specs.Thread.{Thread, Caller, Shared, BuffersInUse, Frame, Advance, sight_of}
 use Rattle.semantics.specs.ThreadStep.{set_element, with_tasks, after_effect, after_refused_effect, step_within, thread_step}
 use Rattle.semantics.specs.Value as value
-use Rattle.semantics.specs.Value.{Trap, convert}
+use Rattle.semantics.specs.declared.trap.Trap.{Trap}
+use Rattle.semantics.specs.Value.{convert}
 use Rattle.semantics.specs.Variable.{Variable, Scalar, LocalRef, FieldHandle, MethodHandle, Elements, LocalArray, NoBuffer, Copy, View, Variables, Statics}
 use Rattle.semantics.specs.World.{Invocation}
 use Rattle.world_values.specs.WorldRules.{is_in_range}
@@ -79,8 +87,8 @@ module _ (heap : Heap) (ss : Statics) (vs : Variables) (frames : List Frame) (p 
   got_declared MethodKind q x access get h = absurd h
 
   got_assigned : (o : Option ExprType) (q : Point) (x : Identifier) (access : Access) (get : _) → type_in p.names x ≡ o → AssignsResult q o x (GivesBuffer access) get k → (writable : Bool) × (is_buffer_for access (Some (Buffer (element_type (lookup x vs)) writable)) ≡ true)
-  got_assigned (Some (ty.Buffer t w)) q x access get e h =
-      let there = stands.types x (ty.Buffer t w) e in
+  got_assigned (Some (types.Buffer t w)) q x access get e h =
+      let there = stands.types x (types.Buffer t w) e in
       (w, ap (λ (o : Option Variable). is_buffer_for access (Some (Buffer (element_type o) w))) there.1 ∙ h.1)
   got_assigned o q x access get e h = absurd h
 

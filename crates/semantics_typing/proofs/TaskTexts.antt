@@ -10,9 +10,13 @@ use Rattle.base.specs.Bytes.{Identifier}
 use Rattle.base.specs.Options.{some_passes}
 use Rattle.syntax.specs.Parts.{functions_of, statements_of, statements_within, own_call, call_of_right_side}
 use Rattle.syntax.specs.Tree as tree
+use Rattle.syntax.specs.declared.expr.Constant.TheVariants as constants
 use Rattle.syntax.specs.Tree.{Argument, Call, RightSide, FromExpr, FromCall, Expr, Test, TestExpr, TestCall, Stmt, Block, End, Next, Function, SourceUnit}
-use Rattle.jni.specs.JniFunction.{JniFunction, GetStaticMethodID, parameters_for, prototype, all_functions, function_named}
-use Rattle.jni.specs.Prototype.{ParameterKind, FieldID, MethodID, Passed, IntNumber, ArrayVariable, BufferVariable, Mode, IsCopy}
+use Rattle.jni.specs.declared.function.JniFunction.{JniFunction}
+use Rattle.jni.specs.declared.function.JniFunction.TheVariants.{GetStaticMethodID}
+use Rattle.jni.specs.JniFunction.{parameters_for, prototype, all_functions, function_named}
+use Rattle.jni.specs.declared.kinds.ParameterKind.{ParameterKind}
+use Rattle.jni.specs.declared.kinds.ParameterKind.TheVariants.{FieldID, MethodID, Passed, IntNumber, ArrayVariable, BufferVariable, Mode, IsCopy}
 use Rattle.semantics.specs.Arguments.{look_up, look_up_expression, reference_argument, field_argument, method_argument, actuals}
 use Rattle.semantics.specs.CallEffects.{ScalarResult}
 use Rattle.semantics.specs.Load.{methods_load}
@@ -81,7 +85,7 @@ EffectHasTexts methods e = Unit {0}
 -- ---- statements
 
 passed_texts : (e : Expr) → HasText (passed_operand e)
-passed_texts (tree.Named tree.Null) = tt
+passed_texts (tree.Named constants.Null) = tt
 passed_texts (tree.Variable x) = tt
 passed_texts e = tt
 
@@ -147,7 +151,7 @@ module _ (methods : Bool) where
   invocation_texts line target call (Some f) is h may g = (operands_texts (parameters_for f (length call.arguments)) call.arguments h, g, may_call call f (is_named call.function f is) may)
 
   set_texts : (line : ℕ) (target : Target) (x : Identifier) (e : Expr) → TaskHasTexts methods (set_task line target x e)
-  set_texts line target x (tree.Named tree.Null) = tt
+  set_texts line target x (tree.Named constants.Null) = tt
   set_texts line target x e = tt
 
   right_texts : (line : ℕ) (target : Target) (x : Identifier) (right : RightSide) → RightHasTexts right → (some_passes asks (call_of_right_side (Some right)) ≡ true → methods ≡ true) → TargetHasTexts methods target → TaskHasTexts methods (right_side_task line target x right)
@@ -257,7 +261,7 @@ module _ (methods : Bool) (sight : Sight) where
   name_texts line Stuck r = tt
 
   return_texts : (line : ℕ) (t : Term) → EffectHasTexts methods (return_effect sight line t)
-  return_texts line (term.Named tree.Null) = tt
+  return_texts line (term.Named constants.Null) = tt
   return_texts line (Read x) = name_texts line (sight.number x) (sight.reference x)
   return_texts line t = valued line (λ v. Returns (ScalarResult v)) (task.ReturnValue line) t (λ v. tt) (λ u. tt)
 

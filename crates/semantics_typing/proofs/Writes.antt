@@ -6,7 +6,8 @@ use Rattle.std.proofs.lemmas.Bool.Decides.{nat_tests}
 use Rattle.std.proofs.lemmas.List.{length-map}
 use Rattle.std.proofs.lemmas.Option.{slice_get-map}
 use lib.ListN.{length-set}
-use Rattle.base.specs.Element.{ElementType, JInt, JShort, JByte, JChar}
+use Rattle.base.specs.declared.element.ElementType.{ElementType}
+use Rattle.base.specs.declared.element.ElementType.TheVariants.{Int as JInt, Short as JShort, Byte as JByte, Char as JChar}
 use Rattle.class_rules.specs.BuiltIns.{class_class, string_class, number_array}
 use Rattle.class_rules.specs.Class.{FieldType, NumberField, ReferenceField, Classes, assignable}
 use Rattle.class_rules.specs.Fields.{FieldId, layout}

@@ -1,7 +1,7 @@
 -- Objects are typed in each run of an accepted unit.
 use Rattle.std.specs.Prelude.{◌≡◌, ℕ, true, List, Some}
 use Rattle.syntax.specs.Tree.{SourceUnit}
-use Rattle.jni.specs.JniFunction.{GetStaticMethodID}
+use Rattle.jni.specs.declared.function.JniFunction.TheVariants.{GetStaticMethodID}
 use Rattle.region_rules.specs.Regions.{HasRegions}
 use Rattle.type_rules.specs.TypeRules.{IsWellTyped}
 use Rattle.semantics.specs.Arguments.{Actual}

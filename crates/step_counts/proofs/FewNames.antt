@@ -5,7 +5,10 @@ use Rattle.std.specs.List.{list_all}
 use Rattle.std.proofs.lemmas.Bool.{and_parts}
 use Rattle.base.specs.Limits.{most_names}
 use Rattle.syntax.specs.Parts.{functions_of, statements_of, parameter_names, names_declared}
-use Rattle.syntax.specs.Tree.{ParameterType, IntParameter, ReferenceParameter, Parameter, JIntVariable, JSize, Stmt, Declare, DeclareBuffer, DeclareChars, DeclareArray, Function, Item, StaticItem, FunctionItem}
+use Rattle.syntax.specs.declared.declared_type.ParameterType.{ParameterType}
+use Rattle.syntax.specs.declared.declared_type.ParameterType.TheVariants.{Jint as IntParameter, Reference as ReferenceParameter}
+use Rattle.syntax.specs.declared.declared_type.VariableType.TheVariants.{Jint as JIntVariable, Jsize as JSize}
+use Rattle.syntax.specs.Tree.{Parameter, Stmt, Declare, DeclareBuffer, DeclareChars, DeclareArray, Function, Item, StaticItem, FunctionItem}
 use Rattle.syntax.specs.declared.unit.Item.{Item as ItemInMemory}
 use Rattle.syntax.specs.Views.{item_tree}
 use Rattle.code_meaning.specs.Length.{int_parameter, int_declared, int_names}

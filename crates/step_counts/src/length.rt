@@ -4,9 +4,8 @@ ghost use Rattle.std.specs.Prelude.{◌≡◌, ℕ, ◌+◌, ◌<◌, nat_lt, if
 ghost use Rattle.std.specs.List.{list_any, sum_by};
 ghost use Rattle.base.specs.Limits.{most_steps};
 ghost use Rattle.syntax.specs.Shapes.{ref_tree};
-ghost use Rattle.syntax.specs.Views.{argument_tree, call_tree, right_side_tree, test_tree, result_tree, form_tree, block_tree, function_tree, item_tree, unit_tree};
+ghost use Rattle.syntax.specs.Views.{argument_tree, call_tree, right_side_tree, test_tree, form_tree, block_tree, function_tree, item_tree, unit_tree};
 ghost use Rattle.jni.specs.JniFunction.{function_named};
-ghost use Rattle.jni.specs.Table.{parameter_value};
 ghost use Rattle.code_meaning.specs.Plain.{is_plain};
 ghost use Rattle.code_meaning.specs.Arguments.{paired};
 ghost use Rattle.code_meaning.specs.Length.{expr_steps, passed_steps, argument_steps, call_steps, value_steps, right_steps, test_steps, return_steps, stmt_steps, block_steps, function_steps, is_long};
@@ -63,8 +62,8 @@ fn after_argument(
     parameter: ParameterKind,
     argument: &Argument,
 ) -> Option<usize>
-    ensures some { IfSome result (λ rest. rest + argument_steps ints.now (parameter_value parameter, argument_tree argument.now) ≡ left) }
-    ensures none { IfNone result (left < argument_steps ints.now (parameter_value parameter, argument_tree argument.now)) }
+    ensures some { IfSome result (λ rest. rest + argument_steps ints.now (parameter, argument_tree argument.now) ≡ left) }
+    ensures none { IfNone result (left < argument_steps ints.now (parameter, argument_tree argument.now)) }
 {
     match (parameter, argument) {
         (ParameterKind::IntNumber, Argument::Value(e)) => after_expr(left, e.whole()),
@@ -168,8 +167,8 @@ fn after_test(left: usize, ints: &IntNames<'_>, test: &Test) -> Option<usize>
 
 /// What is left of `left` after the steps of the return of a value.
 fn after_return(left: usize, returns: ResultType, e: ExprRef<'_>) -> Option<usize>
-    ensures some { IfSome result (λ rest. rest + return_steps (result_tree returns) (ref_tree e.entry) ≡ left) }
-    ensures none { IfNone result (left < return_steps (result_tree returns) (ref_tree e.entry)) }
+    ensures some { IfSome result (λ rest. rest + return_steps returns (ref_tree e.entry) ≡ left) }
+    ensures none { IfNone result (left < return_steps returns (ref_tree e.entry)) }
 {
     match returns {
         ResultType::Jint => after_number(left, e),
@@ -180,8 +179,8 @@ fn after_return(left: usize, returns: ResultType, e: ExprRef<'_>) -> Option<usiz
 /// What is left of `left` after the steps of a statement.
 #[cycle(statements)]
 fn after_form(left: usize, ints: &IntNames<'_>, returns: ResultType, form: &Form) -> Option<usize>
-    ensures some { (line : ℕ) → IfSome result (λ rest. rest + stmt_steps ints.now (result_tree returns) (form_tree line form.now) ≡ left) }
-    ensures none { (line : ℕ) → IfNone result (left < stmt_steps ints.now (result_tree returns) (form_tree line form.now)) }
+    ensures some { (line : ℕ) → IfSome result (λ rest. rest + stmt_steps ints.now returns (form_tree line form.now) ≡ left) }
+    ensures none { (line : ℕ) → IfNone result (left < stmt_steps ints.now returns (form_tree line form.now)) }
 {
     match form {
         Form::If(test, block) => after_one(after_first(left, ints, returns, test, block)?),
@@ -213,8 +212,8 @@ fn after_first(
     block: &Block,
 ) -> Option<usize>
     ensures some { IfSome result (λ rest. rest
-        + (test_steps ints.now (test_tree test.now) + (block_steps ints.now (result_tree returns) (block_tree block.now) + 1)) ≡ left) }
-    ensures none { IfNone result (left < test_steps ints.now (test_tree test.now) + (block_steps ints.now (result_tree returns) (block_tree block.now) + 1)) }
+        + (test_steps ints.now (test_tree test.now) + (block_steps ints.now returns (block_tree block.now) + 1)) ≡ left) }
+    ensures none { IfNone result (left < test_steps ints.now (test_tree test.now) + (block_steps ints.now returns (block_tree block.now) + 1)) }
 {
     after_path(after_test(left, ints, test)?, ints, returns, block)
 }
@@ -222,8 +221,8 @@ fn after_first(
 /// What is left of `left` after the steps of a statement without blocks.
 fn after_plain(left: usize, ints: &IntNames<'_>, returns: ResultType, form: &Form) -> Option<usize>
     requires { IsTrue (is_plain form.now) }
-    ensures some { (line : ℕ) → IfSome result (λ rest. rest + stmt_steps ints.now (result_tree returns) (form_tree line form.now) ≡ left) }
-    ensures none { (line : ℕ) → IfNone result (left < stmt_steps ints.now (result_tree returns) (form_tree line form.now)) }
+    ensures some { (line : ℕ) → IfSome result (λ rest. rest + stmt_steps ints.now returns (form_tree line form.now) ≡ left) }
+    ensures none { (line : ℕ) → IfNone result (left < stmt_steps ints.now returns (form_tree line form.now)) }
 {
     match form {
         Form::Declare(_, _, right) => after_right(left, ints, right),
@@ -243,8 +242,8 @@ fn after_plain(left: usize, ints: &IntNames<'_>, returns: ResultType, form: &For
 /// What is left of `left` after the steps of a block and the one at its end.
 #[cycle(statements)]
 fn after_path(left: usize, ints: &IntNames<'_>, returns: ResultType, block: &Block) -> Option<usize>
-    ensures some { IfSome result (λ rest. rest + (block_steps ints.now (result_tree returns) (block_tree block.now) + 1) ≡ left) }
-    ensures none { IfNone result (left < block_steps ints.now (result_tree returns) (block_tree block.now) + 1) }
+    ensures some { IfSome result (λ rest. rest + (block_steps ints.now returns (block_tree block.now) + 1) ≡ left) }
+    ensures none { IfNone result (left < block_steps ints.now returns (block_tree block.now) + 1) }
 {
     after_one(after_block(left, ints, returns, block)?)
 }
@@ -257,8 +256,8 @@ fn after_block(
     returns: ResultType,
     block: &Block,
 ) -> Option<usize>
-    ensures some { IfSome result (λ rest. rest + block_steps ints.now (result_tree returns) (block_tree block.now) ≡ left) }
-    ensures none { IfNone result (left < block_steps ints.now (result_tree returns) (block_tree block.now)) }
+    ensures some { IfSome result (λ rest. rest + block_steps ints.now returns (block_tree block.now) ≡ left) }
+    ensures none { IfNone result (left < block_steps ints.now returns (block_tree block.now)) }
 {
     let mut rest = left;
     for stmt in &block.statements {

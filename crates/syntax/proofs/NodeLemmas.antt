@@ -10,12 +10,11 @@ use Rattle.std.proofs.lemmas.List.Sums.{sum_by-cons}
 use Rattle.base.specs.Bytes.{Identifier}
 use Rattle.syntax.specs.declared.node.Node.{Node}
 use Rattle.syntax.specs.declared.node.Node.TheVariants as node
-use Rattle.syntax.specs.declared.expr.Constant.{Constant as ConstantInMemory}
-use Rattle.syntax.specs.declared.expr.PrefixOp.{PrefixOp as PrefixInMemory}
-use Rattle.syntax.specs.declared.expr.BinaryOp.{BinaryOp as BinaryInMemory}
+use Rattle.syntax.specs.declared.expr.Constant.{Constant}
+use Rattle.syntax.specs.declared.expr.PrefixOp.{PrefixOp}
+use Rattle.syntax.specs.declared.expr.BinaryOp.{BinaryOp}
 use Rattle.syntax.specs.Nodes.{size, top, before_top, onto, HasOperands, trees_after, tree_of, Spells, number, named, variable, element, prefix, binary, paren, IsWhole, SpellAll, none, more, AreWhole}
-use Rattle.syntax.specs.Operators.{constant_tree, prefix_tree, binary_tree}
-use Rattle.syntax.specs.Tree.{Expr, Expr-set, Constant-set, PrefixOp-set, BinaryOp-set, PrefixOp, BinaryOp, Number, Named, Variable, Element, Prefix, Binary, Paren}
+use Rattle.syntax.specs.Tree.{Expr, Expr-set, Number, Named, Variable, Element, Prefix, Binary, Paren}
 
 -- ---- postfix notation
 
@@ -91,26 +90,26 @@ at_end nodes trees n a e f (more before own _ _ h k) =
 -- a node that finds its operands keeps them so
 pub grown : (nodes : List Node) (trees : List Expr) (n : Node) → SpellAll nodes trees → HasOperands trees n → SpellAll (nodes ++ n ∷ []) (onto trees n)
 grown nodes trees (node.Number value unsigned) h fits = more nodes (node.Number value unsigned ∷ []) trees (Number value unsigned) h (number value unsigned)
-grown nodes trees (node.Named c) h fits = more nodes (node.Named c ∷ []) trees (Named (constant_tree c)) h (named c)
+grown nodes trees (node.Named c) h fits = more nodes (node.Named c ∷ []) trees (Named c) h (named c)
 grown nodes trees (node.Variable x) h fits = more nodes (node.Variable x ∷ []) trees (Variable x) h (variable x)
 grown nodes [] (node.Element x) h fits = absurd (omega arith)
 grown nodes (a ∷ trees) (node.Element x) h fits = at_end nodes trees (node.Element x) a (Element x a) (λ own k. element x own a k) h
 grown nodes [] (node.Prefix op) h fits = absurd (omega arith)
-grown nodes (a ∷ trees) (node.Prefix op) h fits = at_end nodes trees (node.Prefix op) a (Prefix (prefix_tree op) a) (λ own k. prefix op own a k) h
+grown nodes (a ∷ trees) (node.Prefix op) h fits = at_end nodes trees (node.Prefix op) a (Prefix op a) (λ own k. prefix op own a k) h
 grown nodes [] node.Paren h fits = absurd (omega arith)
 grown nodes (a ∷ trees) node.Paren h fits = at_end nodes trees node.Paren a (Paren a) (λ own k. paren own a k) h
 grown nodes [] (node.Binary op right) h fits = absurd (omega (arith, fits.0))
 grown nodes (b ∷ []) (node.Binary op right) h fits = absurd (omega (arith, fits.0))
 grown nodes (b ∷ a ∷ trees) (node.Binary op right) h fits = joined h fits.1
   where
-    joined : {ns : List Node} → SpellAll ns (b ∷ a ∷ trees) → right ≡ size b → SpellAll (ns ++ node.Binary op right ∷ []) (Binary (binary_tree op) a b ∷ trees)
+    joined : {ns : List Node} → SpellAll ns (b ∷ a ∷ trees) → right ≡ size b → SpellAll (ns ++ node.Binary op right ∷ []) (Binary op a b ∷ trees)
     joined (more both own_b _ _ h k) e = joined_after h k e
       where
-        joined_after : {both own_b : List Node} → SpellAll both (a ∷ trees) → Spells own_b b → right ≡ size b → SpellAll ((both ++ own_b) ++ node.Binary op right ∷ []) (Binary (binary_tree op) a b ∷ trees)
+        joined_after : {both own_b : List Node} → SpellAll both (a ∷ trees) → Spells own_b b → right ≡ size b → SpellAll ((both ++ own_b) ++ node.Binary op right ∷ []) (Binary op a b ∷ trees)
         joined_after {both} {own_b} (more before own_a _ _ h j) k e =
             let count : right ≡ length own_b = e ∙ sym (spelled_size k) in
-            let whole = more before ((own_a ++ own_b) ++ node.Binary op (length own_b) ∷ []) trees (Binary (binary_tree op) a b) h (binary op own_a own_b a b j k) in
-            subst (λ (ns : List Node). SpellAll ns (Binary (binary_tree op) a b ∷ trees)) (rw (count, append_assoc, append_assoc, append_assoc) refl) whole
+            let whole = more before ((own_a ++ own_b) ++ node.Binary op (length own_b) ∷ []) trees (Binary op a b) h (binary op own_a own_b a b j k) in
+            subst (λ (ns : List Node). SpellAll ns (Binary op a b ∷ trees)) (rw (count, append_assoc, append_assoc, append_assoc) refl) whole
 
 -- where memory is refused the nodes stay
 pub kept_whole : (ok : Bool) (old new : List Node) (n : Node) → new ≡ (if ok then old ++ n ∷ [] else old) → HasOperands (trees_after [] old) n → AreWhole old → AreWhole new
@@ -132,12 +131,12 @@ last_same (z ∷ xs) (w ∷ ys) x y e =
 -- what a node has before it, where both spell a tree
 Inside : List Node → Node → Expr → Type 0
 Inside before (node.Number value unsigned) e = e ≡ Number value unsigned
-Inside before (node.Named c) e = e ≡ Named (constant_tree c)
+Inside before (node.Named c) e = e ≡ Named c
 Inside before (node.Variable x) e = e ≡ Variable x
 Inside before (node.Element x) e = (i : Expr) × Spells before i × (e ≡ Element x i)
-Inside before (node.Prefix op) e = (a : Expr) × Spells before a × (e ≡ Prefix (prefix_tree op) a)
+Inside before (node.Prefix op) e = (a : Expr) × Spells before a × (e ≡ Prefix op a)
 Inside before (node.Binary op n) e =
-    (left : List Node) × (right : List Node) × (a : Expr) × (b : Expr) × (before ≡ left ++ right) × (n ≡ length right) × Spells left a × Spells right b × (e ≡ Binary (binary_tree op) a b)
+    (left : List Node) × (right : List Node) × (a : Expr) × (b : Expr) × (before ≡ left ++ right) × (n ≡ length right) × Spells left a × Spells right b × (e ≡ Binary op a b)
 Inside before node.Paren e = (a : Expr) × Spells before a × (e ≡ Paren a)
 
 inside_same : (before other : List Node) (n m : Node) (e : Expr) → Inside other m e → other ++ m ∷ [] ≡ before ++ n ∷ [] → Inside before n e
@@ -148,19 +147,28 @@ inside_same before other n m e h same =
 inside : {nodes : List Node} {e : Expr} → Spells nodes e → (before : List Node) (n : Node) → nodes ≡ before ++ n ∷ [] → Inside before n e
 unfolding Inside
 inside (number value unsigned) before n same = inside_same before [] n (node.Number value unsigned) (Number value unsigned) refl same
-inside (named c) before n same = inside_same before [] n (node.Named c) (Named (constant_tree c)) refl same
+inside (named c) before n same = inside_same before [] n (node.Named c) (Named c) refl same
 inside (variable x) before n same = inside_same before [] n (node.Variable x) (Variable x) refl same
 inside (element x own i h) before n same = inside_same before own n (node.Element x) (Element x i) (i, h, refl) same
-inside (prefix op own a h) before n same = inside_same before own n (node.Prefix op) (Prefix (prefix_tree op) a) (a, h, refl) same
+inside (prefix op own a h) before n same = inside_same before own n (node.Prefix op) (Prefix op a) (a, h, refl) same
 inside (paren own a h) before n same = inside_same before own n node.Paren (Paren a) (a, h, refl) same
 inside (binary op left right a b h k) before n same =
-    inside_same before (left ++ right) n (node.Binary op (length right)) (Binary (binary_tree op) a b) (left, right, a, b, refl, refl, h, k, refl) same
+    inside_same before (left ++ right) n (node.Binary op (length right)) (Binary op a b) (left, right, a, b, refl, refl, h, k, refl) same
 
 names_set : IsSet Identifier
 names_set = Prim.hlevel props
 
+constants_set : IsSet Constant
+constants_set = Prim.hlevel props
+
+prefixes_set : IsSet PrefixOp
+prefixes_set = Prim.hlevel props
+
+operators_set : IsSet BinaryOp
+operators_set = Prim.hlevel props
+
 trees_set : IsSet Expr
-trees_set = Prim.hlevel (props, Expr-set, names_set, Constant-set, PrefixOp-set, BinaryOp-set)
+trees_set = Prim.hlevel (props, Expr-set, names_set, constants_set, prefixes_set, operators_set)
 
 list_set : IsSet (List Expr)
 list_set = Prim.hlevel (props, trees_set)
@@ -186,7 +194,7 @@ module _ (nodes before : List Node) (n : Node) (same : nodes ≡ before ++ n ∷
   unfolding Inside
   alone_number value unsigned e = ∥∥₁_elim whole (trees_set _ _) (λ h. sym (subst (λ (m : Node). Inside before m (tree_of nodes)) e (inside h before n same)))
 
-  pub alone_named : (c : ConstantInMemory) → n ≡ node.Named c → Named (constant_tree c) ≡ tree_of nodes
+  pub alone_named : (c : Constant) → n ≡ node.Named c → Named c ≡ tree_of nodes
   unfolding Inside
   alone_named c e = ∥∥₁_elim whole (trees_set _ _) (λ h. sym (subst (λ (m : Node). Inside before m (tree_of nodes)) e (inside h before n same)))
 
@@ -206,7 +214,7 @@ module _ (nodes before : List Node) (n : Node) (same : nodes ≡ before ++ n ∷
   unfolding Inside
   element_parts x e t h = subst (λ (m : Node). Inside before m t) e h
 
-  prefix_parts : (op : PrefixInMemory) → n ≡ node.Prefix op → (e : Expr) → Inside before n e → (a : Expr) × Spells before a × (e ≡ Prefix (prefix_tree op) a)
+  prefix_parts : (op : PrefixOp) → n ≡ node.Prefix op → (e : Expr) → Inside before n e → (a : Expr) × Spells before a × (e ≡ Prefix op a)
   unfolding Inside
   prefix_parts op e t h = subst (λ (m : Node). Inside before m t) e h
 
@@ -220,11 +228,11 @@ module _ (nodes before : List Node) (n : Node) (same : nodes ≡ before ++ n ∷
   pub element_tree : (x : Identifier) → n ≡ node.Element x → Element x (tree_of before) ≡ tree_of nodes
   element_tree x e = one_tree (Element x) (element_parts x e)
 
-  pub prefix_whole : (op : PrefixInMemory) → n ≡ node.Prefix op → ∥ IsWhole before ∥₁
-  prefix_whole op e = one_whole (Prefix (prefix_tree op)) (prefix_parts op e)
+  pub prefix_whole : (op : PrefixOp) → n ≡ node.Prefix op → ∥ IsWhole before ∥₁
+  prefix_whole op e = one_whole (Prefix op) (prefix_parts op e)
 
-  pub prefix_tree_is : (op : PrefixInMemory) → n ≡ node.Prefix op → Prefix (prefix_tree op) (tree_of before) ≡ tree_of nodes
-  prefix_tree_is op e = one_tree (Prefix (prefix_tree op)) (prefix_parts op e)
+  pub prefix_tree_is : (op : PrefixOp) → n ≡ node.Prefix op → Prefix op (tree_of before) ≡ tree_of nodes
+  prefix_tree_is op e = one_tree (Prefix op) (prefix_parts op e)
 
   pub paren_whole : n ≡ node.Paren → ∥ IsWhole before ∥₁
   paren_whole e = one_whole Paren (paren_parts e)
@@ -233,19 +241,19 @@ module _ (nodes before : List Node) (n : Node) (same : nodes ≡ before ++ n ∷
   paren_tree e = one_tree Paren (paren_parts e)
 
   -- one with two: the nodes of the right one are as many as it says
-  two_parts : (op : BinaryInMemory) (m : ℕ) → n ≡ node.Binary op m → (e : Expr) → Inside before n e
-      → (left : List Node) × (right : List Node) × (a : Expr) × (b : Expr) × (before ≡ left ++ right) × (m ≡ length right) × Spells left a × Spells right b × (e ≡ Binary (binary_tree op) a b)
+  two_parts : (op : BinaryOp) (m : ℕ) → n ≡ node.Binary op m → (e : Expr) → Inside before n e
+      → (left : List Node) × (right : List Node) × (a : Expr) × (b : Expr) × (before ≡ left ++ right) × (m ≡ length right) × Spells left a × Spells right b × (e ≡ Binary op a b)
   unfolding Inside
   two_parts op m e t h = subst (λ (k : Node). Inside before k t) e h
 
-  pub two_within : (op : BinaryInMemory) (m : ℕ) → n ≡ node.Binary op m → m ≤ length before
+  pub two_within : (op : BinaryOp) (m : ℕ) → n ≡ node.Binary op m → m ≤ length before
   two_within op m e =
       let none : m - length before ≡ 0 = ∥∥₁_elim whole (ℕ_set _ _) (λ h. let p = two_parts op m e (tree_of nodes) (inside h before n same) in
       omega (arith, p.5, ap length p.4, length-append p.0 p.1)) in
       omega arith
 
   -- what is left and right of the place that it names
-  module _ (op : BinaryInMemory) (m : ℕ) (e : n ≡ node.Binary op m) (left right : List Node) (both : before ≡ left ++ right) (count : length right ≡ m) where
+  module _ (op : BinaryOp) (m : ℕ) (e : n ≡ node.Binary op m) (left right : List Node) (both : before ≡ left ++ right) (count : length right ≡ m) where
     parted : (own_left own_right : List Node) → before ≡ own_left ++ own_right → m ≡ length own_right → (own_left ≡ left) × (own_right ≡ right)
     parted own_left own_right b c = same_ends own_left own_right left right (sym b ∙ both) (sym c ∙ sym count)
 
@@ -255,11 +263,11 @@ module _ (nodes before : List Node) (n : Node) (same : nodes ≡ before ++ n ∷
     pub right_whole : ∥ IsWhole right ∥₁
     right_whole = ∥∥₁_map whole (λ h. let p = two_parts op m e (tree_of nodes) (inside h before n same) in subst IsWhole (parted p.0 p.1 p.4 p.5).1 (is_whole p.7))
 
-    pub two_tree : Binary (binary_tree op) (tree_of left) (tree_of right) ≡ tree_of nodes
+    pub two_tree : Binary op (tree_of left) (tree_of right) ≡ tree_of nodes
     two_tree =
         ∥∥₁_elim whole (trees_set _ _) (λ h. let p = two_parts op m e (tree_of nodes) (inside h before n same) in
         let q = parted p.0 p.1 p.4 p.5 in
-        ap₂ (Binary (binary_tree op)) (ap tree_of (sym q.0) ∙ tree_is p.6) (ap tree_of (sym q.1) ∙ tree_is p.7) ∙ sym p.8)
+        ap₂ (Binary op) (ap tree_of (sym q.0) ∙ tree_is p.6) (ap tree_of (sym q.1) ∙ tree_is p.7) ∙ sym p.8)
 
 pub parts : (k : ℕ) {xs front back : List Node} → front ≡ take k xs → back ≡ drop k xs → xs ≡ front ++ back
 parts k {xs} {front} {back} a b = sym (take-append-drop k xs) ∙ ap₂ ◌++◌ (sym a) (sym b)

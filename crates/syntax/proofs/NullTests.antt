@@ -5,7 +5,9 @@ use Rattle.base.specs.Bytes.{Identifier}
 use Rattle.syntax.specs.declared.null_test.NullTest.{NullTest as InMemory}
 use Rattle.syntax.specs.NullTests.{NullTest, null_test_of, null_test_value}
 use Rattle.syntax.specs.Parts.{null_tested}
-use Rattle.syntax.specs.Tree.{Expr, Named, Null, Variable, Binary, Equal, NotEqual}
+use Rattle.syntax.specs.declared.expr.BinaryOp.TheVariants.{Equal, NotEqual}
+use Rattle.syntax.specs.declared.expr.Constant.TheVariants.{Null}
+use Rattle.syntax.specs.Tree.{Expr, Named, Variable, Binary}
 
 abbrev name_of : Option NullTest → Option Identifier
 name_of o = option_map (λ t. t.name) o

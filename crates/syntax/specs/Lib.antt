@@ -1,7 +1,6 @@
 pub mod Tree
 pub mod Parts
 pub mod Limits
-pub mod Operators
 pub mod Nodes
 pub mod Views
 pub mod NullTests

@@ -4,7 +4,9 @@ use Rattle.std.specs.List.{list_all}
 use Rattle.base.specs.Limits.{most_elements, most_functions, most_names, most_statics}
 pub use Rattle.base.specs.Numbers.{number_limit}
 use Rattle.syntax.specs.Parts.{functions_of, statics_of, statements_of, own_expressions, own_arguments, names_declared, parameter_names}
-use Rattle.syntax.specs.Tree.{BinaryOp, LogicalOr, LogicalAnd, BitOr, BitXor, BitAnd, Equal, NotEqual, Less, LessEqual, Greater, GreaterEqual, ShiftLeft, ShiftRight, Add, Subtract, Multiply, Divide, Remainder, Expr, Number, Named, Variable, Element, Prefix, Binary, Paren, Argument, Text, Stmt, DeclareArray, AssignElement, If, IfElse, While, Return, ReturnValue, Block, End, Next, SourceUnit}
+use Rattle.syntax.specs.declared.expr.BinaryOp.{BinaryOp}
+use Rattle.syntax.specs.declared.expr.BinaryOp.TheVariants.{LogicalOr, LogicalAnd, BitOr, BitXor, BitAnd, Equal, NotEqual, Less, LessEqual, Greater, GreaterEqual, ShiftLeft, ShiftRight, Add, Subtract, Multiply, Divide, Remainder}
+use Rattle.syntax.specs.Tree.{Expr, Number, Named, Variable, Element, Prefix, Binary, Paren, Argument, Text, Stmt, DeclareArray, AssignElement, If, IfElse, While, Return, ReturnValue, Block, End, Next, SourceUnit}
 
 -- ---- levels
 

@@ -5,10 +5,9 @@ use Rattle.syntax.specs.declared.node.Node.{Node}
 use Rattle.syntax.specs.declared.node.Node.TheVariants as node
 use Rattle.syntax.specs.declared.node.Held.{Held}
 use Rattle.syntax.specs.declared.node.Held.TheVariants as held
-use Rattle.syntax.specs.declared.expr.Constant.{Constant as ConstantInMemory}
-use Rattle.syntax.specs.declared.expr.PrefixOp.{PrefixOp as PrefixInMemory}
-use Rattle.syntax.specs.declared.expr.BinaryOp.{BinaryOp as BinaryInMemory}
-use Rattle.syntax.specs.Operators.{constant_tree, prefix_tree, binary_tree}
+use Rattle.syntax.specs.declared.expr.Constant.{Constant}
+use Rattle.syntax.specs.declared.expr.PrefixOp.{PrefixOp}
+use Rattle.syntax.specs.declared.expr.BinaryOp.{BinaryOp}
 use Rattle.syntax.specs.Tree.{Expr, Number, Named, Variable, Element, Prefix, Binary, Paren}
 
 -- how many numbers, names, constants, operators and parentheses an expression has
@@ -47,11 +46,11 @@ on_two f (b ∷ a ∷ before) = f a b ∷ before
 -- the trees after one more node
 abbrev pub onto : List Expr → Node → List Expr
 onto before (node.Number value unsigned) = Number value unsigned ∷ before
-onto before (node.Named c) = Named (constant_tree c) ∷ before
+onto before (node.Named c) = Named c ∷ before
 onto before (node.Variable x) = Variable x ∷ before
 onto before (node.Element x) = on_top (Element x) before
-onto before (node.Prefix op) = on_top (Prefix (prefix_tree op)) before
-onto before (node.Binary op right) = on_two (Binary (binary_tree op)) before
+onto before (node.Prefix op) = on_top (Prefix op) before
+onto before (node.Binary op right) = on_two (Binary op) before
 onto before node.Paren = on_top Paren before
 
 -- whether the trees so far are what a node needs: its operands, the right one with as many nodes as it says
@@ -76,12 +75,12 @@ tree_of nodes = top (trees_after [] nodes)
 -- nodes that spell this tree, each after those of its operands, and an operator with the number of those of its right one
 pub data Spells : List Node → Expr → Type 0 where
   number : (value : ℕ) (unsigned : Bool) → Spells (node.Number value unsigned ∷ []) (Number value unsigned)
-  named : (c : ConstantInMemory) → Spells (node.Named c ∷ []) (Named (constant_tree c))
+  named : (c : Constant) → Spells (node.Named c ∷ []) (Named c)
   variable : (x : Identifier) → Spells (node.Variable x ∷ []) (Variable x)
   element : (x : Identifier) (before : List Node) (i : Expr) → Spells before i → Spells (before ++ node.Element x ∷ []) (Element x i)
-  prefix : (op : PrefixInMemory) (before : List Node) (a : Expr) → Spells before a → Spells (before ++ node.Prefix op ∷ []) (Prefix (prefix_tree op) a)
-  binary : (op : BinaryInMemory) (left right : List Node) (a b : Expr) → Spells left a → Spells right b
-      → Spells ((left ++ right) ++ node.Binary op (length right) ∷ []) (Binary (binary_tree op) a b)
+  prefix : (op : PrefixOp) (before : List Node) (a : Expr) → Spells before a → Spells (before ++ node.Prefix op ∷ []) (Prefix op a)
+  binary : (op : BinaryOp) (left right : List Node) (a b : Expr) → Spells left a → Spells right b
+      → Spells ((left ++ right) ++ node.Binary op (length right) ∷ []) (Binary op a b)
   paren : (before : List Node) (a : Expr) → Spells before a → Spells (before ++ node.Paren ∷ []) (Paren a)
 
 -- nodes that spell a tree, with nothing beside it

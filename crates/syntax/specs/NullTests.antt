@@ -2,7 +2,9 @@
 use Rattle.std.specs.Prelude.{Bool, true, false, Option, Some, None}
 use Rattle.base.specs.Bytes.{Identifier}
 use Rattle.syntax.specs.declared.null_test.NullTest.{NullTest as InMemory}
-use Rattle.syntax.specs.Tree.{Expr, Named, Null, Variable, Binary, Equal, NotEqual}
+use Rattle.syntax.specs.declared.expr.BinaryOp.TheVariants.{Equal, NotEqual}
+use Rattle.syntax.specs.declared.expr.Constant.TheVariants.{Null}
+use Rattle.syntax.specs.Tree.{Expr, Named, Variable, Binary}
 
 -- `x == NULL`, or `x != NULL` where it isn't by `==`
 pub record NullTest : Type 0 where

@@ -5,7 +5,6 @@ use Rattle.syntax.specs.declared.expr_ref.Shape.{Shape}
 use Rattle.syntax.specs.declared.expr_ref.Shape.TheVariants as shape
 use Rattle.syntax.specs.Tree.{Expr, Number, Named, Variable, Element, Prefix, Binary, Paren}
 use Rattle.syntax.specs.Nodes.{size, tree_of}
-use Rattle.syntax.specs.Operators.{constant_tree, prefix_tree, binary_tree}
 
 -- the tree of a part of an expression
 unfoldable pub ref_tree : ExprRef → Expr
@@ -14,11 +13,11 @@ ref_tree r = tree_of r.nodes.now
 -- what is at the top, over what is inside
 abbrev pub shape_tree : Shape → Expr
 shape_tree (shape.Number value unsigned) = Number value unsigned
-shape_tree (shape.Named c) = Named (constant_tree c)
+shape_tree (shape.Named c) = Named c
 shape_tree (shape.Variable x) = Variable x.now
 shape_tree (shape.Element x i) = Element x.now (ref_tree i)
-shape_tree (shape.Prefix op a) = Prefix (prefix_tree op) (ref_tree a)
-shape_tree (shape.Binary op a b) = Binary (binary_tree op) (ref_tree a) (ref_tree b)
+shape_tree (shape.Prefix op a) = Prefix op (ref_tree a)
+shape_tree (shape.Binary op a b) = Binary op (ref_tree a) (ref_tree b)
 shape_tree (shape.Paren a) = Paren (ref_tree a)
 
 -- what is inside is smaller than this

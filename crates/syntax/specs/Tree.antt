@@ -1,48 +1,14 @@
 -- The syntax tree of a program text, without where it lies in memory.
 use Rattle.std.specs.Prelude.{ℕ, Bool, List}
 use Rattle.base.specs.Bytes.{Identifier}
-use Rattle.base.specs.Element.{ElementType}
-
--- the reference types of the JNI, each a word of its own, all of one type
-pub data ReferenceType : Type 0 where
-  JObject JClass JString JArray JThrowable JIntArray JShortArray JByteArray JCharArray JObjectArray : ReferenceType
-
--- the named constants
-pub data Constant : Type 0 where
-  True False Commit Abort Null : Constant
-  deriving IsSet as Constant-set
-
--- what a function returns
-pub data ResultType : Type 0 where
-  Void : ResultType
-  IntResult : ResultType
-  ReferenceResult : ReferenceType → ResultType
-
--- the types that a parameter may have
-pub data ParameterType : Type 0 where
-  IntParameter : ParameterType
-  ReferenceParameter : ReferenceType → ParameterType
-
--- the types that a declared scalar, reference, field ID or method ID may have
-pub data VariableType : Type 0 where
-  UInt32 JIntVariable JSize JBoolean JFieldId JMethodId : VariableType
-  ReferenceVariable : ReferenceType → VariableType
-
--- the types that a static may have; a weak global reference doesn't keep its object
-pub data StaticType : Type 0 where
-  ReferenceStatic : ReferenceType → StaticType
-  WeakStatic : StaticType
-
--- the operators in front of an operand, and the casts
-pub data PrefixOp : Type 0 where
-  LogicalNot Complement ToWord ToInt : PrefixOp
-  deriving IsSet as PrefixOp-set
-
--- the operators between two operands
-pub data BinaryOp : Type 0 where
-  LogicalOr LogicalAnd BitOr BitXor BitAnd Equal NotEqual Less LessEqual Greater GreaterEqual : BinaryOp
-  ShiftLeft ShiftRight Add Subtract Multiply Divide Remainder : BinaryOp
-  deriving IsSet as BinaryOp-set
+use Rattle.base.specs.declared.element.ElementType.{ElementType}
+use Rattle.syntax.specs.declared.declared_type.ParameterType.{ParameterType}
+use Rattle.syntax.specs.declared.declared_type.VariableType.{VariableType}
+use Rattle.syntax.specs.declared.declared_type.StaticType.{StaticType}
+use Rattle.syntax.specs.declared.unit.ResultType.{ResultType}
+use Rattle.syntax.specs.declared.expr.PrefixOp.{PrefixOp}
+use Rattle.syntax.specs.declared.expr.BinaryOp.{BinaryOp}
+use Rattle.syntax.specs.declared.expr.Constant.{Constant}
 
 -- an expression; parentheses are kept
 pub data Expr : Type 0 where

@@ -19,7 +19,6 @@ impl ExprStack {
     ghost use Rattle.std.specs.Prelude.{◌≡◌, ◌≤◌, ◌<◌, [], ◌∷◌, length, IfOk, OnOk};
     ghost use Rattle.std.specs.List.{sum_by};
     ghost use Rattle.syntax.specs.Nodes.{size, top, before_top, on_top, on_two, onto, HasOperands};
-    ghost use Rattle.syntax.specs.Operators.{constant_tree, prefix_tree, binary_tree};
     ghost use Rattle.syntax.specs.Stacks.{stacked};
     ghost use Rattle.syntax.specs.Tree.{Number, Named, Variable, Element, Prefix, Binary, Paren};
     ghost use Rattle.syntax.specs.Views.{expr_tree};
@@ -65,7 +64,7 @@ impl ExprStack {
 
     /// Adds a named constant.
     pub fn named(&mut self, constant: Constant) -> Result<(), AllocError>
-        ensures { OnOk result (stacked self.new ≡ Named (constant_tree constant) ∷ stacked self.old) }
+        ensures { OnOk result (stacked self.new ≡ Named constant ∷ stacked self.old) }
     {
         self.add(Node::Named(constant))
     }
@@ -88,7 +87,7 @@ impl ExprStack {
     /// Puts an operator, or a cast, in front of the last expression.
     pub fn prefix(&mut self, op: PrefixOp) -> Result<(), AllocError>
         requires { 1 ≤ length (stacked self.old) }
-        ensures { OnOk result (stacked self.new ≡ on_top (Prefix (prefix_tree op)) (stacked self.old)) }
+        ensures { OnOk result (stacked self.new ≡ on_top (Prefix op) (stacked self.old)) }
     {
         self.add(Node::Prefix(op))
     }
@@ -105,7 +104,7 @@ impl ExprStack {
     pub fn binary(&mut self, op: BinaryOp, start: usize) -> Result<(), AllocError>
         requires two { 2 ≤ length (stacked self.old) }
         requires start { start ≡ sum_by size (before_top (stacked self.old)) }
-        ensures { OnOk result (stacked self.new ≡ on_two (Binary (binary_tree op)) (stacked self.old)) }
+        ensures { OnOk result (stacked self.new ≡ on_two (Binary op) (stacked self.old)) }
     {
         let right = self.nodes.len() - start;
         self.add(Node::Binary { op, right })

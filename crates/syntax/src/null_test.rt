@@ -5,8 +5,8 @@ ghost use Rattle.std.specs.Option.{option_map};
 ghost use Rattle.syntax.specs.NullTests.{null_test_of, null_test_value};
 ghost use Rattle.syntax.specs.Parts.{null_tested};
 ghost use Rattle.syntax.specs.Shapes.{ref_tree};
-ghost use Rattle.syntax.specs.Tree.{Binary, Equal, NotEqual};
-ghost use Rattle.syntax.specs.Views.{binary_tree};
+ghost use Rattle.syntax.specs.declared.expr.BinaryOp.TheVariants.{Equal, NotEqual};
+ghost use Rattle.syntax.specs.Tree.{Binary};
 
 use crate::expr::{BinaryOp, Constant};
 use crate::expr_ref::{ExprRef, Shape};
@@ -36,7 +36,7 @@ fn with_null<'a>(left: ExprRef<'a>, right: ExprRef<'_>, equal: bool) -> Option<N
 
 /// The test of a name against NULL that this operator makes of its operands, if it makes one.
 fn comparison<'a>(op: BinaryOp, left: ExprRef<'a>, right: ExprRef<'_>) -> Option<NullTest<'a>>
-    ensures { option_map null_test_value result ≡ null_test_of (Binary (binary_tree op) (ref_tree left.entry) (ref_tree right.entry)) }
+    ensures { option_map null_test_value result ≡ null_test_of (Binary op (ref_tree left.entry) (ref_tree right.entry)) }
 {
     match op {
         BinaryOp::Equal => with_null(left, right, true),

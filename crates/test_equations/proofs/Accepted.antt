@@ -1,7 +1,11 @@
 -- The cases of texts/accepted.cases, as gate/worked_equations writes them.
 use Rattle.std.specs.Prelude.{◌∷◌, true, false, [], codes, refl}
-use Rattle.base.specs.Element.{JInt}
-use Rattle.syntax.specs.Tree.{AssignElement, Binary, DeclareBuffer, Equal, FromCall, If, IfElse, JIntArray, Named, Null, Number, Perform, Return, SourceUnit, TestExpr, Value, Variable, Void}
+use Rattle.base.specs.declared.element.ElementType.TheVariants.{Int as JInt}
+use Rattle.syntax.specs.declared.declared_type.ReferenceType.TheVariants.{IntArray as JIntArray}
+use Rattle.syntax.specs.declared.unit.ResultType.TheVariants.{Void}
+use Rattle.syntax.specs.declared.expr.Constant.TheVariants.{Null}
+use Rattle.syntax.specs.declared.expr.BinaryOp.TheVariants.{Equal}
+use Rattle.syntax.specs.Tree.{Number, Named, Variable, Binary, Value, FromCall, TestExpr, DeclareBuffer, AssignElement, Perform, If, IfElse, Return, SourceUnit}
 use Rattle.test_equations.specs.Claims.{IsAccepted}
 use Rattle.test_equations.proofs.Programs.{unit_of, native, block, reference_parameter, call, given}
 use Rattle.test_equations.proofs.Computed.{opened, accepted}

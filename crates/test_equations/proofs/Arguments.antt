@@ -1,7 +1,10 @@
 -- The cases of texts/arguments.cases, as gate/worked_equations writes them.
 use Rattle.std.specs.Prelude.{◌∷◌, pos, false, [], Some, None, codes, refl}
-use Rattle.base.specs.Element.{JInt}
-use Rattle.syntax.specs.Tree.{Declare, FromCall, JIntArray, JIntVariable, JObject, PutJint, Return, SourceUnit, Variable, Void}
+use Rattle.base.specs.declared.element.ElementType.TheVariants.{Int as JInt}
+use Rattle.syntax.specs.declared.declared_type.ReferenceType.TheVariants.{Object as JObject, IntArray as JIntArray}
+use Rattle.syntax.specs.declared.declared_type.VariableType.TheVariants.{Jint as JIntVariable}
+use Rattle.syntax.specs.declared.unit.ResultType.TheVariants.{Void}
+use Rattle.syntax.specs.Tree.{Variable, FromCall, Declare, PutJint, Return, SourceUnit}
 use Rattle.semantics.specs.declared.schedule.ScheduleWord.TheVariants.{Turn}
 use Rattle.semantics.specs.World.{World}
 use Rattle.world_values.specs.WorldLines.{NumberValue, NullValue, NamedObject, NamedClass, ClassLine, ArrayLine, ThreadLine, Lines}

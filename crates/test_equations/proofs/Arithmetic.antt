@@ -1,6 +1,9 @@
 -- The cases of texts/arithmetic.cases, as gate/worked_equations writes them.
 use Rattle.std.specs.Prelude.{◌∷◌, true, false, [], Some, None, codes, refl}
-use Rattle.syntax.specs.Tree.{Add, Binary, IntResult, Multiply, Number, Paren, Prefix, PutJint, Return, ReturnValue, SourceUnit, Subtract, ToInt, Void}
+use Rattle.syntax.specs.declared.unit.ResultType.TheVariants.{Void, Jint as IntResult}
+use Rattle.syntax.specs.declared.expr.PrefixOp.TheVariants.{ToInt}
+use Rattle.syntax.specs.declared.expr.BinaryOp.TheVariants.{Add, Subtract, Multiply}
+use Rattle.syntax.specs.Tree.{Number, Prefix, Binary, Paren, PutJint, Return, ReturnValue, SourceUnit}
 use Rattle.semantics.specs.declared.schedule.ScheduleWord.TheVariants.{Turn}
 use Rattle.semantics.specs.World.{World}
 use Rattle.world_values.specs.WorldLines.{ClassLine, ThreadLine, Lines}

@@ -1,7 +1,13 @@
 -- The cases of texts/array_faults.cases, as gate/worked_equations writes them.
 use Rattle.std.specs.Prelude.{◌∷◌, pos, true, false, [], Some, None, codes, refl}
-use Rattle.base.specs.Element.{JInt, JShort, JByte, JChar}
-use Rattle.syntax.specs.Tree.{AssignElement, Binary, Complement, Declare, DeclareArray, DeclareBuffer, Element, Equal, FromCall, If, JArray, JByteArray, JCharArray, JShortArray, Named, NotEqual, Null, Number, Perform, Prefix, PutJint, ReferenceVariable, Return, SourceUnit, TestExpr, ToInt, Value, Variable, Void}
+use Rattle.base.specs.declared.element.ElementType.TheVariants.{Int as JInt, Short as JShort, Byte as JByte, Char as JChar}
+use Rattle.syntax.specs.declared.declared_type.ReferenceType.TheVariants.{Array as JArray, ShortArray as JShortArray, ByteArray as JByteArray, CharArray as JCharArray}
+use Rattle.syntax.specs.declared.declared_type.VariableType.TheVariants.{Reference as ReferenceVariable}
+use Rattle.syntax.specs.declared.unit.ResultType.TheVariants.{Void}
+use Rattle.syntax.specs.declared.expr.Constant.TheVariants.{Null}
+use Rattle.syntax.specs.declared.expr.PrefixOp.TheVariants.{Complement, ToInt}
+use Rattle.syntax.specs.declared.expr.BinaryOp.TheVariants.{Equal, NotEqual}
+use Rattle.syntax.specs.Tree.{Number, Named, Variable, Element, Prefix, Binary, Value, FromCall, TestExpr, Declare, DeclareBuffer, DeclareArray, AssignElement, Perform, PutJint, If, Return, SourceUnit}
 use Rattle.semantics.specs.declared.schedule.ScheduleWord.TheVariants.{Turn}
 use Rattle.semantics.specs.World.{World}
 use Rattle.world_values.specs.WorldLines.{NumberValue, NamedObject, ClassLine, ArrayLine, ThreadLine, Lines}

@@ -1,7 +1,11 @@
 -- The cases of texts/array_regions.cases, as gate/worked_equations writes them.
 use Rattle.std.specs.Prelude.{◌∷◌, ◌++◌, pos, true, false, [], Some, None, codes, refl}
-use Rattle.base.specs.Element.{JInt, JShort, JByte, JChar}
-use Rattle.syntax.specs.Tree.{AssignElement, Complement, Declare, DeclareArray, Element, FromCall, FromExpr, JByteArray, JCharArray, JIntArray, JIntVariable, JShortArray, JString, JThrowable, Number, Perform, Prefix, PutJint, ReferenceVariable, Return, SourceUnit, ToInt, Value, Variable, Void}
+use Rattle.base.specs.declared.element.ElementType.TheVariants.{Int as JInt, Short as JShort, Byte as JByte, Char as JChar}
+use Rattle.syntax.specs.declared.declared_type.ReferenceType.TheVariants.{String as JString, Throwable as JThrowable, IntArray as JIntArray, ShortArray as JShortArray, ByteArray as JByteArray, CharArray as JCharArray}
+use Rattle.syntax.specs.declared.declared_type.VariableType.TheVariants.{Jint as JIntVariable, Reference as ReferenceVariable}
+use Rattle.syntax.specs.declared.unit.ResultType.TheVariants.{Void}
+use Rattle.syntax.specs.declared.expr.PrefixOp.TheVariants.{Complement, ToInt}
+use Rattle.syntax.specs.Tree.{Number, Variable, Element, Prefix, Value, FromExpr, FromCall, Declare, DeclareArray, AssignElement, Perform, PutJint, Return, SourceUnit}
 use Rattle.semantics.specs.declared.schedule.ScheduleWord.TheVariants.{Turn}
 use Rattle.semantics.specs.World.{World}
 use Rattle.world_values.specs.WorldLines.{NumberValue, NamedObject, ClassLine, ArrayLine, StringLine, ThreadLine, Lines}

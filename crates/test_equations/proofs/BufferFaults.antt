@@ -1,7 +1,12 @@
 -- The cases of texts/buffer_faults.cases, as gate/worked_equations writes them.
 use Rattle.std.specs.Prelude.{◌∷◌, true, false, [], codes, refl}
-use Rattle.base.specs.Element.{JInt}
-use Rattle.syntax.specs.Tree.{Assign, AssignElement, Binary, Commit, Declare, DeclareBuffer, Element, Equal, FromCall, FromExpr, If, JIntArray, JObject, Named, NotEqual, Null, Number, Perform, PutJint, ReferenceVariable, Return, SourceUnit, TestCall, TestExpr, Value, Variable, Void}
+use Rattle.base.specs.declared.element.ElementType.TheVariants.{Int as JInt}
+use Rattle.syntax.specs.declared.declared_type.ReferenceType.TheVariants.{Object as JObject, IntArray as JIntArray}
+use Rattle.syntax.specs.declared.declared_type.VariableType.TheVariants.{Reference as ReferenceVariable}
+use Rattle.syntax.specs.declared.unit.ResultType.TheVariants.{Void}
+use Rattle.syntax.specs.declared.expr.Constant.TheVariants.{Commit, Null}
+use Rattle.syntax.specs.declared.expr.BinaryOp.TheVariants.{Equal, NotEqual}
+use Rattle.syntax.specs.Tree.{Number, Named, Variable, Element, Binary, Value, FromExpr, FromCall, TestExpr, TestCall, Declare, DeclareBuffer, Assign, AssignElement, Perform, PutJint, If, Return, SourceUnit}
 use Rattle.region_rules.specs.declared.rule.RegionRule.TheVariants.{CallWhileCritical, HeldBuffer, UntestedBuffer, WrongBuffer, ArrayInUse}
 use Rattle.test_equations.specs.Claims.{IsRefused}
 use Rattle.test_equations.proofs.Programs.{unit_of, native, block, static_reference, reference_parameter, call, given}

@@ -1,7 +1,12 @@
 -- The cases of texts/buffers_checked.cases, as gate/worked_equations writes them.
 use Rattle.std.specs.Prelude.{◌∷◌, pos, true, false, [], Some, None, codes, refl}
-use Rattle.base.specs.Element.{JInt, JShort, JChar}
-use Rattle.syntax.specs.Tree.{AssignElement, Binary, Declare, DeclareBuffer, DeclareChars, Element, Equal, FromCall, If, JClass, JIntArray, JObject, JString, LogicalAnd, Named, NotEqual, Null, Number, Perform, PutJint, ReferenceVariable, Return, SourceUnit, TestExpr, Text, Value, Variable, Void, While}
+use Rattle.base.specs.declared.element.ElementType.TheVariants.{Int as JInt, Short as JShort, Char as JChar}
+use Rattle.syntax.specs.declared.declared_type.ReferenceType.TheVariants.{Object as JObject, Class as JClass, String as JString, IntArray as JIntArray}
+use Rattle.syntax.specs.declared.declared_type.VariableType.TheVariants.{Reference as ReferenceVariable}
+use Rattle.syntax.specs.declared.unit.ResultType.TheVariants.{Void}
+use Rattle.syntax.specs.declared.expr.Constant.TheVariants.{Null}
+use Rattle.syntax.specs.declared.expr.BinaryOp.TheVariants.{LogicalAnd, Equal, NotEqual}
+use Rattle.syntax.specs.Tree.{Number, Named, Variable, Element, Binary, Value, Text, FromCall, TestExpr, Declare, DeclareBuffer, DeclareChars, AssignElement, Perform, PutJint, If, While, Return, SourceUnit}
 use Rattle.semantics.specs.declared.schedule.ScheduleWord.TheVariants.{Turn}
 use Rattle.semantics.specs.World.{World}
 use Rattle.world_values.specs.WorldLines.{NumberValue, NullValue, NamedObject, ClassLine, ArrayLine, ThreadLine, Lines}

@@ -1,7 +1,12 @@
 -- The cases of texts/buffers_copied.cases, as gate/worked_equations writes them.
 use Rattle.std.specs.Prelude.{◌∷◌, pos, false, [], Some, None, codes, refl}
-use Rattle.base.specs.Element.{JInt}
-use Rattle.syntax.specs.Tree.{Abort, AssignElement, Binary, Commit, Declare, DeclareArray, DeclareBuffer, FromCall, If, JIntArray, JIntVariable, JObject, Named, NotEqual, Null, Number, Perform, ReferenceVariable, Return, SourceUnit, TestExpr, Value, Variable, Void}
+use Rattle.base.specs.declared.element.ElementType.TheVariants.{Int as JInt}
+use Rattle.syntax.specs.declared.declared_type.ReferenceType.TheVariants.{Object as JObject, IntArray as JIntArray}
+use Rattle.syntax.specs.declared.declared_type.VariableType.TheVariants.{Jint as JIntVariable, Reference as ReferenceVariable}
+use Rattle.syntax.specs.declared.unit.ResultType.TheVariants.{Void}
+use Rattle.syntax.specs.declared.expr.Constant.TheVariants.{Commit, Abort, Null}
+use Rattle.syntax.specs.declared.expr.BinaryOp.TheVariants.{NotEqual}
+use Rattle.syntax.specs.Tree.{Number, Named, Variable, Binary, Value, FromCall, TestExpr, Declare, DeclareBuffer, DeclareArray, AssignElement, Perform, If, Return, SourceUnit}
 use Rattle.semantics.specs.declared.schedule.ScheduleWord.TheVariants.{Turn}
 use Rattle.semantics.specs.World.{World}
 use Rattle.world_values.specs.WorldLines.{NumberValue, NamedObject, ClassLine, ArrayLine, ThreadLine, Lines}

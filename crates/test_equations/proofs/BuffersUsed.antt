@@ -1,7 +1,13 @@
 -- The cases of texts/buffers_used.cases, as gate/worked_equations writes them.
 use Rattle.std.specs.Prelude.{◌∷◌, pos, true, false, [], Some, None, codes, refl}
-use Rattle.base.specs.Element.{JInt, JByte, JChar}
-use Rattle.syntax.specs.Tree.{Abort, AddressOf, AssignElement, Binary, Commit, Complement, Declare, DeclareArray, DeclareBuffer, DeclareChars, Element, False, FromCall, FromExpr, If, JBoolean, JByteArray, JCharArray, JIntArray, JIntVariable, JString, Named, NotEqual, Null, Number, Perform, Prefix, PutJint, Return, SourceUnit, TestExpr, ToInt, Value, Variable, Void}
+use Rattle.base.specs.declared.element.ElementType.TheVariants.{Int as JInt, Byte as JByte, Char as JChar}
+use Rattle.syntax.specs.declared.declared_type.ReferenceType.TheVariants.{String as JString, IntArray as JIntArray, ByteArray as JByteArray, CharArray as JCharArray}
+use Rattle.syntax.specs.declared.declared_type.VariableType.TheVariants.{Jint as JIntVariable, Jboolean as JBoolean}
+use Rattle.syntax.specs.declared.unit.ResultType.TheVariants.{Void}
+use Rattle.syntax.specs.declared.expr.Constant.TheVariants.{False, Commit, Abort, Null}
+use Rattle.syntax.specs.declared.expr.PrefixOp.TheVariants.{Complement, ToInt}
+use Rattle.syntax.specs.declared.expr.BinaryOp.TheVariants.{NotEqual}
+use Rattle.syntax.specs.Tree.{Number, Named, Variable, Element, Prefix, Binary, Value, AddressOf, FromExpr, FromCall, TestExpr, Declare, DeclareBuffer, DeclareChars, DeclareArray, AssignElement, Perform, PutJint, If, Return, SourceUnit}
 use Rattle.semantics.specs.declared.schedule.ScheduleWord.TheVariants.{Turn}
 use Rattle.semantics.specs.World.{World}
 use Rattle.world_values.specs.WorldLines.{NumberValue, NamedObject, ClassLine, ArrayLine, StringLine, ThreadLine, Lines}

@@ -1,7 +1,11 @@
 -- The cases of texts/control.cases, as gate/worked_equations writes them.
 use Rattle.std.specs.Prelude.{◌∷◌, true, false, [], Some, None, codes, refl}
-use Rattle.base.specs.Element.{JByte}
-use Rattle.syntax.specs.Tree.{Add, Assign, AssignElement, Binary, Declare, DeclareArray, Divide, Element, Equal, FromExpr, If, Less, LogicalAnd, Number, Prefix, PutJint, Return, SourceUnit, TestExpr, ToInt, UInt32, Variable, Void, While}
+use Rattle.base.specs.declared.element.ElementType.TheVariants.{Byte as JByte}
+use Rattle.syntax.specs.declared.declared_type.VariableType.TheVariants.{Uint32 as UInt32}
+use Rattle.syntax.specs.declared.unit.ResultType.TheVariants.{Void}
+use Rattle.syntax.specs.declared.expr.PrefixOp.TheVariants.{ToInt}
+use Rattle.syntax.specs.declared.expr.BinaryOp.TheVariants.{LogicalAnd, Equal, Less, Add, Divide}
+use Rattle.syntax.specs.Tree.{Number, Variable, Element, Prefix, Binary, FromExpr, TestExpr, Declare, DeclareArray, Assign, AssignElement, PutJint, If, While, Return, SourceUnit}
 use Rattle.semantics.specs.declared.schedule.ScheduleWord.TheVariants.{Turn}
 use Rattle.semantics.specs.World.{World}
 use Rattle.world_values.specs.WorldLines.{ClassLine, ThreadLine, Lines}

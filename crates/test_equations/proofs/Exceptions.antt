@@ -1,6 +1,11 @@
 -- The cases of texts/exceptions.cases, as gate/worked_equations writes them.
 use Rattle.std.specs.Prelude.{◌∷◌, false, [], Some, None, codes, refl}
-use Rattle.syntax.specs.Tree.{Binary, Declare, FromCall, If, JClass, JIntVariable, Named, NotEqual, Null, ReferenceVariable, Return, SourceUnit, TestExpr, Text, Variable, Void}
+use Rattle.syntax.specs.declared.declared_type.ReferenceType.TheVariants.{Class as JClass}
+use Rattle.syntax.specs.declared.declared_type.VariableType.TheVariants.{Jint as JIntVariable, Reference as ReferenceVariable}
+use Rattle.syntax.specs.declared.unit.ResultType.TheVariants.{Void}
+use Rattle.syntax.specs.declared.expr.Constant.TheVariants.{Null}
+use Rattle.syntax.specs.declared.expr.BinaryOp.TheVariants.{NotEqual}
+use Rattle.syntax.specs.Tree.{Named, Variable, Binary, Text, FromCall, TestExpr, Declare, If, Return, SourceUnit}
 use Rattle.semantics.specs.declared.schedule.ScheduleWord.TheVariants.{Turn}
 use Rattle.semantics.specs.World.{World}
 use Rattle.world_values.specs.WorldLines.{ClassLine, ThreadLine, Lines}

@@ -1,6 +1,11 @@
 -- The cases of texts/frames.cases, as gate/worked_equations writes them.
 use Rattle.std.specs.Prelude.{◌∷◌, true, false, [], Some, None, codes, refl}
-use Rattle.syntax.specs.Tree.{Add, Assign, Binary, Declare, FromCall, FromExpr, If, JIntArray, JIntVariable, JObject, Less, Named, Null, Number, PutJint, ReferenceVariable, Return, SourceUnit, TestCall, UInt32, Value, Variable, Void, While}
+use Rattle.syntax.specs.declared.declared_type.ReferenceType.TheVariants.{Object as JObject, IntArray as JIntArray}
+use Rattle.syntax.specs.declared.declared_type.VariableType.TheVariants.{Uint32 as UInt32, Jint as JIntVariable, Reference as ReferenceVariable}
+use Rattle.syntax.specs.declared.unit.ResultType.TheVariants.{Void}
+use Rattle.syntax.specs.declared.expr.Constant.TheVariants.{Null}
+use Rattle.syntax.specs.declared.expr.BinaryOp.TheVariants.{Less, Add}
+use Rattle.syntax.specs.Tree.{Number, Named, Variable, Binary, Value, FromExpr, FromCall, TestCall, Declare, Assign, PutJint, If, While, Return, SourceUnit}
 use Rattle.semantics.specs.declared.schedule.ScheduleWord.TheVariants.{Turn, Collect}
 use Rattle.semantics.specs.World.{World}
 use Rattle.world_values.specs.WorldLines.{ClassLine, ThreadLine, Lines}

@@ -1,6 +1,10 @@
 -- The cases of texts/globals.cases, as gate/worked_equations writes them.
 use Rattle.std.specs.Prelude.{◌∷◌, true, false, [], Some, None, codes, refl}
-use Rattle.syntax.specs.Tree.{Assign, Declare, FromCall, JIntVariable, JObject, Number, Perform, Prefix, ReferenceVariable, Return, SourceUnit, ToInt, Value, Void}
+use Rattle.syntax.specs.declared.declared_type.ReferenceType.TheVariants.{Object as JObject}
+use Rattle.syntax.specs.declared.declared_type.VariableType.TheVariants.{Jint as JIntVariable, Reference as ReferenceVariable}
+use Rattle.syntax.specs.declared.unit.ResultType.TheVariants.{Void}
+use Rattle.syntax.specs.declared.expr.PrefixOp.TheVariants.{ToInt}
+use Rattle.syntax.specs.Tree.{Number, Prefix, Value, FromCall, Declare, Assign, Perform, Return, SourceUnit}
 use Rattle.semantics.specs.declared.schedule.ScheduleWord.TheVariants.{Turn}
 use Rattle.semantics.specs.World.{World}
 use Rattle.world_values.specs.WorldLines.{NamedObject, ClassLine, ObjectLine, ThreadLine, Lines}

@@ -1,6 +1,7 @@
 -- The cases of texts/journals.cases, as gate/worked_equations writes them.
 use Rattle.std.specs.Prelude.{◌∷◌, ◌++◌, true, false, [], None, codes, refl}
-use Rattle.syntax.specs.Tree.{IntResult, Number, ReturnValue, SourceUnit}
+use Rattle.syntax.specs.declared.unit.ResultType.TheVariants.{Jint as IntResult}
+use Rattle.syntax.specs.Tree.{Number, ReturnValue, SourceUnit}
 use Rattle.semantics.specs.World.{World}
 use Rattle.world_values.specs.WorldLines.{ClassLine, ThreadLine, Lines}
 use Rattle.world_values.specs.WorldMeaning.{world_of}

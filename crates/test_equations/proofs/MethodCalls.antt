@@ -1,6 +1,10 @@
 -- The cases of texts/method_calls.cases, as gate/worked_equations writes them.
 use Rattle.std.specs.Prelude.{◌∷◌, true, false, [], Some, None, codes, refl}
-use Rattle.syntax.specs.Tree.{Assign, Declare, FromCall, IntResult, JBoolean, JClass, JIntVariable, JMethodId, JObject, Number, Perform, Prefix, PutJint, ReferenceResult, ReferenceVariable, Return, ReturnValue, SourceUnit, Text, ToInt, Value, Variable, Void}
+use Rattle.syntax.specs.declared.declared_type.ReferenceType.TheVariants.{Object as JObject, Class as JClass}
+use Rattle.syntax.specs.declared.declared_type.VariableType.TheVariants.{Jint as JIntVariable, Jboolean as JBoolean, JmethodId as JMethodId, Reference as ReferenceVariable}
+use Rattle.syntax.specs.declared.unit.ResultType.TheVariants.{Void, Jint as IntResult, Reference as ReferenceResult}
+use Rattle.syntax.specs.declared.expr.PrefixOp.TheVariants.{ToInt}
+use Rattle.syntax.specs.Tree.{Number, Variable, Prefix, Value, Text, FromCall, Declare, Assign, Perform, PutJint, Return, ReturnValue, SourceUnit}
 use Rattle.semantics.specs.declared.schedule.ScheduleWord.TheVariants.{Turn}
 use Rattle.semantics.specs.World.{World}
 use Rattle.world_values.specs.WorldLines.{MethodsLine, ClassLine, ThreadLine, Lines}

@@ -1,6 +1,11 @@
 -- The cases of texts/methods.cases, as gate/worked_equations writes them.
 use Rattle.std.specs.Prelude.{◌∷◌, true, false, [], Some, None, codes, refl}
-use Rattle.syntax.specs.Tree.{Assign, Binary, Declare, Equal, FromCall, FromExpr, IfElse, IntResult, JByteArray, JMethodId, JObject, Named, Null, Number, PutJint, ReferenceResult, Return, ReturnValue, SourceUnit, TestExpr, Text, Variable, Void}
+use Rattle.syntax.specs.declared.declared_type.ReferenceType.TheVariants.{Object as JObject, ByteArray as JByteArray}
+use Rattle.syntax.specs.declared.declared_type.VariableType.TheVariants.{JmethodId as JMethodId}
+use Rattle.syntax.specs.declared.unit.ResultType.TheVariants.{Void, Jint as IntResult, Reference as ReferenceResult}
+use Rattle.syntax.specs.declared.expr.Constant.TheVariants.{Null}
+use Rattle.syntax.specs.declared.expr.BinaryOp.TheVariants.{Equal}
+use Rattle.syntax.specs.Tree.{Number, Named, Variable, Binary, Text, FromExpr, FromCall, TestExpr, Declare, Assign, PutJint, IfElse, Return, ReturnValue, SourceUnit}
 use Rattle.semantics.specs.declared.schedule.ScheduleWord.TheVariants.{Turn}
 use Rattle.semantics.specs.World.{World}
 use Rattle.world_values.specs.WorldLines.{MethodsLine, ClassLine, ThreadLine, Lines}

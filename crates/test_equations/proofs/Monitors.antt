@@ -1,6 +1,8 @@
 -- The cases of texts/monitors.cases, as gate/worked_equations writes them.
 use Rattle.std.specs.Prelude.{◌∷◌, false, [], Some, None, codes, refl}
-use Rattle.syntax.specs.Tree.{JObject, Perform, Return, SourceUnit, Void}
+use Rattle.syntax.specs.declared.declared_type.ReferenceType.TheVariants.{Object as JObject}
+use Rattle.syntax.specs.declared.unit.ResultType.TheVariants.{Void}
+use Rattle.syntax.specs.Tree.{Perform, Return, SourceUnit}
 use Rattle.semantics.specs.declared.schedule.ScheduleWord.TheVariants.{Turn}
 use Rattle.semantics.specs.World.{World}
 use Rattle.world_values.specs.WorldLines.{NamedObject, ClassLine, ObjectLine, ThreadLine, Lines}

@@ -1,7 +1,13 @@
 -- The cases of texts/monitors_checked.cases, as gate/worked_equations writes them.
 use Rattle.std.specs.Prelude.{◌∷◌, ◌++◌, true, false, [], Some, None, codes, refl}
-use Rattle.base.specs.Element.{JInt}
-use Rattle.syntax.specs.Tree.{Assign, Binary, Declare, DeclareBuffer, DeclareChars, FromCall, If, JBoolean, JClass, JIntArray, JIntVariable, JObject, JString, Named, NotEqual, Null, Number, Perform, Prefix, PutJint, ReferenceVariable, Return, SourceUnit, TestCall, TestExpr, Text, ToInt, Value, Variable, Void}
+use Rattle.base.specs.declared.element.ElementType.TheVariants.{Int as JInt}
+use Rattle.syntax.specs.declared.declared_type.ReferenceType.TheVariants.{Object as JObject, Class as JClass, String as JString, IntArray as JIntArray}
+use Rattle.syntax.specs.declared.declared_type.VariableType.TheVariants.{Jint as JIntVariable, Jboolean as JBoolean, Reference as ReferenceVariable}
+use Rattle.syntax.specs.declared.unit.ResultType.TheVariants.{Void}
+use Rattle.syntax.specs.declared.expr.Constant.TheVariants.{Null}
+use Rattle.syntax.specs.declared.expr.PrefixOp.TheVariants.{ToInt}
+use Rattle.syntax.specs.declared.expr.BinaryOp.TheVariants.{NotEqual}
+use Rattle.syntax.specs.Tree.{Number, Named, Variable, Prefix, Binary, Value, Text, FromCall, TestExpr, TestCall, Declare, DeclareBuffer, DeclareChars, Assign, Perform, PutJint, If, Return, SourceUnit}
 use Rattle.type_rules.specs.declared.rule.TypeRule.TheVariants.{TypeMisfit, ArgumentCount}
 use Rattle.semantics.specs.declared.schedule.ScheduleWord.TheVariants.{Turn}
 use Rattle.semantics.specs.World.{World}

@@ -1,6 +1,9 @@
 -- The cases of texts/monitors_owned.cases, as gate/worked_equations writes them.
 use Rattle.std.specs.Prelude.{◌∷◌, pos, false, [], Some, None, codes, refl}
-use Rattle.syntax.specs.Tree.{Assign, Declare, FromCall, JClass, JFieldId, JObject, Perform, PutJint, ReferenceVariable, Return, SourceUnit, Text, Variable, Void}
+use Rattle.syntax.specs.declared.declared_type.ReferenceType.TheVariants.{Object as JObject, Class as JClass}
+use Rattle.syntax.specs.declared.declared_type.VariableType.TheVariants.{JfieldId as JFieldId, Reference as ReferenceVariable}
+use Rattle.syntax.specs.declared.unit.ResultType.TheVariants.{Void}
+use Rattle.syntax.specs.Tree.{Variable, Text, FromCall, Declare, Assign, Perform, PutJint, Return, SourceUnit}
 use Rattle.semantics.specs.declared.schedule.ScheduleWord.TheVariants.{Turn, Collect}
 use Rattle.semantics.specs.World.{World}
 use Rattle.world_values.specs.WorldLines.{NumberValue, NullValue, NamedObject, ClassLine, FieldLine, ObjectLine, ThreadLine, CallLine, Lines}

@@ -1,6 +1,11 @@
 -- The cases of texts/monitors_shared.cases, as gate/worked_equations writes them.
 use Rattle.std.specs.Prelude.{◌∷◌, pos, true, false, [], Some, None, codes, refl}
-use Rattle.syntax.specs.Tree.{Binary, Declare, Divide, FromCall, FromExpr, JClass, JIntVariable, JObject, Number, Perform, Prefix, PutJint, ReferenceVariable, Return, SourceUnit, Text, ToWord, UInt32, Variable, Void}
+use Rattle.syntax.specs.declared.declared_type.ReferenceType.TheVariants.{Object as JObject, Class as JClass}
+use Rattle.syntax.specs.declared.declared_type.VariableType.TheVariants.{Uint32 as UInt32, Jint as JIntVariable, Reference as ReferenceVariable}
+use Rattle.syntax.specs.declared.unit.ResultType.TheVariants.{Void}
+use Rattle.syntax.specs.declared.expr.PrefixOp.TheVariants.{ToWord}
+use Rattle.syntax.specs.declared.expr.BinaryOp.TheVariants.{Divide}
+use Rattle.syntax.specs.Tree.{Number, Variable, Prefix, Binary, Text, FromExpr, FromCall, Declare, Perform, PutJint, Return, SourceUnit}
 use Rattle.semantics.specs.declared.schedule.ScheduleWord.TheVariants.{Turn}
 use Rattle.semantics.specs.World.{World}
 use Rattle.world_values.specs.WorldLines.{NumberValue, NullValue, NamedObject, ClassLine, ObjectLine, ThreadLine, CallLine, Lines}

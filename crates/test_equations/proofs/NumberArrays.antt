@@ -1,7 +1,13 @@
 -- The cases of texts/number_arrays.cases, as gate/worked_equations writes them.
 use Rattle.std.specs.Prelude.{◌∷◌, pos, false, [], Some, None, codes, refl}
-use Rattle.base.specs.Element.{JInt, JShort, JByte, JChar}
-use Rattle.syntax.specs.Tree.{Abort, AddressOf, Assign, AssignElement, Binary, Commit, Declare, DeclareArray, DeclareBuffer, Element, False, FromCall, FromExpr, If, JBoolean, JByteArray, JCharArray, JIntArray, JIntVariable, JShortArray, Named, NotEqual, Null, Number, Perform, Prefix, PutJint, ReferenceVariable, Return, SourceUnit, TestExpr, ToInt, True, Value, Variable, Void}
+use Rattle.base.specs.declared.element.ElementType.TheVariants.{Int as JInt, Short as JShort, Byte as JByte, Char as JChar}
+use Rattle.syntax.specs.declared.declared_type.ReferenceType.TheVariants.{IntArray as JIntArray, ShortArray as JShortArray, ByteArray as JByteArray, CharArray as JCharArray}
+use Rattle.syntax.specs.declared.declared_type.VariableType.TheVariants.{Jint as JIntVariable, Jboolean as JBoolean, Reference as ReferenceVariable}
+use Rattle.syntax.specs.declared.unit.ResultType.TheVariants.{Void}
+use Rattle.syntax.specs.declared.expr.Constant.TheVariants.{True, False, Commit, Abort, Null}
+use Rattle.syntax.specs.declared.expr.PrefixOp.TheVariants.{ToInt}
+use Rattle.syntax.specs.declared.expr.BinaryOp.TheVariants.{NotEqual}
+use Rattle.syntax.specs.Tree.{Number, Named, Variable, Element, Prefix, Binary, Value, AddressOf, FromExpr, FromCall, TestExpr, Declare, DeclareBuffer, DeclareArray, Assign, AssignElement, Perform, PutJint, If, Return, SourceUnit}
 use Rattle.semantics.specs.declared.schedule.ScheduleWord.TheVariants.{Turn}
 use Rattle.semantics.specs.World.{World}
 use Rattle.world_values.specs.WorldLines.{NumberValue, NamedObject, ClassLine, ArrayLine, ThreadLine, Lines}

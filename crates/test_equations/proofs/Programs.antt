@@ -1,7 +1,11 @@
 -- Programs and journals in short.
 use Rattle.std.specs.Prelude.{ℕ, Bool, false, List, [], ◌∷◌, codes, replicate}
 use Rattle.base.specs.Bytes.{Identifier}
-use Rattle.syntax.specs.Tree.{Argument, Call, Variable, Stmt, Block, End, Next, ReferenceType, ResultType, Parameter, IntParameter, ReferenceParameter, ReferenceStatic, WeakStatic, Item, StaticItem, FunctionItem, SourceUnit}
+use Rattle.syntax.specs.declared.declared_type.ReferenceType.{ReferenceType}
+use Rattle.syntax.specs.declared.declared_type.ParameterType.TheVariants.{Jint as IntParameter, Reference as ReferenceParameter}
+use Rattle.syntax.specs.declared.declared_type.StaticType.TheVariants.{Reference as ReferenceStatic, Weak as WeakStatic}
+use Rattle.syntax.specs.declared.unit.ResultType.{ResultType}
+use Rattle.syntax.specs.Tree.{Argument, Call, Variable, Stmt, Block, End, Next, Parameter, Item, StaticItem, FunctionItem, SourceUnit}
 use Rattle.semantics.specs.Journal.{Entry, Step, Clearing, Journal}
 
 -- ---- programs

@@ -1,7 +1,12 @@
 -- The cases of texts/reference_faults.cases, as gate/worked_equations writes them.
 use Rattle.std.specs.Prelude.{◌∷◌, true, false, [], codes, refl}
-use Rattle.base.specs.Element.{JInt}
-use Rattle.syntax.specs.Tree.{Assign, Binary, Declare, DeclareBuffer, Equal, FromCall, FromExpr, If, IfElse, JIntArray, JIntVariable, JObject, Named, Null, Number, Perform, PutJint, ReferenceVariable, Return, SourceUnit, TestCall, TestExpr, Value, Void, While}
+use Rattle.base.specs.declared.element.ElementType.TheVariants.{Int as JInt}
+use Rattle.syntax.specs.declared.declared_type.ReferenceType.TheVariants.{Object as JObject, IntArray as JIntArray}
+use Rattle.syntax.specs.declared.declared_type.VariableType.TheVariants.{Jint as JIntVariable, Reference as ReferenceVariable}
+use Rattle.syntax.specs.declared.unit.ResultType.TheVariants.{Void}
+use Rattle.syntax.specs.declared.expr.Constant.TheVariants.{Null}
+use Rattle.syntax.specs.declared.expr.BinaryOp.TheVariants.{Equal}
+use Rattle.syntax.specs.Tree.{Number, Named, Binary, Value, FromExpr, FromCall, TestExpr, TestCall, Declare, DeclareBuffer, Assign, Perform, PutJint, If, IfElse, While, Return, SourceUnit}
 use Rattle.region_rules.specs.declared.rule.RegionRule.TheVariants.{HeldBuffer, ReturnInFrame, PopLastFrame, DeadReference, PathsDiffer, WrongLevel, NoReturn}
 use Rattle.test_equations.specs.Claims.{IsRefused}
 use Rattle.test_equations.proofs.Programs.{unit_of, native, block, reference_parameter, call, given}

@@ -1,6 +1,12 @@
 -- The cases of texts/references.cases, as gate/worked_equations writes them.
 use Rattle.std.specs.Prelude.{◌∷◌, true, false, [], Some, None, codes, refl}
-use Rattle.syntax.specs.Tree.{Assign, Binary, Complement, Declare, Equal, FromCall, FromExpr, If, IfElse, JBoolean, JClass, JObject, JThrowable, Named, NotEqual, Null, Number, Perform, Prefix, PutJint, ReferenceResult, ReferenceVariable, Return, ReturnValue, SourceUnit, TestCall, TestExpr, Text, ToInt, Value, Variable, Void}
+use Rattle.syntax.specs.declared.declared_type.ReferenceType.TheVariants.{Object as JObject, Class as JClass, Throwable as JThrowable}
+use Rattle.syntax.specs.declared.declared_type.VariableType.TheVariants.{Jboolean as JBoolean, Reference as ReferenceVariable}
+use Rattle.syntax.specs.declared.unit.ResultType.TheVariants.{Void, Reference as ReferenceResult}
+use Rattle.syntax.specs.declared.expr.Constant.TheVariants.{Null}
+use Rattle.syntax.specs.declared.expr.PrefixOp.TheVariants.{Complement, ToInt}
+use Rattle.syntax.specs.declared.expr.BinaryOp.TheVariants.{Equal, NotEqual}
+use Rattle.syntax.specs.Tree.{Number, Named, Variable, Prefix, Binary, Value, Text, FromExpr, FromCall, TestExpr, TestCall, Declare, Assign, Perform, PutJint, If, IfElse, Return, ReturnValue, SourceUnit}
 use Rattle.semantics.specs.declared.schedule.ScheduleWord.TheVariants.{Turn}
 use Rattle.semantics.specs.World.{World}
 use Rattle.world_values.specs.WorldLines.{ClassLine, ThreadLine, CallLine, Lines}

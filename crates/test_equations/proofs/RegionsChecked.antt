@@ -1,7 +1,12 @@
 -- The cases of texts/regions_checked.cases, as gate/worked_equations writes them.
 use Rattle.std.specs.Prelude.{◌∷◌, pos, true, false, [], Some, None, codes, refl}
-use Rattle.base.specs.Element.{JInt, JShort, JByte, JChar}
-use Rattle.syntax.specs.Tree.{Assign, Complement, Declare, DeclareArray, FromCall, JByteArray, JCharArray, JClass, JIntArray, JObject, JShortArray, JString, Named, Null, Number, Perform, Prefix, ReferenceVariable, Return, SourceUnit, Text, ToInt, Value, Void}
+use Rattle.base.specs.declared.element.ElementType.TheVariants.{Int as JInt, Short as JShort, Byte as JByte, Char as JChar}
+use Rattle.syntax.specs.declared.declared_type.ReferenceType.TheVariants.{Object as JObject, Class as JClass, String as JString, IntArray as JIntArray, ShortArray as JShortArray, ByteArray as JByteArray, CharArray as JCharArray}
+use Rattle.syntax.specs.declared.declared_type.VariableType.TheVariants.{Reference as ReferenceVariable}
+use Rattle.syntax.specs.declared.unit.ResultType.TheVariants.{Void}
+use Rattle.syntax.specs.declared.expr.Constant.TheVariants.{Null}
+use Rattle.syntax.specs.declared.expr.PrefixOp.TheVariants.{Complement, ToInt}
+use Rattle.syntax.specs.Tree.{Number, Named, Prefix, Value, Text, FromCall, Declare, DeclareArray, Assign, Perform, Return, SourceUnit}
 use Rattle.semantics.specs.declared.schedule.ScheduleWord.TheVariants.{Turn}
 use Rattle.semantics.specs.World.{World}
 use Rattle.world_values.specs.WorldLines.{NumberValue, NullValue, NamedObject, ClassLine, ArrayLine, StringLine, ThreadLine, Lines}

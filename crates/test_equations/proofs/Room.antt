@@ -1,7 +1,10 @@
 -- The cases of texts/room.cases, as gate/worked_equations writes them.
 use Rattle.std.specs.Prelude.{◌≡◌, ◌∷◌, ◌++◌, pos, true, false, [], Some, None, Err, codes, refl, replicate}
-use Rattle.base.specs.Element.{JInt}
-use Rattle.syntax.specs.Tree.{Declare, FromCall, IntResult, JIntArray, Number, Perform, ReferenceVariable, Return, ReturnValue, SourceUnit, Value, Void}
+use Rattle.base.specs.declared.element.ElementType.TheVariants.{Int as JInt}
+use Rattle.syntax.specs.declared.declared_type.ReferenceType.TheVariants.{IntArray as JIntArray}
+use Rattle.syntax.specs.declared.declared_type.VariableType.TheVariants.{Reference as ReferenceVariable}
+use Rattle.syntax.specs.declared.unit.ResultType.TheVariants.{Void, Jint as IntResult}
+use Rattle.syntax.specs.Tree.{Number, Value, FromCall, Declare, Perform, Return, ReturnValue, SourceUnit}
 use Rattle.world_schedules.specs.declared.fault.Rule.TheVariants.{Heap}
 use Rattle.semantics.specs.declared.schedule.ScheduleWord.TheVariants.{Turn}
 use Rattle.world.specs.ReadingWorlds.{world_of_text}

@@ -1,7 +1,13 @@
 -- The cases of texts/strings.cases, as gate/worked_equations writes them.
 use Rattle.std.specs.Prelude.{◌∷◌, pos, false, [], Some, None, codes, refl}
-use Rattle.base.specs.Element.{JChar}
-use Rattle.syntax.specs.Tree.{AddressOf, Binary, Declare, DeclareArray, DeclareChars, Element, False, FromCall, FromExpr, If, JBoolean, JIntVariable, JObject, JString, Named, NotEqual, Null, Number, Perform, Prefix, PutJint, ReferenceVariable, Return, SourceUnit, TestExpr, Text, ToInt, True, Value, Variable, Void}
+use Rattle.base.specs.declared.element.ElementType.TheVariants.{Char as JChar}
+use Rattle.syntax.specs.declared.declared_type.ReferenceType.TheVariants.{Object as JObject, String as JString}
+use Rattle.syntax.specs.declared.declared_type.VariableType.TheVariants.{Jint as JIntVariable, Jboolean as JBoolean, Reference as ReferenceVariable}
+use Rattle.syntax.specs.declared.unit.ResultType.TheVariants.{Void}
+use Rattle.syntax.specs.declared.expr.Constant.TheVariants.{True, False, Null}
+use Rattle.syntax.specs.declared.expr.PrefixOp.TheVariants.{ToInt}
+use Rattle.syntax.specs.declared.expr.BinaryOp.TheVariants.{NotEqual}
+use Rattle.syntax.specs.Tree.{Number, Named, Variable, Element, Prefix, Binary, Value, Text, AddressOf, FromExpr, FromCall, TestExpr, Declare, DeclareChars, DeclareArray, Perform, PutJint, If, Return, SourceUnit}
 use Rattle.semantics.specs.declared.schedule.ScheduleWord.TheVariants.{Turn}
 use Rattle.semantics.specs.World.{World}
 use Rattle.world_values.specs.WorldLines.{NumberValue, NamedObject, ClassLine, ArrayLine, StringLine, ThreadLine, Lines}

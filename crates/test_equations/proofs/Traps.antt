@@ -1,7 +1,12 @@
 -- The cases of texts/traps.cases, as gate/worked_equations writes them.
 use Rattle.std.specs.Prelude.{◌∷◌, pos, negsuc, true, false, [], Some, None, codes, refl}
-use Rattle.base.specs.Element.{JInt}
-use Rattle.syntax.specs.Tree.{Binary, Complement, Declare, DeclareArray, Divide, Element, FromCall, FromExpr, JBoolean, JClass, JObject, Number, Paren, Perform, Prefix, PutJint, ReferenceVariable, Remainder, Return, ShiftLeft, ShiftRight, SourceUnit, Text, ToInt, ToWord, UInt32, Variable, Void}
+use Rattle.base.specs.declared.element.ElementType.TheVariants.{Int as JInt}
+use Rattle.syntax.specs.declared.declared_type.ReferenceType.TheVariants.{Object as JObject, Class as JClass}
+use Rattle.syntax.specs.declared.declared_type.VariableType.TheVariants.{Uint32 as UInt32, Jboolean as JBoolean, Reference as ReferenceVariable}
+use Rattle.syntax.specs.declared.unit.ResultType.TheVariants.{Void}
+use Rattle.syntax.specs.declared.expr.PrefixOp.TheVariants.{Complement, ToWord, ToInt}
+use Rattle.syntax.specs.declared.expr.BinaryOp.TheVariants.{ShiftLeft, ShiftRight, Divide, Remainder}
+use Rattle.syntax.specs.Tree.{Number, Variable, Element, Prefix, Binary, Paren, Text, FromExpr, FromCall, Declare, DeclareArray, Perform, PutJint, Return, SourceUnit}
 use Rattle.semantics.specs.declared.schedule.ScheduleWord.TheVariants.{Turn}
 use Rattle.semantics.specs.World.{World}
 use Rattle.world_values.specs.WorldLines.{NumberValue, NullValue, NamedObject, ClassLine, ArrayLine, ThreadLine, Lines}

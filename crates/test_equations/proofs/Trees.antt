@@ -1,7 +1,12 @@
 -- The cases of texts/trees.cases, as gate/worked_equations writes them.
 use Rattle.std.specs.Prelude.{◌∷◌, true, false, [], codes}
-use Rattle.base.specs.Element.{JInt}
-use Rattle.syntax.specs.Tree.{Add, Assign, Binary, Declare, DeclareBuffer, Equal, FromCall, FromExpr, If, IfElse, JIntArray, JIntVariable, JObject, Less, Named, Null, Number, Paren, Perform, PutJint, ReferenceVariable, Return, SourceUnit, TestExpr, UInt32, Value, Variable, Void, While}
+use Rattle.base.specs.declared.element.ElementType.TheVariants.{Int as JInt}
+use Rattle.syntax.specs.declared.declared_type.ReferenceType.TheVariants.{Object as JObject, IntArray as JIntArray}
+use Rattle.syntax.specs.declared.declared_type.VariableType.TheVariants.{Uint32 as UInt32, Jint as JIntVariable, Reference as ReferenceVariable}
+use Rattle.syntax.specs.declared.unit.ResultType.TheVariants.{Void}
+use Rattle.syntax.specs.declared.expr.Constant.TheVariants.{Null}
+use Rattle.syntax.specs.declared.expr.BinaryOp.TheVariants.{Equal, Less, Add}
+use Rattle.syntax.specs.Tree.{Number, Named, Variable, Binary, Paren, Value, FromExpr, FromCall, TestExpr, Declare, DeclareBuffer, Assign, Perform, PutJint, If, IfElse, While, Return, SourceUnit}
 use Rattle.test_equations.proofs.Programs.{unit_of, native, block, reference_parameter, call, given}
 
 -- highest

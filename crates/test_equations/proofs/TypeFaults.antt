@@ -1,7 +1,12 @@
 -- The cases of texts/type_faults.cases, as gate/worked_equations writes them.
 use Rattle.std.specs.Prelude.{◌∷◌, true, false, [], codes, refl}
-use Rattle.base.specs.Element.{JInt}
-use Rattle.syntax.specs.Tree.{Add, Assign, AssignElement, Binary, Declare, DeclareBuffer, DeclareChars, Equal, FromCall, FromExpr, If, JIntArray, JIntVariable, JObject, JString, Named, Null, Number, Perform, PutJint, ReferenceVariable, Return, SourceUnit, TestExpr, True, UInt32, Value, Variable, Void}
+use Rattle.base.specs.declared.element.ElementType.TheVariants.{Int as JInt}
+use Rattle.syntax.specs.declared.declared_type.ReferenceType.TheVariants.{Object as JObject, String as JString, IntArray as JIntArray}
+use Rattle.syntax.specs.declared.declared_type.VariableType.TheVariants.{Uint32 as UInt32, Jint as JIntVariable, Reference as ReferenceVariable}
+use Rattle.syntax.specs.declared.unit.ResultType.TheVariants.{Void}
+use Rattle.syntax.specs.declared.expr.Constant.TheVariants.{True, Null}
+use Rattle.syntax.specs.declared.expr.BinaryOp.TheVariants.{Equal, Add}
+use Rattle.syntax.specs.Tree.{Number, Named, Variable, Binary, Value, FromExpr, FromCall, TestExpr, Declare, DeclareBuffer, DeclareChars, Assign, AssignElement, Perform, PutJint, If, Return, SourceUnit}
 use Rattle.type_rules.specs.declared.rule.TypeRule.TheVariants.{UnknownName, DeclaredTwice, TypeMisfit, UnknownFunction, ArgumentCount, ReferenceCopied, BadMode, ReadOnlyWrite}
 use Rattle.test_equations.specs.Claims.{IsRefused}
 use Rattle.test_equations.proofs.Programs.{unit_of, native, block, static_reference, reference_parameter, int_parameter, call, given}

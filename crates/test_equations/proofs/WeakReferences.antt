@@ -1,6 +1,11 @@
 -- The cases of texts/weak_references.cases, as gate/worked_equations writes them.
 use Rattle.std.specs.Prelude.{◌≡◌, ◌∷◌, ◌++◌, false, [], Some, None, Err, codes, refl, replicate}
-use Rattle.syntax.specs.Tree.{Assign, Binary, Declare, Equal, FromCall, IfElse, JIntArray, JObject, Named, Null, Number, Perform, PutJint, ReferenceVariable, Return, SourceUnit, TestExpr, Value, Variable, Void}
+use Rattle.syntax.specs.declared.declared_type.ReferenceType.TheVariants.{Object as JObject, IntArray as JIntArray}
+use Rattle.syntax.specs.declared.declared_type.VariableType.TheVariants.{Reference as ReferenceVariable}
+use Rattle.syntax.specs.declared.unit.ResultType.TheVariants.{Void}
+use Rattle.syntax.specs.declared.expr.Constant.TheVariants.{Null}
+use Rattle.syntax.specs.declared.expr.BinaryOp.TheVariants.{Equal}
+use Rattle.syntax.specs.Tree.{Number, Named, Variable, Binary, Value, FromCall, TestExpr, Declare, Assign, Perform, PutJint, IfElse, Return, SourceUnit}
 use Rattle.world_schedules.specs.declared.fault.Rule.TheVariants.{Form}
 use Rattle.semantics.specs.declared.schedule.ScheduleWord.TheVariants.{Turn, Collect, Slice}
 use Rattle.world_schedules.specs.ReadingJournals.{journal_of}

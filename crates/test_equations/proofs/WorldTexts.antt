@@ -2,7 +2,7 @@
 use Rattle.std.specs.Prelude.{length, replicate}
 use Rattle.std.proofs.Common.{◌≡◌, true, false, [], ◌∷◌, Some, None, Ok, codes, refl, inl, inr, arith, pos, negsuc}
 use Rattle.std.specs.Fmt.{digits}
-use Rattle.base.specs.Element.{JInt}
+use Rattle.base.specs.declared.element.ElementType.TheVariants.{Int as JInt}
 use Rattle.class_rules.specs.Class.{assignable}
 use Rattle.class_rules.specs.BuiltIns.{built_ins}
 use Rattle.class_rules.specs.Fields.{layout, type_of_signature}

@@ -1,7 +1,13 @@
 -- The cases of texts/spelled.cases, as gate/worked_equations writes them.
 use Rattle.std.specs.Prelude.{◌∷◌, true, false, [], codes, refl}
-use Rattle.base.specs.Element.{JInt}
-use Rattle.syntax.specs.Tree.{Abort, Add, AddressOf, Assign, AssignElement, Binary, BitAnd, BitOr, Complement, Declare, DeclareArray, DeclareBuffer, Element, Equal, False, FromCall, FromExpr, If, IfElse, IntResult, JBoolean, JIntArray, JMethodId, JObject, JString, Less, LogicalAnd, LogicalNot, Named, NotEqual, Null, Number, Paren, Perform, Prefix, PutJint, ReferenceResult, ReferenceVariable, Return, ReturnValue, ShiftLeft, SourceUnit, TestCall, TestExpr, Text, ToInt, ToWord, UInt32, Value, Variable, Void, While}
+use Rattle.base.specs.declared.element.ElementType.TheVariants.{Int as JInt}
+use Rattle.syntax.specs.declared.declared_type.ReferenceType.TheVariants.{Object as JObject, String as JString, IntArray as JIntArray}
+use Rattle.syntax.specs.declared.declared_type.VariableType.TheVariants.{Uint32 as UInt32, Jboolean as JBoolean, JmethodId as JMethodId, Reference as ReferenceVariable}
+use Rattle.syntax.specs.declared.unit.ResultType.TheVariants.{Void, Jint as IntResult, Reference as ReferenceResult}
+use Rattle.syntax.specs.declared.expr.Constant.TheVariants.{False, Abort, Null}
+use Rattle.syntax.specs.declared.expr.PrefixOp.TheVariants.{LogicalNot, Complement, ToWord, ToInt}
+use Rattle.syntax.specs.declared.expr.BinaryOp.TheVariants.{LogicalAnd, BitOr, BitAnd, Equal, NotEqual, Less, ShiftLeft, Add}
+use Rattle.syntax.specs.Tree.{Number, Named, Variable, Element, Prefix, Binary, Paren, Value, Text, AddressOf, FromExpr, FromCall, TestExpr, TestCall, Declare, DeclareBuffer, DeclareArray, Assign, AssignElement, Perform, PutJint, If, IfElse, While, Return, ReturnValue, SourceUnit}
 use Rattle.test_equations.proofs.Programs.{unit_of, native, block, static_reference, reference_parameter, int_parameter, call, given}
 use Rattle.parse.specs.Spelling.{SpellsUnit}
 use Rattle.test_equations.proofs.Computed.{a_tree}

@@ -5,8 +5,10 @@ use Rattle.std.proofs.lemmas.Bool.Decides.{nat_tests}
 use Rattle.std.proofs.lemmas.List.{append-nil, length-append, length-replicate}
 use Rattle.base.specs.Limits.{most_further}
 use Rattle.syntax.specs.Tree.{Argument}
-use Rattle.jni.specs.JniFunction.{JniFunction, calls_method, parameters_for, takes_count, prototype}
-use Rattle.jni.specs.Prototype.{ParameterKind, Passed}
+use Rattle.jni.specs.declared.function.JniFunction.{JniFunction}
+use Rattle.jni.specs.JniFunction.{calls_method, parameters_for, takes_count, prototype}
+use Rattle.jni.specs.declared.kinds.ParameterKind.{ParameterKind}
+use Rattle.jni.specs.declared.kinds.ParameterKind.TheVariants.{Passed}
 use Rattle.type_rules.specs.TypeRules.{is_mode_parameter, is_mode, modes_fit}
 
 as_many : (own : List ParameterKind) (n : ℕ) (b : Bool) → (n == length own || (b && nat_le (length own) n && nat_le n (length own + most_further))) ≡ true

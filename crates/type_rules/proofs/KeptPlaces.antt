@@ -7,7 +7,8 @@ use Rattle.std.proofs.lemmas.Bool.{or_parts}
 use Rattle.base.specs.Bytes.{Identifier}
 use Rattle.base.specs.Options.{some_passes}
 use Rattle.syntax.specs.Parts.{statements_of, statements_within, line_of, declared_name, right_side, own_call, own_expressions, names_declared}
-use Rattle.syntax.specs.Tree.{ResultType, Static, Test, Stmt, If, IfElse, While, Block, Next}
+use Rattle.syntax.specs.declared.unit.ResultType.{ResultType}
+use Rattle.syntax.specs.Tree.{Static, Test, Stmt, If, IfElse, While, Block, Next}
 use Rattle.jni.specs.JniFunction.{function_named}
 use Rattle.type_rules.specs.ExprTypes.{Scope, call_arguments_fit}
 use Rattle.type_rules.specs.declared.rule.TypeRule.{TypeRule}

@@ -3,8 +3,13 @@ use Rattle.std.proofs.Common.{◌≡◌, ◌⊎◌, inl, inr, Bool, true, false,
 use Rattle.std.specs.Option.{option_or}
 use Rattle.base.specs.Bytes.{Identifier}
 use Rattle.syntax.specs.Parts.{null_tested}
-use Rattle.syntax.specs.Tree.{Null, BinaryOp, Equal, NotEqual, Expr, Named, Variable, Binary}
-use Rattle.type_rules.specs.ExprTypes.{ExprType, Word, Jint, Flag, Truth, OperatorGroup, Logic, Equality, Order, OnWords, binary_type, is_castable, is_index}
+use Rattle.syntax.specs.declared.expr.BinaryOp.{BinaryOp}
+use Rattle.syntax.specs.declared.expr.BinaryOp.TheVariants.{Equal, NotEqual}
+use Rattle.syntax.specs.declared.expr.Constant.TheVariants.{Null}
+use Rattle.syntax.specs.Tree.{Expr, Named, Variable, Binary}
+use Rattle.type_rules.specs.declared.ty.ExprType.{ExprType}
+use Rattle.type_rules.specs.declared.ty.ExprType.TheVariants.{Word, Jint, Flag, Truth}
+use Rattle.type_rules.specs.ExprTypes.{OperatorGroup, Logic, Equality, Order, OnWords, binary_type, is_castable, is_index}
 use Rattle.type_rules.specs.TypeGroups.{IsNumberType, IsIndexType, OperatorFits}
 
 -- the types that an expression is worked out to

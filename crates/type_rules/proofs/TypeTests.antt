@@ -1,8 +1,13 @@
 -- What a test says that passed.
 use Rattle.std.proofs.Common.{◌≡◌, ℕ, Bool, true, false, ◌||◌, Option, Some, refl, sym, ap, ◌∙◌}
-use Rattle.base.specs.Element.{ElementType, JInt, JShort, JByte, JChar, same_element}
-use Rattle.syntax.specs.Tree.{Null, Expr, Named}
-use Rattle.type_rules.specs.ExprTypes.{ExprType, Word, Jint, Flag, Truth, Ref, Global, Weak, FieldId, MethodId, Array, is_word, is_jint, is_flag, is_truth, is_ref, is_global, is_weak, is_field, is_method, is_array_of, is_null}
+use Rattle.base.specs.declared.element.ElementType.{ElementType}
+use Rattle.base.specs.declared.element.ElementType.TheVariants.{Int as JInt, Short as JShort, Byte as JByte, Char as JChar}
+use Rattle.base.specs.Element.{same_element}
+use Rattle.syntax.specs.declared.expr.Constant.TheVariants.{Null}
+use Rattle.syntax.specs.Tree.{Expr, Named}
+use Rattle.type_rules.specs.declared.ty.ExprType.{ExprType}
+use Rattle.type_rules.specs.declared.ty.ExprType.TheVariants.{Word, Jint, Flag, Truth, Ref, Global, Weak, FieldId, MethodId, Array}
+use Rattle.type_rules.specs.ExprTypes.{is_word, is_jint, is_flag, is_truth, is_ref, is_global, is_weak, is_field, is_method, is_array_of, is_null}
 
 pub word_is : (o : Option ExprType) → is_word o ≡ true → o ≡ Some Word
 word_is (Some Word) h = refl

@@ -2,19 +2,25 @@
 use Rattle.std.specs.Prelude.{ℕ, Bool, true, false, ◌&&◌, ◌||◌, List, ◌∷◌, length, Option, Some, None, if◌then◌else◌}
 use Rattle.std.specs.Option.{option_or, is_none}
 use Rattle.base.specs.Bytes.{Identifier, ByName, lookup}
-use Rattle.base.specs.Element.{ElementType, JChar, same_element}
-use Rattle.syntax.specs.Tree.{Constant, True, False, Null}
+use Rattle.base.specs.Element.{same_element}
 use Rattle.syntax.specs.Parts.{null_tested}
-use Rattle.syntax.specs.Tree.{PrefixOp, LogicalNot, Complement, ToWord, ToInt, BinaryOp, LogicalOr, LogicalAnd, Equal, NotEqual, Less, LessEqual, Greater, GreaterEqual, Expr, Number, Named, Variable, Element, Prefix, Binary, Paren, Argument, Value, Text, AddressOf, Call}
-use Rattle.jni.specs.Access.{Access, ElementsCopy, ArrayView, CharsCopy, CharsView}
-use Rattle.jni.specs.JniFunction.{JniFunction, parameters_for}
-use Rattle.jni.specs.Prototype.{ParameterKind, FieldID, IntNumber, TextBytes, IsCopy, Mode, AnyReference, LocalVariable, StaticVariable, WeakVariable, ArrayVariable, BufferVariable, MethodID, Passed}
-
--- the type of a name or an expression: local references of all the JNI's types have one, statics another, and weak statics a third
-pub data ExprType : Type 0 where
-  Word Jint Flag Truth Ref Global Weak FieldId MethodId : ExprType
-  Buffer : ElementType → (writable : Bool) → ExprType
-  Array : ElementType → (size : ℕ) → ExprType
+use Rattle.syntax.specs.Tree.{Expr, Number, Named, Variable, Element, Prefix, Binary, Paren, Argument, Value, Text, AddressOf, Call}
+use Rattle.jni.specs.JniFunction.{parameters_for}
+use Rattle.base.specs.declared.element.ElementType.{ElementType}
+use Rattle.base.specs.declared.element.ElementType.TheVariants.{Char as JChar}
+use Rattle.jni.specs.declared.access.Access.{Access}
+use Rattle.jni.specs.declared.access.Access.TheVariants.{ElementsCopy, ArrayView, CharsCopy, CharsView}
+use Rattle.jni.specs.declared.function.JniFunction.{JniFunction}
+use Rattle.jni.specs.declared.kinds.ParameterKind.{ParameterKind}
+use Rattle.jni.specs.declared.kinds.ParameterKind.TheVariants.{AnyReference, LocalVariable, StaticVariable, WeakVariable, FieldID, MethodID, IntNumber, TextBytes, ArrayVariable, BufferVariable, Mode, IsCopy, Passed}
+use Rattle.syntax.specs.declared.expr.PrefixOp.{PrefixOp}
+use Rattle.syntax.specs.declared.expr.PrefixOp.TheVariants.{LogicalNot, Complement, ToWord, ToInt}
+use Rattle.syntax.specs.declared.expr.BinaryOp.{BinaryOp}
+use Rattle.syntax.specs.declared.expr.BinaryOp.TheVariants.{LogicalOr, LogicalAnd, Equal, NotEqual, Less, LessEqual, Greater, GreaterEqual}
+use Rattle.syntax.specs.declared.expr.Constant.{Constant}
+use Rattle.syntax.specs.declared.expr.Constant.TheVariants.{True, False, Null}
+use Rattle.type_rules.specs.declared.ty.ExprType.{ExprType}
+use Rattle.type_rules.specs.declared.ty.ExprType.TheVariants.{Word, Jint, Flag, Truth, Ref, Global, Weak, FieldId, MethodId, Buffer, Array}
 
 -- the names that are known, and their types
 abbrev pub Scope : Type 0

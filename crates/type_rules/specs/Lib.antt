@@ -2,7 +2,6 @@
 pub mod ExprTypes
 pub mod TypeRules
 -- Nothing here is trusted: types and names that are known in memory, and what is asked of the names that a statement uses.
-pub mod TypeViews
 pub mod Declarations
 pub mod Uses
 pub mod TypeGroups

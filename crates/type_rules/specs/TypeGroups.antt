@@ -1,6 +1,8 @@
 -- Types by what can be done with their values.
 use Rattle.std.specs.Prelude.{◌≡◌}
-use Rattle.type_rules.specs.ExprTypes.{ExprType, Word, Jint, Flag, Truth, OperatorGroup, Logic, Equality, Order, OnWords}
+use Rattle.type_rules.specs.declared.ty.ExprType.{ExprType}
+use Rattle.type_rules.specs.declared.ty.ExprType.TheVariants.{Word, Jint, Flag, Truth}
+use Rattle.type_rules.specs.ExprTypes.{OperatorGroup, Logic, Equality, Order, OnWords}
 
 -- the types whose values are numbers
 abbrev pub IsNumberType : ExprType → Type 0

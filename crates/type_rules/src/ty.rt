@@ -1,9 +1,7 @@
 //! The types of names and expressions.
 
 ghost use Rattle.std.specs.Prelude.{◌≡◌};
-ghost use Rattle.syntax.specs.Views.{variable_type_tree, parameter_type_tree, static_type_tree};
 ghost use Rattle.type_rules.specs.TypeRules.{variable_type, parameter_type, static_type};
-ghost use Rattle.type_rules.specs.TypeViews.{type_value};
 
 use syntax::{ElementType, ParameterType, StaticType, VariableType};
 
@@ -34,7 +32,7 @@ pub enum ExprType {
 
 /// The type of a declared variable.
 pub fn variable_type(kind: VariableType) -> ExprType
-    ensures { type_value result ≡ variable_type (variable_type_tree kind) }
+    ensures { result ≡ variable_type kind }
 {
     match kind {
         VariableType::Uint32 => ExprType::Word,
@@ -48,7 +46,7 @@ pub fn variable_type(kind: VariableType) -> ExprType
 
 /// The type of a parameter.
 pub fn parameter_type(kind: ParameterType) -> ExprType
-    ensures { type_value result ≡ parameter_type (parameter_type_tree kind) }
+    ensures { result ≡ parameter_type kind }
 {
     match kind {
         ParameterType::Jint => ExprType::Jint,
@@ -58,7 +56,7 @@ pub fn parameter_type(kind: ParameterType) -> ExprType
 
 /// The type of a static.
 pub fn static_type(kind: StaticType) -> ExprType
-    ensures { type_value result ≡ static_type (static_type_tree kind) }
+    ensures { result ≡ static_type kind }
 {
     match kind {
         StaticType::Reference(_) => ExprType::Global,

@@ -4,9 +4,8 @@ use Rattle.std.specs.List.{list_all}
 use Rattle.syntax.specs.declared.call.Argument.{Argument}
 use Rattle.syntax.specs.Tree.{Argument as Given}
 use Rattle.syntax.specs.Views.{argument_tree}
-use Rattle.jni.specs.declared.kinds.ParameterKind.{ParameterKind as KindInMemory}
-use Rattle.jni.specs.Prototype.{ParameterKind, Passed}
-use Rattle.jni.specs.Table.{parameter_value}
+use Rattle.jni.specs.declared.kinds.ParameterKind.{ParameterKind}
+use Rattle.jni.specs.declared.kinds.ParameterKind.TheVariants.{Passed}
 use Rattle.type_rules.specs.ExprTypes.{Scope, argument_fits, arguments_fit}
 use Rattle.type_rules.specs.TypeRules.{modes_fit}
 use Rattle.types.specs.Called.{with_passed}
@@ -39,8 +38,8 @@ none_own n = omega (arith)
 none_left : (scope : Scope) (given : List Given) → true ≡ arguments_fit scope [] given
 none_left scope given = refl
 
-pub passed-behind : (scope : Scope) (kinds : List KindInMemory) (passes : Bool) (given : List Given) → length kinds < 1
-    → (not passes || list_all (argument_fits scope Passed) given) ≡ arguments_fit scope (with_passed (map parameter_value kinds) passes (length given)) given
+pub passed-behind : (scope : Scope) (kinds : List ParameterKind) (passes : Bool) (given : List Given) → length kinds < 1
+    → (not passes || list_all (argument_fits scope Passed) given) ≡ arguments_fit scope (with_passed kinds passes (length given)) given
 passed-behind scope [] true given few = all_passed scope given ∙ ap (λ n. arguments_fit scope (replicate n Passed) given) (sym (none_own (length given)))
 passed-behind scope [] false given few = none_left scope given
 passed-behind scope (k ∷ kinds) passes given few = absurd (omega (arith, few))

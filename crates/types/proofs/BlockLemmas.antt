@@ -10,10 +10,10 @@ use Rattle.syntax.specs.declared.stmt.Form.{Form}
 use Rattle.syntax.specs.declared.stmt.Form.TheVariants as form
 use Rattle.syntax.specs.declared.stmt.Stmt.{Stmt as StmtInMemory}
 use Rattle.syntax.specs.Parts.{statements_of, statements_within, names_declared, declared_name}
-use Rattle.syntax.specs.Tree.{ResultType}
+use Rattle.syntax.specs.declared.unit.ResultType.{ResultType}
 use Rattle.syntax.specs.Views.{form_tree, stmt_tree}
 use Rattle.syntax.proofs.Blocks.{statements_tree}
-use Rattle.type_rules.specs.declared.ty.ExprType.{ExprType as TypeInMemory}
+use Rattle.type_rules.specs.declared.ty.ExprType.{ExprType}
 use Rattle.type_rules.specs.ExprTypes.{Scope}
 use Rattle.type_rules.specs.TypeRules.{places_of, with_declared}
 use Rattle.types.specs.AllFaults.{told_at}
@@ -73,20 +73,20 @@ none-inside returns known taken line (form.Return (Some e)) h k l = found-none
 
 -- ---- names that are known
 
-pub above-none : (known : ByName TypeInMemory) → IsAbove known known
+pub above-none : (known : ByName ExprType) → IsAbove known known
 above-none known = record { above = []; joined = refl }
 
-pub above-one : (x : Identifier × TypeInMemory) (more all below : ByName TypeInMemory) → more ≡ x ∷ all → IsAbove all below → IsAbove more below
+pub above-one : (x : Identifier × ExprType) (more all below : ByName ExprType) → more ≡ x ∷ all → IsAbove all below → IsAbove more below
 above-one x more all below e h = record { above = x ∷ h.above; joined = e ∙ ap (λ xs. x ∷ xs) h.joined }
 
-pub above-declared : {A E : Type 0} (r : Result A E) (x : Identifier × TypeInMemory) (more all below : ByName TypeInMemory) → OnOk r (more ≡ x ∷ all) → IsAbove all below → OnOk r (IsAbove more below)
+pub above-declared : {A E : Type 0} (r : Result A E) (x : Identifier × ExprType) (more all below : ByName ExprType) → OnOk r (more ≡ x ∷ all) → IsAbove all below → OnOk r (IsAbove more below)
 above-declared (Ok y) x more all below e h = above-one x more all below e h
 above-declared (Err y) x more all below e h = tt
 
-pub above-more : (more all below : ByName TypeInMemory) → IsAbove more all → IsAbove all below → IsAbove more below
+pub above-more : (more all below : ByName ExprType) → IsAbove more all → IsAbove all below → IsAbove more below
 above-more more all below h k = record { above = h.above ++ k.above; joined = h.joined ∙ ap (λ xs. h.above ++ xs) k.joined ∙ sym (append_assoc h.above k.above below) }
 
-pub forgotten : (all below : ByName TypeInMemory) → IsAbove all below → drop (length all - length below) all ≡ below
+pub forgotten : (all below : ByName ExprType) → IsAbove all below → drop (length all - length below) all ≡ below
 forgotten all below h =
     let k : length all - length below ≡ length h.above = omega (arith, length-append h.above below, ap length h.joined) in
     ap₂ (λ n xs. drop n xs) k h.joined ∙ drop-append_seam h.above below

@@ -5,9 +5,13 @@ use Rattle.std.specs.Prelude.{is_some}
 use Rattle.std.proofs.lemmas.Bool.{and_parts, or_cases}
 use Rattle.base.specs.Options.{some_passes}
 use Rattle.syntax.specs.Parts.{own_call, own_expressions, call_expressions}
-use Rattle.syntax.specs.Tree.{Expr, Number, Named, Variable, Element, Prefix, Binary, Paren, Call, FromExpr, FromCall, TestExpr, TestCall, ResultType, Void, IntResult, ReferenceResult, Stmt, Declare, DeclareBuffer, DeclareChars, DeclareArray, Assign, AssignElement, Perform, PutJint, If, IfElse, While, Return, ReturnValue}
+use Rattle.syntax.specs.declared.unit.ResultType.{ResultType}
+use Rattle.syntax.specs.declared.unit.ResultType.TheVariants.{Void, Jint as IntResult, Reference as ReferenceResult}
+use Rattle.syntax.specs.Tree.{Expr, Number, Named, Variable, Element, Prefix, Binary, Paren, Call, FromExpr, FromCall, TestExpr, TestCall, Stmt, Declare, DeclareBuffer, DeclareChars, DeclareArray, Assign, AssignElement, Perform, PutJint, If, IfElse, While, Return, ReturnValue}
 use Rattle.jni.specs.JniFunction.{function_named}
-use Rattle.type_rules.specs.ExprTypes.{ExprType, Word, Jint, Flag, Truth, Ref, Global, Weak, FieldId, MethodId, Buffer, Array, Scope, type_in, type_of, has_elements, is_index, is_word, is_jint, is_flag, is_truth, is_ref, is_null, name_type, call_arguments_fit}
+use Rattle.type_rules.specs.declared.ty.ExprType.{ExprType}
+use Rattle.type_rules.specs.declared.ty.ExprType.TheVariants.{Word, Jint, Flag, Truth, Ref, Global, Weak, FieldId, MethodId, Buffer, Array}
+use Rattle.type_rules.specs.ExprTypes.{Scope, type_in, type_of, has_elements, is_index, is_word, is_jint, is_flag, is_truth, is_ref, is_null, name_type, call_arguments_fit}
 use Rattle.type_rules.specs.declared.rule.TypeRule.TheVariants.{TypeMisfit}
 use Rattle.type_rules.specs.TypeRules.{is_formed, variable_type, value_sets, return_fits, statement_fits, breaks_type_rule}
 

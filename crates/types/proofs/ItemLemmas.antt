@@ -8,10 +8,12 @@ use Rattle.syntax.specs.declared.unit.Function.{Function as FunctionInMemory}
 use Rattle.syntax.specs.declared.unit.Static.{Static as StaticInMemory}
 use Rattle.syntax.specs.declared.unit.Item.{Item as ItemInMemory}
 use Rattle.syntax.specs.Parts.{parameter_names, item_name}
-use Rattle.syntax.specs.Tree.{Void, Item, StaticItem, FunctionItem}
-use Rattle.syntax.specs.Views.{parameter_type_tree, parameter_tree, function_tree, static_tree, item_tree, result_tree, block_tree}
-use Rattle.type_rules.specs.declared.ty.ExprType.{ExprType as TypeInMemory}
-use Rattle.type_rules.specs.ExprTypes.{ExprType, Ref, Scope}
+use Rattle.syntax.specs.declared.unit.ResultType.TheVariants.{Void}
+use Rattle.syntax.specs.Tree.{Item, StaticItem, FunctionItem}
+use Rattle.syntax.specs.Views.{parameter_tree, function_tree, static_tree, item_tree, block_tree}
+use Rattle.type_rules.specs.declared.ty.ExprType.{ExprType}
+use Rattle.type_rules.specs.declared.ty.ExprType.TheVariants.{Ref}
+use Rattle.type_rules.specs.ExprTypes.{Scope}
 use Rattle.type_rules.specs.declared.rule.TypeRule.TheVariants.{UnknownName, DeclaredTwice}
 use Rattle.type_rules.specs.TypeRules.{Place, StaticForm, HeadForm, has_name, has_repeated, breaks, broken_at, parameter_type, places_of, function_places, item_places}
 use Rattle.types.specs.AllFaults.{told_at}
@@ -21,20 +23,20 @@ use Rattle.types.proofs.PlaceLemmas.{found-none, found-append, found-next}
 
 -- ---- what is known and taken at a function's beginning
 
-known_names : (known : ByName TypeInMemory) → map {B = Identifier} (λ v. v.0) (scope_of known) ≡ map {B = Identifier} (λ k. k.0) known
+known_names : (known : ByName ExprType) → map {B = Identifier} (λ v. v.0) (scope_of known) ≡ map {B = Identifier} (λ k. k.0) known
 known_names [] = refl
 known_names (k ∷ known) = ap (λ names. k.0 ∷ names) (known_names known)
 
-entry_types : (parameters : List ParameterInMemory) → map {B = Identifier × ExprType} (λ p. (p.name, parameter_type p.type)) (map parameter_tree parameters) ≡ map {B = Identifier × ExprType} (λ p. (p.name, parameter_type (parameter_type_tree p.kind))) parameters
+entry_types : (parameters : List ParameterInMemory) → map {B = Identifier × ExprType} (λ p. (p.name, parameter_type p.type)) (map parameter_tree parameters) ≡ map {B = Identifier × ExprType} (λ p. (p.name, parameter_type p.kind)) parameters
 entry_types [] = refl
-entry_types (p ∷ parameters) = ap (λ xs. (p.name, parameter_type (parameter_type_tree p.kind)) ∷ xs) (entry_types parameters)
+entry_types (p ∷ parameters) = ap (λ xs. (p.name, parameter_type p.kind) ∷ xs) (entry_types parameters)
 
 entry_names : (parameters : List ParameterInMemory) (statics : Scope)
-    → map {B = Identifier} (λ v. v.0) (map {B = Identifier × ExprType} (λ p. (p.name, parameter_type (parameter_type_tree p.kind))) parameters ++ statics) ≡ map (λ p. p.name) (map parameter_tree parameters) ++ map (λ s. s.0) statics
+    → map {B = Identifier} (λ v. v.0) (map {B = Identifier × ExprType} (λ p. (p.name, parameter_type p.kind)) parameters ++ statics) ≡ map (λ p. p.name) (map parameter_tree parameters) ++ map (λ s. s.0) statics
 entry_names [] statics = refl
 entry_names (p ∷ parameters) statics = ap (λ names. p.name ∷ names) (entry_names parameters statics)
 
-taken_names : (statics : Scope) (f : FunctionInMemory) (known : ByName TypeInMemory) → scope_of known ≡ entry_scope statics f → parameter_names (function_tree f) ++ map (λ s. s.0) statics ≡ map {B = Identifier} (λ k. k.0) known
+taken_names : (statics : Scope) (f : FunctionInMemory) (known : ByName ExprType) → scope_of known ≡ entry_scope statics f → parameter_names (function_tree f) ++ map (λ s. s.0) statics ≡ map {B = Identifier} (λ k. k.0) known
 taken_names statics f known e =
     sym (ap (λ names. f.class_name ∷ names) (entry_names f.parameters.items statics)) ∙ sym (ap (λ (scope : Scope). map {B = Identifier} (λ v. v.0) scope) e) ∙ known_names known
 
@@ -45,7 +47,7 @@ none_is None = refl
 none_is (Some x) = refl
 
 head_place : List Identifier → Scope → FunctionInMemory → Place
-head_place taken statics f = record { line = f.line; known = statics; taken = taken; returns = result_tree f.result; form = HeadForm (function_tree f) }
+head_place taken statics f = record { line = f.line; known = statics; taken = taken; returns = f.result; form = HeadForm (function_tree f) }
 
 head : (taken : List Identifier) (statics : Scope) (f : FunctionInMemory) (entry : List Identifier) → parameter_names (function_tree f) ++ map (λ s. s.0) statics ≡ entry → broken_at (head_place taken statics f) ≡ head_faults taken entry f
 unfolding head_place
@@ -55,14 +57,14 @@ head taken statics f entry e =
     ∙ ap (λ xs. broken_if (not (is_some (unmangle f.name))) UnknownName f.line ++ xs) (append-nil _)
 
 -- what is refused in a function where these names are known at its beginning
-pub found-function : (taken : List Identifier) (statics : Scope) (f : FunctionInMemory) (known : ByName TypeInMemory) → scope_of known ≡ entry_scope statics f
-    → found (function_places taken statics (function_tree f)) ≡ take 1 (head_faults taken (map {B = Identifier} (λ k. k.0) known) f) ++ found (places_of (result_tree f.result) (scope_of known) (map {B = Identifier} (λ k. k.0) known) (block_tree f.body))
+pub found-function : (taken : List Identifier) (statics : Scope) (f : FunctionInMemory) (known : ByName ExprType) → scope_of known ≡ entry_scope statics f
+    → found (function_places taken statics (function_tree f)) ≡ take 1 (head_faults taken (map {B = Identifier} (λ k. k.0) known) f) ++ found (places_of f.result (scope_of known) (map {B = Identifier} (λ k. k.0) known) (block_tree f.body))
 unfolding head_place
 found-function taken statics f known e =
     let names = taken_names statics f known e in
     found-next (head_place taken statics f) _
     ∙ ap₂ (λ xs ys. xs ++ ys) (ap (take 1) (head taken statics f (map {B = Identifier} (λ k. k.0) known) names))
-    (ap₂ (λ scope all. found (places_of (result_tree f.result) scope all (block_tree f.body))) (ap (λ xs. (f.class_name, Ref) ∷ xs ++ statics) (entry_types f.parameters.items) ∙ sym e) names)
+    (ap₂ (λ scope all. found (places_of f.result scope all (block_tree f.body))) (ap (λ xs. (f.class_name, Ref) ∷ xs ++ statics) (entry_types f.parameters.items) ∙ sym e) names)
 
 -- ---- statics
 

@@ -7,8 +7,17 @@ use Rattle.std.specs.Option.{option_or}
 use Rattle.base.specs.Bytes.{Identifier}
 use Rattle.base.specs.Options.{some_passes}
 use Rattle.syntax.specs.Parts.{names_in, null_tested, own_call, own_expressions, assigned_name}
-use Rattle.syntax.specs.Tree.{Expr, Number, Named, Variable, Element, Prefix, Binary, Paren, PrefixOp, LogicalNot, Complement, ToWord, ToInt, Null, BinaryOp, Equal, NotEqual, FromExpr, FromCall, TestExpr, TestCall, ResultType, Void, IntResult, ReferenceResult, Stmt, Declare, DeclareBuffer, DeclareChars, DeclareArray, Assign, AssignElement, Perform, PutJint, If, IfElse, While, Return, ReturnValue}
-use Rattle.type_rules.specs.ExprTypes.{Scope, ExprType, Word, Jint, Flag, Truth, Ref, Global, Weak, FieldId, MethodId, Buffer, Array, type_of, type_in, prefix_type, binary_type, OperatorGroup, Logic, Equality, Order, OnWords, group, null_test_type, has_elements, is_index, is_word, is_jint, is_flag, is_truth, is_ref, is_null, name_type, is_nullable, is_unknown}
+use Rattle.syntax.specs.declared.unit.ResultType.{ResultType}
+use Rattle.syntax.specs.declared.unit.ResultType.TheVariants.{Void, Jint as IntResult, Reference as ReferenceResult}
+use Rattle.syntax.specs.declared.expr.PrefixOp.{PrefixOp}
+use Rattle.syntax.specs.declared.expr.PrefixOp.TheVariants.{LogicalNot, Complement, ToWord, ToInt}
+use Rattle.syntax.specs.declared.expr.BinaryOp.{BinaryOp}
+use Rattle.syntax.specs.declared.expr.BinaryOp.TheVariants.{Equal, NotEqual}
+use Rattle.syntax.specs.declared.expr.Constant.TheVariants.{Null}
+use Rattle.syntax.specs.Tree.{Expr, Number, Named, Variable, Element, Prefix, Binary, Paren, FromExpr, FromCall, TestExpr, TestCall, Stmt, Declare, DeclareBuffer, DeclareChars, DeclareArray, Assign, AssignElement, Perform, PutJint, If, IfElse, While, Return, ReturnValue}
+use Rattle.type_rules.specs.declared.ty.ExprType.{ExprType}
+use Rattle.type_rules.specs.declared.ty.ExprType.TheVariants.{Word, Jint, Flag, Truth, Ref, Global, Weak, FieldId, MethodId, Buffer, Array}
+use Rattle.type_rules.specs.ExprTypes.{Scope, type_of, type_in, prefix_type, binary_type, OperatorGroup, Logic, Equality, Order, OnWords, group, null_test_type, has_elements, is_index, is_word, is_jint, is_flag, is_truth, is_ref, is_null, name_type, is_nullable, is_unknown}
 use Rattle.type_rules.specs.declared.rule.TypeRule.TheVariants.{TypeMisfit, UnknownName}
 use Rattle.type_rules.specs.TypeRules.{is_formed, variable_type, value_sets, return_fits, statement_fits, breaks_type_rule}
 use Rattle.type_rules.specs.Uses.{expr_uses, uses}

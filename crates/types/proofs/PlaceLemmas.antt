@@ -3,7 +3,8 @@ use Rattle.std.proofs.Common.{◌≡◌, List, [], ◌∷◌, ◌++◌, refl, ap
 use Rattle.std.proofs.lemmas.Grind.{flat_map-append}
 use Rattle.base.specs.Bytes.{Identifier}
 use Rattle.syntax.specs.Parts.{statements_within, names_declared}
-use Rattle.syntax.specs.Tree.{ResultType, Stmt, If, IfElse, While, Block, Next}
+use Rattle.syntax.specs.declared.unit.ResultType.{ResultType}
+use Rattle.syntax.specs.Tree.{Stmt, If, IfElse, While, Block, Next}
 use Rattle.type_rules.specs.ExprTypes.{Scope}
 use Rattle.type_rules.specs.TypeRules.{Place, places_of, places_within, with_declared}
 use Rattle.types.specs.AllFaults.{told_at}

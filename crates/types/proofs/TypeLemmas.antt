@@ -2,9 +2,16 @@
 use Rattle.std.proofs.Common.{◌≡◌, Bool, true, false, ◌&&◌, Option, Some, None, refl, sym, ◌∙◌, if◌then◌else◌}
 use Rattle.std.specs.Option.{is_some, option_or}
 use Rattle.syntax.specs.Parts.{null_tested}
-use Rattle.syntax.specs.Tree.{Expr, Number, Named, Variable, Element, Prefix, Binary, Paren, Constant, True, False, BinaryOp, PrefixOp, LogicalNot, Complement, ToWord, ToInt}
+use Rattle.syntax.specs.declared.expr.PrefixOp.{PrefixOp}
+use Rattle.syntax.specs.declared.expr.PrefixOp.TheVariants.{LogicalNot, Complement, ToWord, ToInt}
+use Rattle.syntax.specs.declared.expr.BinaryOp.{BinaryOp}
+use Rattle.syntax.specs.declared.expr.Constant.{Constant}
+use Rattle.syntax.specs.declared.expr.Constant.TheVariants.{True, False}
+use Rattle.syntax.specs.Tree.{Expr, Number, Named, Variable, Element, Prefix, Binary, Paren}
 use Rattle.base.specs.Bytes.{Identifier}
-use Rattle.type_rules.specs.ExprTypes.{ExprType, Word, Jint, Flag, Truth, OperatorGroup, Logic, Equality, Order, OnWords, Scope, type_of, type_in, binary_type, prefix_type, constant_type, group, null_test_type, is_nullable, is_index, has_elements}
+use Rattle.type_rules.specs.declared.ty.ExprType.{ExprType}
+use Rattle.type_rules.specs.declared.ty.ExprType.TheVariants.{Word, Jint, Flag, Truth}
+use Rattle.type_rules.specs.ExprTypes.{OperatorGroup, Logic, Equality, Order, OnWords, Scope, type_of, type_in, binary_type, prefix_type, constant_type, group, null_test_type, is_nullable, is_index, has_elements}
 use Rattle.types.specs.ValueTypes.{of_value, bare_type}
 
 without : (o d : Option ExprType) → is_some o ≡ false → option_or o d ≡ d

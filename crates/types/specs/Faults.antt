@@ -6,14 +6,15 @@ use Rattle.class_rules.specs.Mangling.{unmangle}
 use Rattle.places.specs.declared.fault.Fault.{Fault as FaultAt}
 use Rattle.syntax.specs.declared.unit.Function.{Function as FunctionInMemory}
 use Rattle.syntax.specs.Parts.{line_of, statements_of, names_declared}
-use Rattle.syntax.specs.Tree.{ResultType, Void, Stmt, If, IfElse, While, Item, StaticItem, FunctionItem}
-use Rattle.syntax.specs.Views.{parameter_type_tree}
+use Rattle.syntax.specs.declared.unit.ResultType.{ResultType}
+use Rattle.syntax.specs.declared.unit.ResultType.TheVariants.{Void}
+use Rattle.syntax.specs.Tree.{Stmt, If, IfElse, While, Item, StaticItem, FunctionItem}
 use Rattle.types.specs.AllFaults.{told_at}
 use Rattle.types.specs.declared.fault.TypeError.{TypeError}
 use Rattle.types.specs.declared.fault.TypeError.TheVariants.{Memory, Fault}
-use Rattle.type_rules.specs.declared.ty.ExprType.{ExprType as TypeInMemory}
-use Rattle.type_rules.specs.ExprTypes.{Ref, Scope}
-use Rattle.type_rules.specs.TypeViews.{type_value}
+use Rattle.type_rules.specs.declared.ty.ExprType.{ExprType}
+use Rattle.type_rules.specs.declared.ty.ExprType.TheVariants.{Ref}
+use Rattle.type_rules.specs.ExprTypes.{Scope}
 use Rattle.type_rules.specs.declared.rule.TypeRule.{TypeRule}
 use Rattle.type_rules.specs.declared.rule.TypeRule.TheVariants.{UnknownName, DeclaredTwice}
 use Rattle.type_rules.specs.TypeRules.{Place, StaticForm, StatementForm, breaks_type_rule, places_of, function_places, has_name, has_repeated, parameter_type, static_type}
@@ -27,8 +28,8 @@ abbrev pub fault_of : TypeFault → ℕ × TypeRule
 fault_of f = (f.line, f.rule)
 
 -- the names that are known
-abbrev pub scope_of : ByName TypeInMemory → Scope
-scope_of known = map (λ k. (k.0, type_value k.1)) known
+abbrev pub scope_of : ByName ExprType → Scope
+scope_of known = map (λ k. (k.0, k.1)) known
 
 -- ---- what a check finds in a list of broken rules
 
@@ -116,10 +117,10 @@ head_faults taken entry f = broken_if (not (is_some (unmangle f.name))) UnknownN
 -- ---- names in memory
 
 -- the list ends with the other
-pub record IsAbove (all below : ByName TypeInMemory) : Type 0 where
-  pub above : ByName TypeInMemory
+pub record IsAbove (all below : ByName ExprType) : Type 0 where
+  pub above : ByName ExprType
   pub joined : all ≡ above ++ below
 
 -- what is known at a function's beginning, after these statics
 abbrev pub entry_scope : Scope → FunctionInMemory → Scope
-entry_scope statics f = (f.class_name, Ref) ∷ map (λ p. (p.name, parameter_type (parameter_type_tree p.kind))) f.parameters.items ++ statics
+entry_scope statics f = (f.class_name, Ref) ∷ map (λ p. (p.name, parameter_type p.kind)) f.parameters.items ++ statics

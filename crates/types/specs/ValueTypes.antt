@@ -1,7 +1,9 @@
 -- The types of values, which each expression has that has a type, but for bare names.
 use Rattle.std.specs.Prelude.{Option, Some, None}
 use Rattle.syntax.specs.Tree.{Expr, Variable, Paren}
-use Rattle.type_rules.specs.ExprTypes.{ExprType, Word, Jint, Flag, Truth, Scope, type_in}
+use Rattle.type_rules.specs.declared.ty.ExprType.{ExprType}
+use Rattle.type_rules.specs.declared.ty.ExprType.TheVariants.{Word, Jint, Flag, Truth}
+use Rattle.type_rules.specs.ExprTypes.{Scope, type_in}
 use Rattle.types.specs.declared.expressions.ValueType.{ValueType}
 use Rattle.types.specs.declared.expressions.ValueType.TheVariants as values
 

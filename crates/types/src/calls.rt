@@ -10,9 +10,7 @@ ghost use Rattle.base.specs.Options.{some_passes};
 ghost use Rattle.type_rules.specs.ExprTypes.{is_unknown, is_null, is_reference, is_any_reference, name_type, value_fits, address_fits, text_fits, argument_fits, arguments_fit, call_arguments_fit};
 ghost use Rattle.type_rules.specs.TypeRules.{is_formed, is_mode, modes_fit, has_wrong_count, has_wrong_mode, result_fits, is_droppable, is_push, call_fits, may_be_dropped, may_be_tested};
 ghost use Rattle.jni.specs.JniFunction.{takes_count};
-ghost use Rattle.jni.specs.Prototype.{Passed};
-ghost use Rattle.jni.specs.Table.{function_value, parameter_value, result_value};
-ghost use Rattle.type_rules.specs.TypeViews.{type_value};
+ghost use Rattle.jni.specs.declared.kinds.ParameterKind.TheVariants.{Passed};
 ghost use Rattle.types.specs.Called.{with_passed};
 ghost use Rattle.types.specs.Faults.{scope_of};
 ghost use Rattle.type_rules.specs.Uses.{argument_uses, call_uses};
@@ -43,7 +41,7 @@ fn is_any_reference(known: &Known<'_, ExprType>, e: ExprRef<'_>) -> bool
 
 /// Whether an expression fits a parameter; a mode is judged by a rule of its own.
 fn value_fits(known: &Known<'_, ExprType>, kind: ParameterKind, e: ExprRef<'_>) -> bool
-    ensures { result ≡ value_fits (scope_of known.now) (parameter_value kind) (ref_tree e.entry) }
+    ensures { result ≡ value_fits (scope_of known.now) kind (ref_tree e.entry) }
 {
     match kind {
         ParameterKind::IntNumber => is_jint(type_of(known, e)),
@@ -65,14 +63,14 @@ fn value_fits(known: &Known<'_, ExprType>, kind: ParameterKind, e: ExprRef<'_>) 
 
 /// Whether a string may stand for a parameter.
 fn text_fits(kind: ParameterKind) -> bool
-    ensures { result ≡ text_fits (parameter_value kind) }
+    ensures { result ≡ text_fits kind }
 {
     matches!(kind, ParameterKind::TextBytes | ParameterKind::Mode)
 }
 
 /// Whether the address of a variable may stand for a parameter.
 fn address_fits(known: &Known<'_, ExprType>, kind: ParameterKind, name: &Name) -> bool
-    ensures { result ≡ address_fits (scope_of known.now) (parameter_value kind) name.now }
+    ensures { result ≡ address_fits (scope_of known.now) kind name.now }
 {
     match kind {
         ParameterKind::IsCopy => is_flag(type_in(known, name)),
@@ -87,7 +85,7 @@ pub(crate) fn argument_fits(
     kind: ParameterKind,
     argument: &Argument,
 ) -> bool
-    ensures { result ≡ argument_fits (scope_of known.now) (parameter_value kind) (argument_tree argument.now) }
+    ensures { result ≡ argument_fits (scope_of known.now) kind (argument_tree argument.now) }
 {
     match argument {
         Argument::Value(e) => value_fits(known, kind, e.whole()),
@@ -118,7 +116,7 @@ fn arguments_fit(
     arguments: &[Argument],
 ) -> bool
     ensures { result ≡ arguments_fit (scope_of known.now)
-        (with_passed (map parameter_value kinds.now) passes (length (map argument_tree arguments.now)))
+        (with_passed kinds.now passes (length (map argument_tree arguments.now)))
         (map argument_tree arguments.now) }
 {
     match arguments {
@@ -148,7 +146,7 @@ fn is_mode(argument: &Argument) -> bool
 /// Whether each mode among the arguments is one, as far as there are parameters too.
 #[tactic(auto, using(crate::proofs::ArgumentLemmas::argument_rules))]
 fn modes_fit(kinds: &[ParameterKind], arguments: &[Argument]) -> bool
-    ensures { result ≡ modes_fit (map parameter_value kinds.now) (map argument_tree arguments.now) }
+    ensures { result ≡ modes_fit kinds.now (map argument_tree arguments.now) }
 {
     match arguments {
         [] => true,
@@ -169,7 +167,7 @@ pub(crate) fn call_arguments_fit(
     call: &Call,
 ) -> bool
     ensures { result ≡ call_arguments_fit (scope_of known.now) (call_tree call.now)
-        (option_map function_value function) }
+        function }
 {
     match function {
         None => true,
@@ -184,7 +182,7 @@ pub(crate) fn call_arguments_fit(
 
 /// Whether a function may have so many arguments after `env`.
 fn takes_count(function: JniFunction, count: usize) -> bool
-    ensures { result ≡ takes_count (function_value function) count }
+    ensures { result ≡ takes_count function count }
 {
     let own = function.prototype().parameters.len();
     count == own || (function.calls_method() && own <= count && count <= own + MOST_FURTHER)
@@ -192,7 +190,7 @@ fn takes_count(function: JniFunction, count: usize) -> bool
 
 /// Whether a call has a number of arguments that its function doesn't take, as far as that is known.
 pub(crate) fn has_wrong_count(function: Option<JniFunction>, call: &Call) -> bool
-    ensures { result ≡ has_wrong_count (call_tree call.now) (option_map function_value function) }
+    ensures { result ≡ has_wrong_count (call_tree call.now) function }
 {
     match function {
         None => false,
@@ -202,7 +200,7 @@ pub(crate) fn has_wrong_count(function: Option<JniFunction>, call: &Call) -> boo
 
 /// Whether a call has a mode that is none, as far as its function is known.
 pub(crate) fn has_wrong_mode(function: Option<JniFunction>, call: &Call) -> bool
-    ensures { result ≡ has_wrong_mode (call_tree call.now) (option_map function_value function) }
+    ensures { result ≡ has_wrong_mode (call_tree call.now) function }
 {
     match function {
         None => false,
@@ -212,7 +210,7 @@ pub(crate) fn has_wrong_mode(function: Option<JniFunction>, call: &Call) -> bool
 
 /// Whether a result fits where a variable of a type is set.
 fn result_fits(ty: Option<ExprType>, kind: ResultKind) -> bool
-    ensures { result ≡ result_fits (option_map type_value ty) (result_value kind) }
+    ensures { result ≡ result_fits ty kind }
 {
     match kind {
         ResultKind::GivesNothing => false,
@@ -229,7 +227,7 @@ fn result_fits(ty: Option<ExprType>, kind: ResultKind) -> bool
 
 /// Whether a result may be dropped.
 fn is_droppable(kind: ResultKind) -> bool
-    ensures { result ≡ is_droppable (result_value kind) }
+    ensures { result ≡ is_droppable kind }
 {
     !matches!(
         kind,
@@ -239,14 +237,14 @@ fn is_droppable(kind: ResultKind) -> bool
 
 /// Whether a function is `PushLocalFrame`, whose number a test for 0 alone may take.
 fn is_push(function: JniFunction) -> bool
-    ensures { result ≡ is_push (function_value function) }
+    ensures { result ≡ is_push function }
 {
     matches!(function, JniFunction::PushLocalFrame)
 }
 
 /// Whether a variable of a type may be set to a call of a function, as far as that is known.
 pub(crate) fn call_fits(ty: Option<ExprType>, function: Option<JniFunction>) -> bool
-    ensures { result ≡ call_fits (option_map type_value ty) (option_map function_value function) }
+    ensures { result ≡ call_fits ty function }
 {
     match function {
         None => true,
@@ -256,7 +254,7 @@ pub(crate) fn call_fits(ty: Option<ExprType>, function: Option<JniFunction>) -> 
 
 /// Whether a call of a function may be a statement, as far as that is known.
 pub(crate) fn may_be_dropped(function: Option<JniFunction>) -> bool
-    ensures { result ≡ may_be_dropped (option_map function_value function) }
+    ensures { result ≡ may_be_dropped function }
 {
     match function {
         None => true,
@@ -266,7 +264,7 @@ pub(crate) fn may_be_dropped(function: Option<JniFunction>) -> bool
 
 /// Whether a call of a function may be tested for 0, as far as that is known.
 pub(crate) fn may_be_tested(function: Option<JniFunction>) -> bool
-    ensures { result ≡ may_be_tested (option_map function_value function) }
+    ensures { result ≡ may_be_tested function }
 {
     match function {
         None => true,

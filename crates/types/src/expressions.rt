@@ -4,10 +4,9 @@ ghost use Rattle.std.specs.Prelude.{◌≡◌, ◌&&◌, ◌||◌, if◌then◌e
 ghost use Rattle.std.specs.Option.{option_map, is_some};
 ghost use Rattle.syntax.specs.Parts.{null_tested};
 ghost use Rattle.syntax.specs.Shapes.{ref_tree};
-ghost use Rattle.syntax.specs.Views.{constant_tree, prefix_tree, binary_tree};
-ghost use Rattle.type_rules.specs.ExprTypes.{Jint, is_word, is_jint, is_flag, is_truth, is_castable, is_index, has_elements, type_in, type_of, constant_type, prefix_type, binary_type, group, null_test_type, is_null, name_type, is_unknown};
+ghost use Rattle.type_rules.specs.declared.ty.ExprType.TheVariants.{Jint};
+ghost use Rattle.type_rules.specs.ExprTypes.{is_word, is_jint, is_flag, is_truth, is_castable, is_index, has_elements, type_in, type_of, constant_type, prefix_type, binary_type, group, null_test_type, is_null, name_type, is_unknown};
 ghost use Rattle.type_rules.specs.TypeRules.{is_formed};
-ghost use Rattle.type_rules.specs.TypeViews.{type_value};
 ghost use Rattle.types.specs.Faults.{scope_of};
 ghost use Rattle.types.specs.ValueTypes.{value_type, of_value, bare_type};
 ghost use Rattle.type_rules.specs.Uses.{expr_uses};
@@ -29,7 +28,7 @@ enum ValueType {
 impl ValueType {
     /// The same among all types.
     fn among_all(self) -> ExprType
-        ensures { type_value result ≡ value_type self }
+        ensures { result ≡ value_type self }
     {
         match self {
             ValueType::Word => ExprType::Word,
@@ -83,7 +82,7 @@ fn is_index(ty: Option<ValueType>) -> bool
 
 /// The flags; NULL and the modes have no type.
 fn constant_type(constant: Constant) -> Option<ValueType>
-    ensures { option_map value_type result ≡ constant_type (constant_tree constant) }
+    ensures { option_map value_type result ≡ constant_type constant }
 {
     match constant {
         Constant::True | Constant::False => Some(ValueType::Flag),
@@ -99,7 +98,7 @@ fn type_if(fits: bool, ty: ValueType) -> Option<ValueType>
 }
 
 fn prefix_type(op: PrefixOp, ty: Option<ValueType>) -> Option<ValueType>
-    ensures { option_map value_type result ≡ prefix_type (prefix_tree op) (option_map value_type ty) }
+    ensures { option_map value_type result ≡ prefix_type op (option_map value_type ty) }
 {
     match op {
         PrefixOp::LogicalNot => type_if(is_truth(ty), ValueType::Truth),
@@ -118,7 +117,7 @@ fn are_comparable(left: Option<ValueType>, right: Option<ValueType>) -> bool
 }
 
 fn binary_type(op: BinaryOp, left: Option<ValueType>, right: Option<ValueType>) -> Option<ValueType>
-    ensures { option_map value_type result ≡ binary_type (group (binary_tree op)) (option_map value_type left)
+    ensures { option_map value_type result ≡ binary_type (group op) (option_map value_type left)
         (option_map value_type right) }
 {
     match op {
@@ -175,7 +174,7 @@ pub(crate) fn is_null(e: ExprRef<'_>) -> bool
 
 /// The type of a bare name.
 pub(crate) fn name_type(known: &Known<'_, ExprType>, e: ExprRef<'_>) -> Option<ExprType>
-    ensures { option_map type_value result ≡ name_type (scope_of known.now) (ref_tree e.entry) }
+    ensures { result ≡ name_type (scope_of known.now) (ref_tree e.entry) }
 {
     match e.shape() {
         Shape::Variable(x) => type_in(known, x),
@@ -219,7 +218,7 @@ fn value_type_of(known: &Known<'_, ExprType>, e: ExprRef<'_>) -> Option<ValueTyp
 
 /// The type of a name, which may be in parentheses.
 fn bare_type(known: &Known<'_, ExprType>, e: ExprRef<'_>) -> Option<ExprType>
-    ensures { option_map type_value result ≡ bare_type (scope_of known.now) (ref_tree e.entry) }
+    ensures { result ≡ bare_type (scope_of known.now) (ref_tree e.entry) }
 {
     match e.shape() {
         Shape::Variable(x) => type_in(known, x),
@@ -230,7 +229,7 @@ fn bare_type(known: &Known<'_, ExprType>, e: ExprRef<'_>) -> Option<ExprType>
 
 /// The type of an expression, if it has one.
 pub(crate) fn type_of(known: &Known<'_, ExprType>, e: ExprRef<'_>) -> Option<ExprType>
-    ensures { option_map type_value result ≡ type_of (scope_of known.now) (ref_tree e.entry) }
+    ensures { result ≡ type_of (scope_of known.now) (ref_tree e.entry) }
 {
     match value_type_of(known, e) {
         Some(ty) => Some(ty.among_all()),

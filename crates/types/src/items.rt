@@ -3,7 +3,7 @@
 ghost use Rattle.std.specs.Prelude.{◌≡◌, List, ◌∷◌, ◌++◌, OnOk, map, take};
 ghost use Rattle.base.specs.Bytes.{Identifier};
 ghost use Rattle.syntax.specs.Parts.{item_name};
-ghost use Rattle.syntax.specs.Views.{block_tree, function_tree, item_tree, result_tree, static_type_tree};
+ghost use Rattle.syntax.specs.Views.{block_tree, function_tree, item_tree};
 ghost use Rattle.type_rules.specs.declared.rule.TypeRule.TheVariants.{DeclaredTwice};
 ghost use Rattle.type_rules.specs.TypeRules.{has_name, has_repeated, static_type, places_of, function_places, item_places};
 ghost use Rattle.types.specs.Faults.{Faults, Refuses, Finds, Tells, broken_if, scope_of, found, head_faults, own_places, with_static};
@@ -71,7 +71,7 @@ fn check_body<'a>(
     faults: &mut Vec<TypeFault>,
 ) -> Result<(), AllocError>
     ensures tells { OnOk result (Tells all faults.old.items faults.new.items (take 1 (head_faults names.now entry.now f.now)
-        ++ found (places_of (result_tree f.now.result) (scope_of known.old) entry.now (block_tree f.now.body)))) }
+        ++ found (places_of f.now.result (scope_of known.old) entry.now (block_tree f.now.body)))) }
     ensures restored { OnOk result (known.new ≡ known.old) }
 {
     let mut taken = Taken::new(alloc);
@@ -122,7 +122,7 @@ fn check_static<'a>(
     ensures tells { OnOk result (Tells all faults.old.items faults.new.items
         (take 1 (broken_if (has_name names.old.items s.now.name) DeclaredTwice s.now.line))) }
     ensures names { OnOk result (names.new.items ≡ s.now.name ∷ names.old.items) }
-    ensures statics { OnOk result (scope_of statics.new ≡ (s.now.name, static_type (static_type_tree s.now.kind)) ∷ scope_of statics.old) }
+    ensures statics { OnOk result (scope_of statics.new ≡ (s.now.name, static_type s.now.kind) ∷ scope_of statics.old) }
 {
     let name = refuse_name_if(
         has_name(names, &s.name),

@@ -4,8 +4,6 @@ ghost use Rattle.std.specs.Prelude.{◌≡◌, [], ◌∷◌, ◌++◌, OnOk, ma
 ghost use Rattle.std.specs.Option.{option_map};
 ghost use Rattle.type_rules.specs.ExprTypes.{type_in, is_unknown};
 ghost use Rattle.type_rules.specs.TypeRules.{has_name, parameter_type};
-ghost use Rattle.syntax.specs.Views.{parameter_type_tree};
-ghost use Rattle.type_rules.specs.TypeViews.{type_value};
 ghost use Rattle.types.specs.Faults.{IsAbove, scope_of, entry_scope};
 
 use std::alloc::AllocError;
@@ -21,7 +19,7 @@ fn is_same(a: &Name, b: &Name) -> bool
 
 /// The type of a known name.
 pub(crate) fn type_in(known: &Known<'_, ExprType>, name: &Name) -> Option<ExprType>
-    ensures { option_map type_value result ≡ type_in (scope_of known.now) name.now }
+    ensures { result ≡ type_in (scope_of known.now) name.now }
 {
     known.get(name)
 }
@@ -55,7 +53,7 @@ fn declare_parameters<'a>(
     parameters: &'a [Parameter],
 ) -> Result<(), AllocError>
     ensures scope { OnOk result (scope_of known.new
-        ≡ map (λ p. (p.name, parameter_type (parameter_type_tree p.kind))) parameters.now ++ scope_of known.old) }
+        ≡ map (λ p. (p.name, parameter_type p.kind)) parameters.now ++ scope_of known.old) }
     ensures above { OnOk result (IsAbove known.new known.old) }
 {
     match parameters {

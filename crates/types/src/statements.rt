@@ -6,16 +6,15 @@ ghost use Rattle.std.specs.Option.{option_map};
 ghost use Rattle.base.specs.Options.{some_passes};
 ghost use Rattle.syntax.specs.Parts.{own_call, call_of_right_side, assigned_name, call_expressions};
 ghost use Rattle.base.specs.Bytes.{Identifier};
-ghost use Rattle.syntax.specs.Tree.{ResultType as ReturnType, Void};
+ghost use Rattle.syntax.specs.declared.unit.ResultType.{ResultType as ReturnType};
+ghost use Rattle.syntax.specs.declared.unit.ResultType.TheVariants.{Void};
 ghost use Rattle.syntax.specs.Shapes.{ref_tree};
-ghost use Rattle.syntax.specs.Views.{right_side_tree, test_tree, form_tree, stmt_tree, result_tree};
+ghost use Rattle.syntax.specs.Views.{right_side_tree, test_tree, form_tree, stmt_tree};
 ghost use Rattle.jni.specs.JniFunction.{function_named};
-ghost use Rattle.jni.specs.Table.{function_value};
 ghost use Rattle.type_rules.specs.ExprTypes.{type_in, is_unknown, type_of, has_elements, is_index, is_jint, call_arguments_fit};
 ghost use Rattle.type_rules.specs.declared.rule.TypeRule.TheVariants.{UnknownName, DeclaredTwice, TypeMisfit, UnknownFunction, ArgumentCount, ReferenceCopied, BadMode, ReadOnlyWrite};
 ghost use Rattle.type_rules.specs.TypeRules.{is_formed, value_sets, right_side_sets, buffer_begins, test_fits, return_fits, statement_fits, copies_reference, typing_rules, breaks_type_rule};
 ghost use Rattle.types.specs.Called.{function_in, call_of_test, declared};
-ghost use Rattle.type_rules.specs.TypeViews.{type_value};
 ghost use Rattle.types.specs.AllFaults.{told_at};
 ghost use Rattle.types.specs.Faults.{Faults, scope_of, Judges, Tells, statement_place, refused_of};
 ghost use Rattle.type_rules.specs.Uses.{right_uses, test_uses, uses};
@@ -40,7 +39,7 @@ use type_rules::{ExprType, Known, TypeRule, own_call, variable_type};
 
 /// The function that a statement calls, if it is known.
 pub(crate) fn function_called(form: &Form) -> Option<JniFunction>
-    ensures { (line : ℕ) → option_map function_value result ≡ function_in (own_call (form_tree line form.now)) }
+    ensures { (line : ℕ) → result ≡ function_in (own_call (form_tree line form.now)) }
 {
     match own_call(form) {
         Some(call) => function_named(call.function.as_bytes()),
@@ -118,7 +117,7 @@ fn names_unknown(known: &Known<'_, ExprType>, form: &Form, misfits: bool) -> boo
 
 /// The name that a statement declares, and its type.
 pub(crate) fn declared(form: &Form) -> Option<(&Name, ExprType)>
-    ensures { (line : ℕ) → option_map (λ d. (d.0.now, type_value d.1)) result ≡ declared (form_tree line form.now) }
+    ensures { (line : ℕ) → option_map (λ d. (d.0.now, d.1)) result ≡ declared (form_tree line form.now) }
 {
     match form {
         Form::Declare(t, x, _) => Some((x, variable_type(*t))),
@@ -141,7 +140,7 @@ fn declares_taken(taken: &Taken<'_>, form: &Form) -> bool
 
 /// Whether a variable of a type may be set to an expression. Of a known name in a local reference another rule speaks.
 fn value_sets(known: &Known<'_, ExprType>, ty: Option<ExprType>, e: ExprRef<'_>) -> bool
-    ensures { result ≡ value_sets (scope_of known.now) (option_map type_value ty) (ref_tree e.entry) }
+    ensures { result ≡ value_sets (scope_of known.now) ty (ref_tree e.entry) }
 {
     match ty {
         Some(ExprType::Word) => is_word(type_of(known, e)),
@@ -162,9 +161,9 @@ fn right_side_sets(
     right: &RightSide,
     function: Option<JniFunction>,
 ) -> bool
-    requires { option_map function_value function
+    requires { function
         ≡ function_in (call_of_right_side (Some (right_side_tree right.now))) }
-    ensures { result ≡ right_side_sets (scope_of known.now) (option_map type_value ty) (right_side_tree right.now) }
+    ensures { result ≡ right_side_sets (scope_of known.now) ty (right_side_tree right.now) }
 {
     match right {
         RightSide::Expr(e) => value_sets(known, ty, e.whole()),
@@ -174,9 +173,9 @@ fn right_side_sets(
 
 /// Whether a buffer may begin as a right side.
 fn buffer_begins(ty: ExprType, right: &RightSide, function: Option<JniFunction>) -> bool
-    requires { option_map function_value function
+    requires { function
         ≡ function_in (call_of_right_side (Some (right_side_tree right.now))) }
-    ensures { result ≡ buffer_begins [] (type_value ty) (right_side_tree right.now) }
+    ensures { result ≡ buffer_begins [] ty (right_side_tree right.now) }
 {
     match right {
         RightSide::Expr(e) => is_null(e.whole()),
@@ -186,7 +185,7 @@ fn buffer_begins(ty: ExprType, right: &RightSide, function: Option<JniFunction>)
 
 /// Whether an `if` may test this.
 fn test_fits(known: &Known<'_, ExprType>, test: &Test, function: Option<JniFunction>) -> bool
-    requires { option_map function_value function ≡ function_in (call_of_test (test_tree test.now)) }
+    requires { function ≡ function_in (call_of_test (test_tree test.now)) }
     ensures { result ≡ test_fits (scope_of known.now) (test_tree test.now) }
 {
     match test {
@@ -197,7 +196,7 @@ fn test_fits(known: &Known<'_, ExprType>, test: &Test, function: Option<JniFunct
 
 /// Whether a function may return this.
 fn return_fits(known: &Known<'_, ExprType>, returns: ResultType, e: ExprRef<'_>) -> bool
-    ensures { result ≡ return_fits (scope_of known.now) (result_tree returns) (ref_tree e.entry) }
+    ensures { result ≡ return_fits (scope_of known.now) returns (ref_tree e.entry) }
 {
     match returns {
         ResultType::Void => false,
@@ -229,8 +228,8 @@ pub(crate) fn statement_fits(
     form: &Form,
     function: Option<JniFunction>,
 ) -> bool
-    requires { (line : ℕ) → option_map function_value function ≡ function_in (own_call (form_tree line form.now)) }
-    ensures { (line : ℕ) → result ≡ statement_fits (scope_of known.now) (result_tree returns)
+    requires { (line : ℕ) → function ≡ function_in (own_call (form_tree line form.now)) }
+    ensures { (line : ℕ) → result ≡ statement_fits (scope_of known.now) returns
         (form_tree line form.now) }
 {
     match form {
@@ -254,7 +253,7 @@ pub(crate) fn statement_fits(
 
 /// Whether the arguments of a statement's call do not fit, or one of them is neither bare nor has a type.
 fn call_misfits(known: &Known<'_, ExprType>, form: &Form, function: Option<JniFunction>) -> bool
-    requires { (line : ℕ) → option_map function_value function ≡ function_in (own_call (form_tree line form.now)) }
+    requires { (line : ℕ) → function ≡ function_in (own_call (form_tree line form.now)) }
     ensures { (line : ℕ) → result ≡ some_passes (λ c. not (list_all (is_formed (scope_of known.now))
         (call_expressions c)) || not (call_arguments_fit (scope_of known.now) c (function_named c.function)))
         (own_call (form_tree line form.now)) }
@@ -273,8 +272,8 @@ fn misfits(
     form: &Form,
     function: Option<JniFunction>,
 ) -> bool
-    requires { (line : ℕ) → option_map function_value function ≡ function_in (own_call (form_tree line form.now)) }
-    ensures { (line : ℕ) → result ≡ breaks_type_rule TypeMisfit (scope_of known.now) [] (result_tree returns)
+    requires { (line : ℕ) → function ≡ function_in (own_call (form_tree line form.now)) }
+    ensures { (line : ℕ) → result ≡ breaks_type_rule TypeMisfit (scope_of known.now) [] returns
         (form_tree line form.now) }
 {
     !statement_fits(known, returns, form, function) || call_misfits(known, form, function)
@@ -282,7 +281,7 @@ fn misfits(
 
 /// Whether a statement calls a function that is not known.
 fn calls_unknown(form: &Form, function: Option<JniFunction>) -> bool
-    requires { (line : ℕ) → option_map function_value function ≡ function_in (own_call (form_tree line form.now)) }
+    requires { (line : ℕ) → function ≡ function_in (own_call (form_tree line form.now)) }
     ensures { (line : ℕ) → result ≡ breaks_type_rule UnknownFunction [] [] Void (form_tree line form.now) }
 {
     match own_call(form) {
@@ -293,7 +292,7 @@ fn calls_unknown(form: &Form, function: Option<JniFunction>) -> bool
 
 /// Whether a statement's call has a wrong number of arguments.
 fn miscounts(form: &Form, function: Option<JniFunction>) -> bool
-    requires { (line : ℕ) → option_map function_value function ≡ function_in (own_call (form_tree line form.now)) }
+    requires { (line : ℕ) → function ≡ function_in (own_call (form_tree line form.now)) }
     ensures { (line : ℕ) → result ≡ breaks_type_rule ArgumentCount [] [] Void (form_tree line form.now) }
 {
     match own_call(form) {
@@ -304,7 +303,7 @@ fn miscounts(form: &Form, function: Option<JniFunction>) -> bool
 
 /// Whether a statement's call has a mode that is none.
 fn has_bad_mode(form: &Form, function: Option<JniFunction>) -> bool
-    requires { (line : ℕ) → option_map function_value function ≡ function_in (own_call (form_tree line form.now)) }
+    requires { (line : ℕ) → function ≡ function_in (own_call (form_tree line form.now)) }
     ensures { (line : ℕ) → result ≡ breaks_type_rule BadMode [] [] Void (form_tree line form.now) }
 {
     match own_call(form) {
@@ -315,7 +314,7 @@ fn has_bad_mode(form: &Form, function: Option<JniFunction>) -> bool
 
 /// Whether a known name is copied into a variable of a type that is a local reference.
 fn copies(known: &Known<'_, ExprType>, ty: Option<ExprType>, right: &RightSide) -> bool
-    ensures { result ≡ copies_reference (scope_of known.now) (option_map type_value ty)
+    ensures { result ≡ copies_reference (scope_of known.now) ty
         (Some (right_side_tree right.now)) }
 {
     match right {
@@ -353,7 +352,7 @@ fn misused(
     form: &Form,
     function: Option<JniFunction>,
 ) -> Option<TypeRule>
-    requires { (line : ℕ) → option_map function_value function ≡ function_in (own_call (form_tree line form.now)) }
+    requires { (line : ℕ) → function ≡ function_in (own_call (form_tree line form.now)) }
     ensures { (returns : ReturnType) (taken : List Identifier) (line : ℕ) → Judges result line (refused_of returns
         (scope_of known.now) taken (form_tree line form.now) line (ReferenceCopied ∷ BadMode ∷ ReadOnlyWrite ∷ [])) }
 {
@@ -376,7 +375,7 @@ fn miscalled(
     form: &Form,
     function: Option<JniFunction>,
 ) -> Option<TypeRule>
-    requires { (line : ℕ) → option_map function_value function ≡ function_in (own_call (form_tree line form.now)) }
+    requires { (line : ℕ) → function ≡ function_in (own_call (form_tree line form.now)) }
     ensures { (returns : ReturnType) (taken : List Identifier) (line : ℕ) → Judges result line (refused_of returns
         (scope_of known.now) taken (form_tree line form.now) line
         (UnknownFunction ∷ ArgumentCount ∷ ReferenceCopied ∷ BadMode ∷ ReadOnlyWrite ∷ [])) }
@@ -398,7 +397,7 @@ fn first_broken(
     returns: ResultType,
     form: &Form,
 ) -> Option<TypeRule>
-    ensures { (line : ℕ) → Judges result line (refused_of (result_tree returns) (scope_of known.now) taken.now
+    ensures { (line : ℕ) → Judges result line (refused_of returns (scope_of known.now) taken.now
         (form_tree line form.now) line typing_rules) }
 {
     let function = function_called(form);
@@ -447,7 +446,7 @@ pub(crate) fn check_statement(
     all: bool,
     faults: &mut Vec<TypeFault>,
 ) -> Result<(), AllocError>
-    ensures { OnOk result (Tells all faults.old.items faults.new.items (told_at (statement_place (result_tree returns)
+    ensures { OnOk result (Tells all faults.old.items faults.new.items (told_at (statement_place returns
         (scope_of known.now) taken.now (stmt_tree stmt.now)))) }
 {
     match first_broken(known, taken, returns, &stmt.form) {

@@ -2,93 +2,90 @@
 
 ghost use Rattle.std.specs.Prelude.{◌≡◌};
 ghost use Rattle.std.specs.Option.{option_map};
-ghost use Rattle.base.specs.Element.{element_value};
 ghost use Rattle.type_rules.specs.ExprTypes.{is_word, is_jint, is_flag, is_truth, is_ref, is_global, is_weak, is_field, is_method, is_index, is_castable, has_elements, is_nullable, is_array_of, is_buffer_for, is_read_only};
-ghost use Rattle.jni.specs.Table.{access_value};
-ghost use Rattle.type_rules.specs.TypeViews.{type_value};
 
 use jni::{Access, is_same_element};
 use syntax::ElementType;
 use type_rules::ExprType;
 
 pub(crate) fn is_word(ty: Option<ExprType>) -> bool
-    ensures { result ≡ is_word (option_map type_value ty) }
+    ensures { result ≡ is_word ty }
 {
     matches!(ty, Some(ExprType::Word))
 }
 
 pub(crate) fn is_jint(ty: Option<ExprType>) -> bool
-    ensures { result ≡ is_jint (option_map type_value ty) }
+    ensures { result ≡ is_jint ty }
 {
     matches!(ty, Some(ExprType::Jint))
 }
 
 pub(crate) fn is_flag(ty: Option<ExprType>) -> bool
-    ensures { result ≡ is_flag (option_map type_value ty) }
+    ensures { result ≡ is_flag ty }
 {
     matches!(ty, Some(ExprType::Flag))
 }
 
 pub(crate) fn is_truth(ty: Option<ExprType>) -> bool
-    ensures { result ≡ is_truth (option_map type_value ty) }
+    ensures { result ≡ is_truth ty }
 {
     matches!(ty, Some(ExprType::Truth))
 }
 
 pub(crate) fn is_ref(ty: Option<ExprType>) -> bool
-    ensures { result ≡ is_ref (option_map type_value ty) }
+    ensures { result ≡ is_ref ty }
 {
     matches!(ty, Some(ExprType::Ref))
 }
 
 pub(crate) fn is_global(ty: Option<ExprType>) -> bool
-    ensures { result ≡ is_global (option_map type_value ty) }
+    ensures { result ≡ is_global ty }
 {
     matches!(ty, Some(ExprType::Global))
 }
 
 pub(crate) fn is_weak(ty: Option<ExprType>) -> bool
-    ensures { result ≡ is_weak (option_map type_value ty) }
+    ensures { result ≡ is_weak ty }
 {
     matches!(ty, Some(ExprType::Weak))
 }
 
 pub(crate) fn is_field(ty: Option<ExprType>) -> bool
-    ensures { result ≡ is_field (option_map type_value ty) }
+    ensures { result ≡ is_field ty }
 {
     matches!(ty, Some(ExprType::FieldId))
 }
 
 pub(crate) fn is_method(ty: Option<ExprType>) -> bool
-    ensures { result ≡ is_method (option_map type_value ty) }
+    ensures { result ≡ is_method ty }
 {
     matches!(ty, Some(ExprType::MethodId))
 }
 
 /// What an index may be.
 pub(crate) fn is_index(ty: Option<ExprType>) -> bool
-    ensures { result ≡ is_index (option_map type_value ty) }
+    ensures { result ≡ is_index ty }
 {
     matches!(ty, Some(ExprType::Word | ExprType::Jint))
 }
 
 /// What a cast takes.
 pub(crate) fn is_castable(ty: Option<ExprType>) -> bool
-    ensures { result ≡ is_castable (option_map type_value ty) }
+    ensures { result ≡ is_castable ty }
 {
     matches!(ty, Some(ExprType::Word | ExprType::Jint | ExprType::Flag))
 }
 
 /// A buffer or a local array.
 pub(crate) fn has_elements(ty: Option<ExprType>) -> bool
-    ensures { result ≡ has_elements (option_map type_value ty) }
+    ensures { result ≡ has_elements ty }
 {
     matches!(ty, Some(ExprType::Buffer(..) | ExprType::Array(..)))
 }
 
 /// What may be compared with NULL.
 pub(crate) fn is_nullable(ty: Option<ExprType>) -> bool
-    ensures { result ≡ is_nullable (option_map type_value ty) }
+    ensures { result ≡ is_nullable ty }
 {
     matches!(
         ty,
@@ -104,14 +101,14 @@ pub(crate) fn is_nullable(ty: Option<ExprType>) -> bool
 
 /// A buffer that may not be written.
 pub(crate) fn is_read_only(ty: Option<ExprType>) -> bool
-    ensures { result ≡ is_read_only (option_map type_value ty) }
+    ensures { result ≡ is_read_only ty }
 {
     matches!(ty, Some(ExprType::Buffer(_, false)))
 }
 
 /// A local array of this type.
 pub(crate) fn is_array_of(element: ElementType, ty: Option<ExprType>) -> bool
-    ensures { result ≡ is_array_of (element_value element) (option_map type_value ty) }
+    ensures { result ≡ is_array_of element ty }
 {
     match ty {
         Some(ExprType::Array(other, _)) => is_same_element(element, other),
@@ -121,7 +118,7 @@ pub(crate) fn is_array_of(element: ElementType, ty: Option<ExprType>) -> bool
 
 /// A buffer that this access may fill.
 pub(crate) fn is_buffer_for(access: Access, ty: Option<ExprType>) -> bool
-    ensures { result ≡ is_buffer_for (access_value access) (option_map type_value ty) }
+    ensures { result ≡ is_buffer_for access ty }
 {
     match ty {
         Some(ExprType::Buffer(element, true)) => match access {

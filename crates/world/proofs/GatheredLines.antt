@@ -8,7 +8,7 @@ use Rattle.std.proofs.lemmas.Bool.{and_from, and_parts, lt-ltb, le-leb, leb-true
 use Rattle.std.proofs.lemmas.Bool.Decides.{nat_tests}
 use Rattle.std.proofs.lemmas.List.Folds.{list_all-append}
 use Rattle.base.specs.Bytes.{Identifier, ByName, lookup, is_from_to}
-use Rattle.base.specs.Element.{JInt}
+use Rattle.base.specs.declared.element.ElementType.TheVariants.{Int as JInt}
 use Rattle.base.specs.Options.{some_passes}
 use Rattle.class_rules.specs.Additions.{NameTaken, BadSuperclass, BadSignature, TooMany}
 use Rattle.class_rules.specs.Mangling.{is_simple_name}

@@ -4,7 +4,7 @@ use Rattle.std.specs.Prelude.{not, ◌&&◌, nat_le, is_some}
 use Rattle.std.specs.List.{list_all}
 use Rattle.std.proofs.lemmas.Bool.{and_from, and_parts, not-true, leb-true}
 use Rattle.base.specs.Bytes.{ByName, lookup}
-use Rattle.base.specs.Element.{JInt}
+use Rattle.base.specs.declared.element.ElementType.TheVariants.{Int as JInt}
 use Rattle.base.specs.Options.{some_passes}
 use Rattle.class_rules.specs.Additions.{ClassRule}
 use Rattle.class_rules.specs.Class.{FieldType, NumberField, ReferenceField, Classes}

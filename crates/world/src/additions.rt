@@ -5,7 +5,7 @@ ghost use Rattle.std.specs.List.{list_all};
 ghost use Rattle.std.specs.Option.{option_map};
 ghost use Rattle.base.specs.Limits.{most_objects};
 ghost use Rattle.base.specs.Bytes.{lookup};
-ghost use Rattle.base.specs.Element.{JInt};
+ghost use Rattle.base.specs.declared.element.ElementType.TheVariants.{Int as JInt};
 ghost use Rattle.class_rules.specs.Additions.{new_class, with_class, with_methods};
 ghost use Rattle.class_rules.specs.BuiltIns.{built_ins};
 ghost use Rattle.class_rules.specs.Class.{class_named};

@@ -3,7 +3,7 @@
 ghost use Rattle.std.specs.Prelude.{◌≡◌, None, map, OnOk, IfOk, IsTrue};
 ghost use Rattle.std.specs.List.{list_all};
 ghost use Rattle.std.specs.Option.{option_map};
-ghost use Rattle.base.specs.Element.{JInt, element_value};
+ghost use Rattle.base.specs.declared.element.ElementType.TheVariants.{Int as JInt};
 ghost use Rattle.world.specs.Gathered.{least_rule, with_line, call_with};
 ghost use Rattle.world.specs.GatheredViews.{gathered_of};
 ghost use Rattle.world_lines.specs.LineViews.{value_view, line_view};
@@ -73,10 +73,10 @@ impl WorldBuilder {
     }
 
     fn take_array(&mut self, alloc: Global, array: &ArrayWords) -> Result<(), AllocError>
-        requires { least_rule (gathered_of self.old) (ArrayLine array.now.name.now (element_value array.now.element)
+        requires { least_rule (gathered_of self.old) (ArrayLine array.now.name.now array.now.element
             (map value_view array.now.values.items)) ≡ None }
         ensures { OnOk result (gathered_of self.new
-            ≡ with_line (gathered_of self.old) 0 (ArrayLine array.now.name.now (element_value array.now.element)
+            ≡ with_line (gathered_of self.old) 0 (ArrayLine array.now.name.now array.now.element
             (map value_view array.now.values.items))) }
     {
         let class = number_array(array.element);

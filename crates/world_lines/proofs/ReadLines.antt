@@ -5,7 +5,7 @@ use Rattle.std.specs.Option.{option_map}
 use Rattle.std.specs.List.{list_all}
 use Rattle.std.proofs.lemmas.Bool.{and_from, and_parts}
 use Rattle.base.specs.Bytes.{is_some_byte}
-use Rattle.base.specs.Element.{JInt}
+use Rattle.base.specs.declared.element.ElementType.TheVariants.{Int as JInt}
 use Rattle.world_schedules.specs.Split.{parts_of}
 use Rattle.world_lines.specs.LineContents.{written_values}
 use Rattle.world_lines.specs.ReadingLines.{string_by_words, object_line, array_line, words_by_kind, line_by_words, line_of}

@@ -5,7 +5,8 @@ use Rattle.std.specs.List.{list_all}
 use Rattle.std.proofs.lemmas.Bool.{and_from, and_parts}
 use Rattle.std.proofs.lemmas.Slice.Eq.{bytes_eq-Decides}
 use Rattle.base.specs.Bytes.{Identifier, is_some_byte}
-use Rattle.base.specs.Element.{ElementType, JInt}
+use Rattle.base.specs.declared.element.ElementType.{ElementType}
+use Rattle.base.specs.declared.element.ElementType.TheVariants.{Int as JInt}
 use Rattle.world_schedules.specs.Split.{parts_of}
 use Rattle.world_lines.specs.ReadingLines.{class_by_words, field_by_words, object_line, object_by_words, array_line, array_by_words, string_by_words, call_by_words, words_by_kind, line_by_words, line_of}
 use Rattle.world_lines.specs.ReadingValues.{object_named, values_named, element_named}

@@ -1,7 +1,7 @@
 -- The rules on a line that ask the classes before it alone.
 use Rattle.std.specs.Prelude.{Bool, true, ◌&&◌, Option, Some, None}
 use Rattle.std.specs.List.{list_all}
-use Rattle.base.specs.Element.{JInt}
+use Rattle.base.specs.declared.element.ElementType.TheVariants.{Int as JInt}
 use Rattle.class_rules.specs.Additions.{ClassRule}
 use Rattle.class_rules.specs.Class.{FieldType, NumberField, ReferenceField, Classes}
 use Rattle.classes.specs.Refusals.{first_broken}

@@ -3,7 +3,7 @@ use Rattle.std.specs.Prelude.{ℕ, Bool, true, false, ◌-◌, ◌^◌, List, []
 use Rattle.std.specs.Option.{option_map}
 use Rattle.std.specs.List.{list_all}
 use Rattle.base.specs.Bytes.{Identifier, is_some_byte}
-use Rattle.base.specs.Element.{ElementType}
+use Rattle.base.specs.declared.element.ElementType.{ElementType}
 use Rattle.world_schedules.specs.Numbers.{natural_of}
 use Rattle.world_schedules.specs.Split.{parts_of}
 use Rattle.world_lines.specs.ReadingValues.{object_named, values_named, element_named}

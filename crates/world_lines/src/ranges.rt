@@ -2,7 +2,6 @@
 
 ghost use Rattle.std.specs.Prelude.{◌≡◌};
 ghost use Rattle.std.specs.List.{list_all};
-ghost use Rattle.base.specs.Element.{element_value};
 ghost use Rattle.world_lines.specs.LineContents.{is_number};
 ghost use Rattle.world_lines.specs.LineViews.{value_view};
 ghost use Rattle.world_values.specs.WorldRules.{is_in_range, value_in_range};
@@ -18,7 +17,7 @@ pub fn is_number(value: Value) -> bool
 }
 
 fn is_in_range(element: ElementType, number: i64) -> bool
-    ensures { result ≡ is_in_range (element_value element) number }
+    ensures { result ≡ is_in_range element number }
 {
     match element {
         ElementType::Int => number >= -2_147_483_648 && number <= 2_147_483_647,
@@ -30,7 +29,7 @@ fn is_in_range(element: ElementType, number: i64) -> bool
 
 /// Whether a value that is a number is in the range of its type; any other value counts as in range.
 pub fn is_value_in_range(element: ElementType, value: Value) -> bool
-    ensures { result ≡ value_in_range (element_value element) (value_view value.entry) }
+    ensures { result ≡ value_in_range element (value_view value.entry) }
 {
     match value {
         Value::Number(number) => is_in_range(element, number),
@@ -39,7 +38,7 @@ pub fn is_value_in_range(element: ElementType, value: Value) -> bool
 }
 
 pub fn are_in_range(element: ElementType, values: &[Value]) -> bool
-    ensures { result ≡ list_all (λ value. value_in_range (element_value element) (value_view value)) values.now }
+    ensures { result ≡ list_all (λ value. value_in_range element (value_view value)) values.now }
 {
     values
         .iter()

@@ -2,7 +2,6 @@
 
 ghost use Rattle.std.specs.Prelude.{◌≡◌, IfOk, map};
 ghost use Rattle.std.specs.Option.{option_map};
-ghost use Rattle.base.specs.Element.{element_value};
 ghost use Rattle.world_lines.specs.ReadingValues.{object_named, plain_value, value_named, values_named, element_named};
 ghost use Rattle.world_lines.specs.LineViews.{value_view};
 
@@ -79,7 +78,7 @@ pub fn read_values<'a>(
 
 /// The type of the elements of an array, by its letter.
 pub fn read_element(word: &[u8]) -> Option<ElementType>
-    ensures { option_map element_value result ≡ element_named word.now }
+    ensures { result ≡ element_named word.now }
 {
     match word {
         b"I" => Some(ElementType::Int),

@@ -10,7 +10,8 @@ use Rattle.std.proofs.lemmas.List.Quantifiers.{position-Some}
 use Rattle.std.proofs.lemmas.List.Sums.{sum_by-cons}
 use Rattle.std.proofs.lemmas.Option.{slice_get-map}
 use Rattle.base.specs.Bytes.{Identifier}
-use Rattle.base.specs.Element.{ElementType, JInt, JShort, JByte, JChar}
+use Rattle.base.specs.declared.element.ElementType.{ElementType}
+use Rattle.base.specs.declared.element.ElementType.TheVariants.{Int as JInt, Short as JShort, Byte as JByte, Char as JChar}
 use Rattle.base.proofs.Lists.{all_at, get_front}
 use Rattle.class_rules.specs.BuiltIns.{class_class, out_of_memory_error}
 use Rattle.class_rules.specs.Class.{FieldType, NumberField, ReferenceField, Field, Class, Classes, class_named, class_kind}

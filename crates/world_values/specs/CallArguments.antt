@@ -1,7 +1,7 @@
 -- What calls are given.
 use Rattle.std.specs.Prelude.{ℕ, Bool, true, ◌&&◌, nat_lt, nat_le, Some, None}
 use Rattle.std.specs.List.{list_all}
-use Rattle.base.specs.Element.{JInt}
+use Rattle.base.specs.declared.element.ElementType.TheVariants.{Int as JInt}
 use Rattle.semantics.specs.Object.{ObjectValue, Number, Refers}
 use Rattle.semantics.specs.World.{Invocation}
 use Rattle.world_values.specs.WorldRules.{is_in_range}

@@ -2,7 +2,7 @@
 use Rattle.std.specs.Prelude.{◌≡◌, ℕ, ◌<◌, ◌≤◌, Bool, true, false, ◌&&◌, ◌==◌, List, [], ◌∷◌, ◌++◌, length, map, nat_lt, nat_le, IsTrue, Some, None, if◌then◌else◌}
 use Rattle.std.specs.List.{list_all, AllZip}
 use Rattle.base.specs.Limits.{most_cells, most_objects}
-use Rattle.base.specs.Element.{JChar}
+use Rattle.base.specs.declared.element.ElementType.TheVariants.{Char as JChar}
 use Rattle.class_rules.specs.BuiltIns.{class_class, string_class}
 use Rattle.class_rules.specs.Class.{FieldType, NumberField, ReferenceField, ClassKind, Plain, ArrayOfNumbers, ArrayOfObjects, Classes, class_kind}
 use Rattle.class_rules.specs.Fields.{FieldId, layout}

@@ -3,7 +3,7 @@ use Rattle.std.specs.Prelude.{ℕ, ◌+◌, Bool, true, false, pos, List, [], �
 use Rattle.std.specs.Option.{option_map}
 use Rattle.std.specs.List.{list_any}
 use Rattle.base.specs.Bytes.{Identifier, ByName, lookup}
-use Rattle.base.specs.Element.{JInt}
+use Rattle.base.specs.declared.element.ElementType.TheVariants.{Int as JInt}
 use Rattle.class_rules.specs.Class.{Field, NumberField, Classes, class_named, array_name}
 use Rattle.class_rules.specs.BuiltIns.{built_ins, object_class, string_class, number_array}
 use Rattle.class_rules.specs.Fields.{type_of_signature}

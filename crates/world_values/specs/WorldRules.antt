@@ -3,7 +3,8 @@ use Rattle.std.specs.Prelude.{◌≡◌, ℕ, ◌≤◌, Bool, true, false, not,
 use Rattle.std.specs.List.{list_any, list_all, AllZip}
 use Rattle.base.specs.Limits.{least_cells, most_calls, most_cells, most_objects, most_threads}
 use Rattle.base.specs.Bytes.{Identifier, is_from_to}
-use Rattle.base.specs.Element.{ElementType, JInt, JShort, JByte, JChar}
+use Rattle.base.specs.declared.element.ElementType.{ElementType}
+use Rattle.base.specs.declared.element.ElementType.TheVariants.{Int as JInt, Short as JShort, Byte as JByte, Char as JChar}
 use Rattle.base.specs.Options.{some_passes}
 use Rattle.class_rules.specs.Class.{FieldType, NumberField, ReferenceField, Classes, class_named, class_kind, is_plain, assignable}
 use Rattle.class_rules.specs.BuiltIns.{class_class, has_own_making}

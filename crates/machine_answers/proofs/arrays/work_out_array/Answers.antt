@@ -6,7 +6,6 @@ use Rattle.class_rules.specs.ClassIds.{class_id}
 use Rattle.class_rules.proofs.ClassIds.{number_or}
 use Rattle.class_rules.specs.Class.{array_class_of}
 use Rattle.code.specs.Call.{call_view}
-use Rattle.jni.specs.Table.{function_value}
 use Rattle.jni.specs.declared.function.JniFunction.{JniFunction}
 use Rattle.machine_scenes.specs.Scenes.{scene_view}
 use Rattle.machine_answers.specs.WorkedOut.{held_reference, new_array, stack_number}
@@ -21,5 +20,5 @@ returns-in-NewObjectArray c =
     let number : to_z w32 (of_z w32 c.stack_number-in-NewObjectArray.result) ≡ stack_number c.args.scene.now.stack.now = to_z-of_z {w = w32} (record { sfits = c.stack_number-in-NewObjectArray.type_inv }) ∙ c.stack_number-in-NewObjectArray.ensures in
     let element = c.held_reference-element.ensures ∙ ap held_reference c.argument.ensures.reference in
     answers (scene_view c.args.scene.now) (call_view c.args.call.now) c.new_array-in-NewObjectArray.result
-    (subst (λ (f : JniFunction). IsWorkedOut (scene_view c.args.scene.now) (call_view c.args.call.now) (function_value f) c.new_array-in-NewObjectArray.result) (sym c.in-NewObjectArray.is)
+    (subst (λ (f : JniFunction). IsWorkedOut (scene_view c.args.scene.now) (call_view c.args.call.now) f c.new_array-in-NewObjectArray.result) (sym c.in-NewObjectArray.is)
     (c.new_array-in-NewObjectArray.ensures ∙ (λ i. new_array (class i) (number i) (element i))))

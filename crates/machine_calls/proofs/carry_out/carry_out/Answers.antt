@@ -9,8 +9,7 @@ use Rattle.std.specs.Vec.{with_items}
 use Rattle.class_rules.specs.Class.{Classes}
 use Rattle.class_rules.specs.declared.class_id.ClassId.{ClassId}
 use Rattle.heap.specs.Heap.{Space, left_of}
-use Rattle.jni.specs.Prototype.{ResultKind}
-use Rattle.jni.specs.Table.{result_value}
+use Rattle.jni.specs.declared.kinds.ResultKind.{ResultKind}
 use Rattle.semantics.specs.CallEffects.{CallEffect}
 use Rattle.semantics.specs.Thread.{Shared, Thread}
 use Rattle.semantics.specs.World.{World}
@@ -101,7 +100,7 @@ returns-in-Pends-clause-new_copy c = barriers.no_new_copy c.args.store.now.eleme
 pub returns-in-Writes-clause-carried : goal.returns-in-Writes-clause-carried
 returns-in-Writes-clause-carried c p args others shared s of_source h does =
     let w = c.args.world.now in
-    let kind = result_value c.args.call.now.result in
+    let kind = c.args.call.now.result in
     let texts = texts_in c.args.call.now.texts.items in
     let brought = brought_to p c.args.store.now c.args.activation.now c.args.call.now c.args.thread c.args.owner others s args in
     let old = c.args.store.now in
@@ -113,7 +112,7 @@ returns-in-Writes-clause-carried c p args others shared s of_source h does =
 pub returns-in-Some-clause-carried : goal.returns-in-Some-clause-carried
 returns-in-Some-clause-carried c p args others shared s of_source h does =
     let w = c.args.world.now in
-    let kind = result_value c.args.call.now.result in
+    let kind = c.args.call.now.result in
     let texts = texts_in c.args.call.now.texts.items in
     let brought = brought_to p c.args.store.now c.args.activation.now c.args.call.now c.args.thread c.args.owner others s args in
     let old = c.args.store.now in
@@ -126,7 +125,7 @@ returns-in-Some-clause-carried c p args others shared s of_source h does =
 pub returns-in-None-clause-carried : goal.returns-in-None-clause-carried
 returns-in-None-clause-carried c p args others shared s of_source h does =
     let w = c.args.world.now in
-    let kind = result_value c.args.call.now.result in
+    let kind = c.args.call.now.result in
     let texts = texts_in c.args.call.now.texts.items in
     let brought = brought_to p c.args.store.now c.args.activation.now c.args.call.now c.args.thread c.args.owner others s args in
     let old = c.args.store.now in
@@ -140,7 +139,7 @@ returns-in-None-clause-carried c p args others shared s of_source h does =
 pub returns-in-Some-make-clause-carried : goal.returns-in-Some-make-clause-carried
 returns-in-Some-make-clause-carried c p args others shared s of_source h does =
     let w = c.args.world.now in
-    let kind = result_value c.args.call.now.result in
+    let kind = c.args.call.now.result in
     let texts = texts_in c.args.call.now.texts.items in
     let brought = brought_to p c.args.store.now c.args.activation.now c.args.call.now c.args.thread c.args.owner others s args in
     let old = c.args.store.now in
@@ -154,7 +153,7 @@ returns-in-Some-make-clause-carried c p args others shared s of_source h does =
 pub returns-in-None-make-clause-carried : goal.returns-in-None-make-clause-carried
 returns-in-None-make-clause-carried c p args others shared s of_source h does =
     let w = c.args.world.now in
-    let kind = result_value c.args.call.now.result in
+    let kind = c.args.call.now.result in
     let texts = texts_in c.args.call.now.texts.items in
     let brought = brought_to p c.args.store.now c.args.activation.now c.args.call.now c.args.thread c.args.owner others s args in
     let old = c.args.store.now in
@@ -168,7 +167,7 @@ returns-in-None-make-clause-carried c p args others shared s of_source h does =
 pub returns-in-Gives-clause-carried : goal.returns-in-Gives-clause-carried
 returns-in-Gives-clause-carried c p args others shared s of_source h does =
     let w = c.args.world.now in
-    let kind = result_value c.args.call.now.result in
+    let kind = c.args.call.now.result in
     let texts = texts_in c.args.call.now.texts.items in
     let brought = brought_to p c.args.store.now c.args.activation.now c.args.call.now c.args.thread c.args.owner others s args in
     let old = c.args.store.now in
@@ -194,7 +193,7 @@ told_on P Q (Err e) f h = h
 pub returns-in_default-clause-carried : goal.returns-in_default-clause-carried
 returns-in_default-clause-carried c =
     told_on _ _ c.carry_out_buffers.result (λ carried told p args others shared s of_source h does.
-    told p (result_value c.args.call.now.result) (brought_to p c.args.store.now c.args.activation.now c.args.call.now c.args.thread c.args.owner others s args) others shared s of_source h does (ap (λ (l : List Buffer). holding l c.args.store.now.elements c.args.owner) (sym c.deref_mut-in_default.ensures.value)) refl refl) c.carry_out_buffers.ensures.carried
+    told p c.args.call.now.result (brought_to p c.args.store.now c.args.activation.now c.args.call.now c.args.thread c.args.owner others s args) others shared s of_source h does (ap (λ (l : List Buffer). holding l c.args.store.now.elements c.args.owner) (sym c.deref_mut-in_default.ensures.value)) refl refl) c.carry_out_buffers.ensures.carried
 
 -- where nothing was done the slots are as they were
 both_on_err : {T E : Type 0} (P Q R : Type 0) (r : Result T E) → (P → Q → R) → OnErr r P → OnErr r Q → OnErr r R
@@ -216,7 +215,7 @@ returns-in_default-clause-activation c =
 pub carry_out_buffers-requires-clause-possible : goal.carry_out_buffers-requires-clause-possible
 carry_out_buffers-requires-clause-possible c =
     let r = c.requires.possible in
-    (r.0, result_value c.args.call.now.result, brought_to r.0 c.args.store.now c.args.activation.now c.args.call.now c.args.thread c.args.owner r.2 r.4 r.1, r.2, r.3, r.4, r.5, r.6, r.7, ap (λ (l : List Buffer). holding l c.args.store.now.elements c.args.owner) (sym c.deref_mut-in_default.ensures.value), refl, refl)
+    (r.0, c.args.call.now.result, brought_to r.0 c.args.store.now c.args.activation.now c.args.call.now c.args.thread c.args.owner r.2 r.4 r.1, r.2, r.3, r.4, r.5, r.6, r.7, ap (λ (l : List Buffer). holding l c.args.store.now.elements c.args.owner) (sym c.deref_mut-in_default.ensures.value), refl, refl)
 
 -- a message and an exception were made in the store of the world's classes
 both_made : (classes table : Classes) (texts : List (List ℕ)) (old after : Store) (class : ClassId) (place a : ℕ) (o : Option ℕ) → table ≡ classes → Raises table texts old class place after o → o ≡ Some a → Raises classes texts old class place after (Some a)
@@ -233,7 +232,7 @@ raise-requires-clause-class c =
 pub returns-in-Some-raise-clause-carried : goal.returns-in-Some-raise-clause-carried
 returns-in-Some-raise-clause-carried c p args others shared s of_source h does =
     let w = c.args.world.now in
-    let kind = result_value c.args.call.now.result in
+    let kind = c.args.call.now.result in
     let texts = texts_in c.args.call.now.texts.items in
     let brought = brought_to p c.args.store.now c.args.activation.now c.args.call.now c.args.thread c.args.owner others s args in
     let old = c.args.store.now in
@@ -248,7 +247,7 @@ returns-in-Some-raise-clause-carried c p args others shared s of_source h does =
 pub returns-in-None-raise-clause-carried : goal.returns-in-None-raise-clause-carried
 returns-in-None-raise-clause-carried c p args others shared s of_source h does =
     let w = c.args.world.now in
-    let kind = result_value c.args.call.now.result in
+    let kind = c.args.call.now.result in
     let texts = texts_in c.args.call.now.texts.items in
     let brought = brought_to p c.args.store.now c.args.activation.now c.args.call.now c.args.thread c.args.owner others s args in
     let old = c.args.store.now in
@@ -264,7 +263,7 @@ returns-in-None-raise-clause-carried c p args others shared s of_source h does =
 pub returns-in-Pends-clause-carried : goal.returns-in-Pends-clause-carried
 returns-in-Pends-clause-carried c p args others shared s of_source h does =
     let w = c.args.world.now in
-    let kind = result_value c.args.call.now.result in
+    let kind = c.args.call.now.result in
     let texts = texts_in c.args.call.now.texts.items in
     let brought = brought_to p c.args.store.now c.args.activation.now c.args.call.now c.args.thread c.args.owner others s args in
     let old = c.args.store.now in
@@ -291,7 +290,7 @@ returns-in-Pends-clause-barrier c = barriers.notes_pending c.args.store.now.heap
 pub returns-in-CopiesOut-clause-carried : goal.returns-in-CopiesOut-clause-carried
 returns-in-CopiesOut-clause-carried c p args others shared s of_source h does =
     let w = c.args.world.now in
-    let kind = result_value c.args.call.now.result in
+    let kind = c.args.call.now.result in
     let brought = brought_to p c.args.store.now c.args.activation.now c.args.call.now c.args.thread c.args.owner others s args in
     let old = c.args.store.now in
     let effect = effect_told w.classes brought shared s of_source in
@@ -301,7 +300,7 @@ returns-in-CopiesOut-clause-carried c p args others shared s of_source h does =
 pub returns-in-CopiesIn-clause-carried : goal.returns-in-CopiesIn-clause-carried
 returns-in-CopiesIn-clause-carried c p args others shared s of_source h does =
     let w = c.args.world.now in
-    let kind = result_value c.args.call.now.result in
+    let kind = c.args.call.now.result in
     let brought = brought_to p c.args.store.now c.args.activation.now c.args.call.now c.args.thread c.args.owner others s args in
     let old = c.args.store.now in
     let effect = effect_told w.classes brought shared s of_source in

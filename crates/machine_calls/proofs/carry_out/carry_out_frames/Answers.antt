@@ -1,7 +1,7 @@
 use Rattle.std.proofs.Common.{zero, suc, ◌≡◌, ℕ, ◌-◌, ◌<◌, ◌^◌, Bool, Option, length, true, false, refl, sym, ◌∙◌, subst, arith}
 use Rattle.std.specs.Prelude.{slice_get, if◌then◌else◌}
 use Rattle.heap.specs.Heap.{Space}
-use Rattle.jni.specs.Prototype.{ResultKind}
+use Rattle.jni.specs.declared.kinds.ResultKind.{ResultKind}
 use Rattle.semantics.specs.CallEffects.{CallEffect}
 use Rattle.semantics.specs.Thread.{Shared, Thread}
 use Rattle.semantics.specs.World.{World}

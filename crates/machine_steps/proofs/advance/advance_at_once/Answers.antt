@@ -1,7 +1,7 @@
 use Rattle.std.proofs.Common.{◌≡◌, ◌≤◌, ◌<◌, ℕ, false, List, [], ◌∷◌, length, Option, Some, None, refl, sym, ap, ◌∙◌, subst, arith, ◌⊎◌, ⊎_elim}
 use Rattle.std.specs.Prelude.{slice_get}
 use Rattle.code.specs.Call.{Call, call_view}
-use Rattle.jni.specs.JniFunction.{MonitorEnter}
+use Rattle.jni.specs.declared.function.JniFunction.TheVariants.{MonitorEnter}
 use Rattle.jni.specs.declared.function.JniFunction.TheVariants as function
 use Rattle.semantics.specs.ThreadStep.{waits}
 use Rattle.semantics.specs.Thread as source

@@ -11,8 +11,7 @@ use Rattle.code.specs.declared.instr.Instr.{Instr}
 use Rattle.code.specs.declared.instr.Instr.TheVariants as instr
 use Rattle.code_meaning.specs.Lowered.{Lowered, IsLowered}
 use Rattle.jni.specs.JniFunction.{prototype}
-use Rattle.jni.specs.Prototype.{ResultKind}
-use Rattle.jni.specs.Table.{result_value}
+use Rattle.jni.specs.declared.kinds.ResultKind.{ResultKind}
 use Rattle.machine_answers.specs.declared.answer.Given.{Given}
 use Rattle.machine_answers.specs.declared.answer.Given.TheVariants as given
 use Rattle.machine_scenes.specs.Statics.{StaticReference}
@@ -126,8 +125,8 @@ receive-requires-clause-room c =
 -- it goes on, with this where it belongs
 goes_on : (c : After-call-call) (g : Given) (call : Activation) (spare : Option Activation) (statics : Vec StaticReference) (below : List Activation) (caller : Activation)
     → c.args.thread.now.callers.items ≡ below ++ caller ∷ []
-    → g ≡ given_back c.args.thread.now.pending (result_value c.call-call.result.now.result) c.args.value
-    → Receives c.call-call.result.now.target (result_value c.call-call.result.now.result) None g c.get_mut-caller.result.now call
+    → g ≡ given_back c.args.thread.now.pending c.call-call.result.now.result c.args.value
+    → Receives c.call-call.result.now.target c.call-call.result.now.result None g c.get_mut-caller.result.now call
     → statics.items ≡ statics_with c.call-call.result.now.target g c.args.store.now.statics.items
     → Resumes c.args.program.now c.args.value caller below c.args.store.now (record c.args.store.now { statics = statics }) c.args.thread.now (record c.args.thread.now { call = Some call; callers = c.pop.new.self; spare = spare })
 goes_on c g call spare statics below caller is of receives put =
@@ -152,7 +151,7 @@ goes_on c g call spare statics below caller is of receives put =
       at = it_made c;
       receives =
           subst (λ (kind : ResultKind). Receives function.target kind None (given_back t.pending kind v) c.get_mut-caller.result.now call) c.call-call.ensures.prepared.result
-          (subst (λ (x : Given). Receives function.target (result_value function.result) None x c.get_mut-caller.result.now call) of receives);
+          (subst (λ (x : Given). Receives function.target function.result None x c.get_mut-caller.result.now call) of receives);
       statics = statics;
       store_is = refl;
       put =
@@ -166,8 +165,8 @@ pub returns-in-None-GivesInt-Number : goal.returns-in-None-GivesInt-Number
 returns-in-None-GivesInt-Number c below caller is =
     let o = (goal.at.returns-in-None-GivesInt-Number c).After-call-call in
     goes_on o (given.Number c.in-None-GivesInt-Number.word) c.receive_word.new.activation c.swap.new.y c.args.store.now.statics below caller is
-    (λ j. given_back (sym c.in-None-GivesInt-Number.is-0 j) (result_value (sym c.in-None-GivesInt-Number.is-1 j)) (sym c.in-None-GivesInt-Number.is-2 j))
-    (c.receive_word.ensures (result_value c.call-call.result.now.result) None)
+    (λ j. given_back (sym c.in-None-GivesInt-Number.is-0 j) (sym c.in-None-GivesInt-Number.is-1 j) (sym c.in-None-GivesInt-Number.is-2 j))
+    (c.receive_word.ensures c.call-call.result.now.result None)
     (statics_stay c.call-call.result.now.target c.in-None-GivesInt-Number.word c.args.store.now.statics.items)
 
 pub returns-in_default-2 : goal.returns-in_default-2

@@ -2,7 +2,7 @@ use Rattle.std.proofs.Common.{◌≡◌, ◌+◌, ◌<◌, ◌≤◌, length, Op
 use Rattle.std.specs.Prelude.{IsSome}
 use Rattle.code.specs.Call.{Call, call_view}
 use Rattle.code.specs.declared.instr.Instr.TheVariants as instr
-use Rattle.jni.specs.JniFunction.{MonitorEnter}
+use Rattle.jni.specs.declared.function.JniFunction.TheVariants.{MonitorEnter}
 use Rattle.jni.specs.declared.function.JniFunction.TheVariants as function
 use Rattle.machine_scenes.specs.declared.activation.Activation.{Activation}
 use Rattle.machine_threads.specs.Callers.{beside_callers, owner_at}

@@ -15,17 +15,16 @@ use Rattle.machine_answers.specs.Asked.{scene_of}
 use Rattle.machine_scenes.specs.Scenes.{Scene, scene_view}
 use Rattle.machine_answers.specs.Sights.{trap_seen}
 use Rattle.machine_steps.specs.Invoked.{trap_at}
-use Rattle.semantics.specs.EventViews.{trap_view}
 use Rattle.machine_answers.specs.Answered.{IsAnswerTo}
 use Rattle.machine_steps.proofs.SeenCalls.{all_there, passed_seen}
 use Rattle.machine_steps.proofs.invoke.answer_or_trap.Goals as goal
 
 module _ (p : Lowered) (w : World) (store : Store) (pending : Option ℕ) (call : Activation) (k : ℕ) (function : Call) (scene : Scene) (same : scene ≡ scene_of (unit_tree p.unit) w.classes store call k pending) where
   -- the trap that was found is the call's
-  told : (o found : Option Trap) → option_map trap_view o ≡ trap_seen scene call.locals (call_view function) → o ≡ found
-      → trap_at p w store pending call k function ≡ option_map trap_view found
+  told : (o found : Option Trap) → o ≡ trap_seen scene call.locals (call_view function) → o ≡ found
+      → trap_at p w store pending call k function ≡ found
   told o found checked is =
-      ap (λ (x : Scene). trap_seen x call.locals (call_view function)) (sym same) ∙ sym checked ∙ ap (option_map trap_view) is
+      ap (λ (x : Scene). trap_seen x call.locals (call_view function)) (sym same) ∙ sym checked ∙ is
 
   -- and so is what was worked out
   worked : (found answer : Answer) → answer ≡ found → IsAnswerTo scene (call_view function) found → IsAnswerTo (scene_of (unit_tree p.unit) w.classes store call k pending) (call_view function) answer
@@ -49,7 +48,7 @@ work_out-requires c =
     let a = at.1 in
     let is = all_there c.args.program.now c.args.world.now c.args.store.now c.args.pending c.args.activation.now c.args.call.now a.0 c.args.thread at.0 a.1 a.2 a.3 a.4 a.5 a.6 c.args.store.now.monitors (scene_view c.scene_of-scene.result) c.scene_of-scene.ensures.scene in
     let passed = passed_seen c.args.program.now c.args.world.now c.args.store.now c.args.pending c.args.activation.now c.args.call.now a.0 c.args.thread at.0 a.1 a.2 a.3 a.4 a.5 a.6 c.args.store.now.monitors (scene_view c.scene_of-scene.result) c.scene_of-scene.ensures.scene in
-    record { grown = search rules; loaded = is.loaded; objects = is.objects; handles = is.handles; passed = passed (sym c.check.ensures ∙ ap (option_map trap_view) c.in-None.is) }
+    record { grown = search rules; loaded = is.loaded; objects = is.objects; handles = is.handles; passed = passed (sym c.check.ensures ∙ c.in-None.is) }
 
 -- what was worked out is handed on
 handed_on : {A E : Type 0} (P Q : A → Type 0) (r : Result A E) → ((x : A) → P x → Q x) → IfOk r P → IfOk r Q

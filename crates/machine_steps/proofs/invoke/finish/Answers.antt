@@ -9,8 +9,7 @@ use Rattle.code.specs.declared.instr.Target.{Target}
 use Rattle.code_meaning.specs.Lowered.{Lowered}
 use Rattle.heap.specs.Heap.{Space}
 use Rattle.jni.specs.JniFunction.{prototype}
-use Rattle.jni.specs.Prototype.{ResultKind}
-use Rattle.jni.specs.Table.{function_value, result_value}
+use Rattle.jni.specs.declared.kinds.ResultKind.{ResultKind}
 use Rattle.semantics.specs.CallEffects.{CallEffect}
 use Rattle.semantics.specs.Effect.{Effect, effect_of}
 use Rattle.semantics.specs.Object.{sizes}
@@ -50,7 +49,7 @@ module _ (p : Lowered) (w : World) (store : Store) (pending : Option ℕ) (call 
   effect = does p w store pending call function others k owner own shared s task rest h answer given plain
 
   -- the kind of its result
-  module _ (kind : ResultKind) (same : kind ≡ (prototype (function_value function.function)).result) where
+  module _ (kind : ResultKind) (same : kind ≡ (prototype function.function).result) where
     -- the arguments of the source's call
     abbrev args : List Actual
     args = (it p w store pending call function others k owner own shared s task rest h answer given plain).args
@@ -78,7 +77,7 @@ pub carry_out-requires-clause-possible : goal.carry_out-requires-clause-possible
 carry_out-requires-clause-possible c =
     let a = c.requires.at_call in
     let w = c.args.world.now in
-    let kind = result_value c.args.call.now.result in (
+    let kind = c.args.call.now.result in (
       c.args.program.now,
       args c.args.program.now w c.args.store.now c.args.pending.now c.args.activation.now c.args.call.now a.0 c.args.thread c.args.owner a.1 a.2 a.3 a.4 a.5 a.6 c.args.answer c.requires.answered (no_call c.args.answer c.requires.runs) kind c.requires.prepared.result,
       a.0,
@@ -119,7 +118,7 @@ pub receive-requires-clause-static_target : goal.receive-requires-clause-static_
 receive-requires-clause-static_target c =
     let a = c.requires.at_call in
     let w = c.args.world.now in
-    let kind = result_value c.args.call.now.result in
+    let kind = c.args.call.now.result in
     let same = c.requires.prepared.result in
     static_there c.args.program.now w c.args.store.now c.args.pending.now c.args.activation.now c.args.call.now a.0 c.args.thread c.args.owner a.1 a.2 a.3 a.4 a.5 a.6 c.args.answer c.requires.answered (no_call c.args.answer c.requires.runs) kind same c.in-Ok.carried.refused c.carry_out.new.store c.carry_out.new.pending c.carry_out.new.activation.locals c.in-Ok.carried.given
     (c.in-Ok.ensures.carried c.args.program.now (args c.args.program.now w c.args.store.now c.args.pending.now c.args.activation.now c.args.call.now a.0 c.args.thread c.args.owner a.1 a.2 a.3 a.4 a.5 a.6 c.args.answer c.requires.answered (no_call c.args.answer c.requires.runs) kind same) a.0 a.2 a.3 _ (can_carry c.args.program.now w c.args.store.now c.args.pending.now c.args.activation.now c.args.call.now a.0 c.args.thread c.args.owner a.1 a.2 a.3 a.4 a.5 a.6 c.args.answer c.requires.answered (no_call c.args.answer c.requires.runs) kind same)
@@ -130,7 +129,7 @@ pub receive-requires-clause-room : goal.receive-requires-clause-room
 receive-requires-clause-room c =
     let a = c.requires.at_call in
     let w = c.args.world.now in
-    let kind = result_value c.args.call.now.result in
+    let kind = c.args.call.now.result in
     let same = c.requires.prepared.result in
     room_there c.args.program.now w c.args.store.now c.args.pending.now c.args.activation.now c.args.call.now a.0 c.args.thread c.args.owner a.1 a.2 a.3 a.4 a.5 a.6 c.args.answer c.requires.answered (no_call c.args.answer c.requires.runs) kind same c.in-Ok.carried.refused c.carry_out.new.store c.carry_out.new.pending c.carry_out.new.activation.locals c.in-Ok.carried.given
     (c.in-Ok.ensures.carried c.args.program.now (args c.args.program.now w c.args.store.now c.args.pending.now c.args.activation.now c.args.call.now a.0 c.args.thread c.args.owner a.1 a.2 a.3 a.4 a.5 a.6 c.args.answer c.requires.answered (no_call c.args.answer c.requires.runs) kind same) a.0 a.2 a.3 _ (can_carry c.args.program.now w c.args.store.now c.args.pending.now c.args.activation.now c.args.call.now a.0 c.args.thread c.args.owner a.1 a.2 a.3 a.4 a.5 a.6 c.args.answer c.requires.answered (no_call c.args.answer c.requires.runs) kind same)
@@ -146,7 +145,7 @@ returns-in-Ok-clause-refused c is =
     let a = c.requires.at_call in
     let w = c.args.world.now in
     let store = c.args.store.now in
-    let kind = result_value c.args.call.now.result in
+    let kind = c.args.call.now.result in
     let same = c.requires.prepared.result in
     let does = effect c.args.program.now w store c.args.pending.now c.args.activation.now c.args.call.now a.0 c.args.thread c.args.owner a.1 a.2 a.3 a.4 a.5 a.6 c.args.answer c.requires.answered (no_call c.args.answer c.requires.runs) in
     let answer = answered c.args.program.now w store c.args.pending.now c.args.activation.now c.args.call.now a.0 c.args.thread c.args.owner a.1 a.2 a.3 a.4 a.5 a.6 c.args.answer c.requires.answered (no_call c.args.answer c.requires.runs) kind same in
@@ -179,7 +178,7 @@ returns-in-Ok-clause-done c others own shared s task rest h =
     let call = c.args.call.now in
     let k = c.args.thread in
     let owner = c.args.owner in
-    let kind = result_value call.result in
+    let kind = call.result in
     let same = c.requires.prepared.result in
     let refused = c.in-Ok.carried.refused in
     let g = c.in-Ok.carried.given in

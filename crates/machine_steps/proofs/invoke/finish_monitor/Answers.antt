@@ -2,7 +2,6 @@ use Rattle.std.specs.Prelude.{slice_get}
 use Rattle.std.proofs.Common.{false, refl, sym}
 use Rattle.code.specs.Call.{call_view}
 use Rattle.jni.specs.JniFunction.{prototype}
-use Rattle.jni.specs.Table.{function_value}
 use Rattle.machine_answers.specs.declared.answer.Given.TheVariants as given
 use Rattle.machine_steps.specs.Received.{told_slot}
 use Rattle.machine_steps.proofs.AnsweredCalls.{answered, brings, can_carry, free, it, kind_is, no_call, told as of_source}
@@ -28,7 +27,7 @@ returns-clause-done c is p w pending owner told_if others own shared s task rest
     let a = c.args.answer in
     let changes = c.requires.changes in
     let plain = no_call a (monitors.goes_on a changes) in
-    let same = sym (kind_is p w store pending activation call others k owner own shared s task rest h a told plain (prototype (function_value call.function)).result refl) in
+    let same = sym (kind_is p w store pending activation call others k owner own shared s task rest h a told plain (prototype call.function).result refl) in
     let kind = (prototype (it p w store pending activation call others k owner own shared s task rest h a told plain).f).result in
     let answer = answered p w store pending activation call others k owner own shared s task rest h a told plain kind same in
     goes_on p w store pending activation call others k owner own shared s task rest h a told.works answer told.sound (monitors.goes_on a changes)
@@ -42,4 +41,4 @@ returns-clause-done c is p w pending owner told_if others own shared s task rest
     (monitors.statics_stay call.target 0 store.statics.items)
 
 pub returns-clause-function : goal.returns-clause-function
-returns-clause-function c = (c.receive_number.ensures (prototype (function_value c.args.call.now.function)).result (told_slot (slice_get (call_view c.args.call.now).operands 1))).function
+returns-clause-function c = (c.receive_number.ensures (prototype c.args.call.now.function).result (told_slot (slice_get (call_view c.args.call.now).operands 1))).function

@@ -5,11 +5,9 @@ use Rattle.std.proofs.lemmas.Bool.{leb-false}
 use Rattle.std.proofs.lemmas.Result.{err_from_is_err_and}
 use Rattle.class_rules.specs.Class.{Classes}
 use Rattle.heap.specs.Heap.{left_of}
-use Rattle.jni.specs.Table.{result_value}
 use Rattle.machine_answers.specs.declared.answer.Answer.{Answer}
 use Rattle.machine_answers.specs.declared.answer.Answer.TheVariants as answer
 use Rattle.semantics.specs.Effect.{effect_of}
-use Rattle.semantics.specs.EventViews.{trap_view}
 use Rattle.semantics.specs.Thread.{sight_of}
 use Rattle.semantics.specs.declared.trap.Trap.TheVariants.{CallsTooDeep}
 use Rattle.machine_steps.specs.Executes.{Executes}
@@ -70,7 +68,7 @@ returns-in-Err-clause-done c others own shared s task rest h =
     let trap = c.in-Err.trap in
     traps p w store pending activation call others c.args.thread c.args.owner own shared s task rest h trap call.line refl
     (⊎_elim
-    (λ (found : trap_at p w store pending activation c.args.thread call ≡ Some (trap_view trap)). found_trap p w store pending activation call others c.args.thread c.args.owner own shared s task rest h trap (trap_found_is p w store pending activation call others c.args.thread c.args.owner own shared s task rest h (trap_view trap) found))
+    (λ (found : trap_at p w store pending activation c.args.thread call ≡ Some trap). found_trap p w store pending activation call others c.args.thread c.args.owner own shared s task rest h trap (trap_found_is p w store pending activation call others c.args.thread c.args.owner own shared s task rest h trap found))
     (λ (halted : IsAnswered p w store pending activation c.args.thread call (answer.Halts trap)). halts p w store pending activation call others c.args.thread c.args.owner own shared s task rest h trap halted)
     c.in-Err.ensures.trap)
 
@@ -83,12 +81,12 @@ pub returns-else-goes_ahead-clause-hindered : goal.returns-else-goes_ahead-claus
 returns-else-goes_ahead-clause-hindered c others own shared s task rest h =
     let p = c.args.program.now in
     held_back c.goes_ahead.result c.args.may_refuse c.classes.result.now c.args.world.now.classes (texts_in c.deref.result.now) c.in-Ok.answer (left_of c.args.store.now.heap) _ c.goes_ahead.ensures c.if-goes_ahead.false c.classes.ensures.classes
-    (cells_asked p c.args.world.now c.args.store.now c.args.pending.now c.args.activation.now c.args.call.now others c.args.thread c.args.owner own shared s task rest h c.in-Ok.answer c.in-Ok.ensures.answer (no_call c.in-Ok.answer (sym c.is_carried.ensures ∙ c.if-is_carried.true)) (result_value c.args.call.now.result) c.requires.prepared.result
+    (cells_asked p c.args.world.now c.args.store.now c.args.pending.now c.args.activation.now c.args.call.now others c.args.thread c.args.owner own shared s task rest h c.in-Ok.answer c.in-Ok.ensures.answer (no_call c.in-Ok.answer (sym c.is_carried.ensures ∙ c.if-is_carried.true)) c.args.call.now.result c.requires.prepared.result
     ∙ ap (λ (l : List (Vec ℕ)). cells_of c.args.world.now.classes (texts_in l) c.in-Ok.answer) (sym c.deref.ensures.value))
 
 pub returns-in_err-finish-in-Ok-clause-hindered : goal.returns-in_err-finish-in-Ok-clause-hindered
 returns-in_err-finish-in-Ok-clause-hindered c =
     let given = err_from_is_err_and c.from_residual.result c.from_residual.ensures.1 in
     rw (given.1, given.2) (λ others own shared s task rest h.
-    cells_asked c.args.program.now c.args.world.now c.args.store.now c.args.pending.now c.args.activation.now c.args.call.now others c.args.thread c.args.owner own shared s task rest h c.in-Ok.answer c.in-Ok.ensures.answer (no_call c.in-Ok.answer (sym c.is_carried.ensures ∙ c.if-is_carried.true)) (result_value c.args.call.now.result) c.requires.prepared.result
+    cells_asked c.args.program.now c.args.world.now c.args.store.now c.args.pending.now c.args.activation.now c.args.call.now others c.args.thread c.args.owner own shared s task rest h c.in-Ok.answer c.in-Ok.ensures.answer (no_call c.in-Ok.answer (sym c.is_carried.ensures ∙ c.if-is_carried.true)) c.args.call.now.result c.requires.prepared.result
     ∙ memory_free c.args.world.now.classes (texts_in c.args.call.now.texts.items) c.in-Ok.answer c.in_err-finish-in-Ok.ensures.memory)

@@ -2,10 +2,9 @@ use Rattle.syntax.specs.Views.{unit_tree}
 use Rattle.syntax.specs.Tree.{SourceUnit}
 use Rattle.std.specs.Prelude.{IfSome}
 use Rattle.std.proofs.Common.{◌≡◌, Bool, Option, Some, None, refl, sym, ◌∙◌}
-use Rattle.base.specs.Element.{ElementType}
+use Rattle.base.specs.declared.element.ElementType.{ElementType}
 use Rattle.class_rules.specs.Class.{Classes}
 use Rattle.code.specs.Call.{call_view}
-use Rattle.jni.specs.Table.{function_value}
 use Rattle.tables.specs.Locals.{has_room}
 use Rattle.machine_answers.specs.Asked.{scene_of}
 use Rattle.machine_answers.specs.declared.answer.Answer.{Answer}
@@ -36,7 +35,7 @@ returns-clause-answer c =
     let w = c.args.world.now in
     let scene = scene_of (unit_tree c.args.program.now.unit) w.classes c.args.store.now c.args.activation.now c.args.thread c.args.pending in
     known
-    (λ (x : Answer). (unit : SourceUnit) (classes : Classes) (room : Bool) (wanted : ElementType) → trap_found (scene_of unit classes c.args.store.now c.args.activation.now c.args.thread c.args.pending) room wanted (function_value call.function) call.operands.items ≡ None)
+    (λ (x : Answer). (unit : SourceUnit) (classes : Classes) (room : Bool) (wanted : ElementType) → trap_found (scene_of unit classes c.args.store.now c.args.activation.now c.args.thread c.args.pending) room wanted call.function call.operands.items ≡ None)
     (λ (x : Answer). MayChange c.args.thread x c.args.store.now.monitors → (unit : SourceUnit) (classes : Classes) → IsAnswerTo (scene_of unit classes c.args.store.now c.args.activation.now c.args.thread c.args.pending) (call_view call) x)
     _ c.answer_at_once.result
     (λ (x : Answer) free works owns.
@@ -44,7 +43,7 @@ returns-clause-answer c =
       sound = c.classes.ensures.sound;
       free =
           sym (as_seen c.args.program.now w c.args.store.now c.args.pending c.args.activation.now call a.0 c.args.thread at.0 a.1 a.2 a.3 a.4 a.5 a.6 c.args.store.now.monitors scene refl)
-          ∙ free (unit_tree c.args.program.now.unit) w.classes (has_room (locals_after (function_value call.function) c.args.activation.now.locals)) (element_wanted call.target);
+          ∙ free (unit_tree c.args.program.now.unit) w.classes (has_room (locals_after call.function c.args.activation.now.locals)) (element_wanted call.target);
       works = works owns (unit_tree c.args.program.now.unit) w.classes;
     })
     c.answer_at_once.ensures.free

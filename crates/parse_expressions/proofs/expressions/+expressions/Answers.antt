@@ -5,7 +5,6 @@ use Rattle.std.specs.Option.{option_map}
 use Rattle.syntax.specs.Nodes.{top}
 use Rattle.syntax.specs.Stacks.{stacked}
 use Rattle.syntax.specs.Tree.{Number, Binary}
-use Rattle.syntax.specs.Views.{binary_tree}
 use Rattle.parse_expressions.specs.Steps.{opening_view}
 use Rattle.parse_expressions.specs.Reading.{operator_at, expr_at}
 use Rattle.parse_expressions.proofs.Climbing.{climbs_start, start_fails, climb_done, within_some, within_tight, climb_fails, climb_on, none_since, right_is}
@@ -30,14 +29,14 @@ pub push_expression-returns-in_err-right_height-clause-gives : goal.push_express
 push_expression-returns-in_err-right_height-clause-gives t c =
     let p = err_from_is_err_and c.from_residual-in_err-right_height.result c.from_residual-in_err-right_height.ensures.1 in
     let next = operator_at (views c.loop-op.rest) in
-    let op = binary_tree c.in-Some.op in
+    let op = c.in-Some.op in
     rw (p.1, p.2) (climb_fails c.args.room c.args.least (top (stacked c.loop-op.stack)) c.loop-op.height (views c.loop-op.rest) (expr_at c.args.room c.args.least (views c.args.lexemes)) c.loop-op.invariant.0 op c.in_err-right_height.field-0.0
     (within_some c.args.least next op c.in-Some.ensures) (within_tight c.args.least next op c.in-Some.ensures) c.in_err-right_height.ensures.gives)
 
 pub push_expression-loop-op-preserved : goal.push_expression-loop-op-preserved
 push_expression-loop-op-preserved t c =
     let next = operator_at (views c.loop-op.rest) in
-    let op = binary_tree c.in-Some.op in
+    let op = c.in-Some.op in
     let left = stacked c.loop-op.stack in
     let right = stacked c.right_operand.new.stack in
     let both = stacked c.binary.new.self in
@@ -50,7 +49,7 @@ push_expression-loop-op-preserved t c =
 pub push_expression-returns-clause-gives : goal.push_expression-returns-clause-gives
 push_expression-returns-clause-gives t c =
     climb_done c.args.room c.args.least (top (stacked c.loop-op.stack)) c.loop-op.height (views c.loop-op.rest) (expr_at c.args.room c.args.least (views c.args.lexemes)) c.loop-op.invariant.0
-    (ap (option_map binary_tree) (none_since c.operator_within.result c.in_default.not-Some) ∙ c.operator_within.ensures)
+    ((none_since c.operator_within.result c.in_default.not-Some) ∙ c.operator_within.ensures)
 
 pub other_operand-returns-in_err-opening-clause-gives : goal.other_operand-returns-in_err-opening-clause-gives
 other_operand-returns-in_err-opening-clause-gives t c =
@@ -85,7 +84,7 @@ operand-returns-in_ok-number-in-Number-clause-gives t c =
 pub right_operand-returns-in-Some-clause-gives : goal.right_operand-returns-in-Some-clause-gives
 right_operand-returns-in-Some-clause-gives t c =
     rw (
-      right_is c.args.room c.args.height (binary_tree c.args.op) (views c.args.lexemes) c.if-height-room.false,
+      right_is c.args.room c.args.height c.args.op (views c.args.lexemes) c.if-height-room.false,
       ← c.level.ensures,
       ← c.skip-operand.ensures,
       c.in-Some.ensures (c.args.room - 1),
@@ -95,4 +94,4 @@ right_operand-returns-in-Some-clause-gives t c =
 
 pub right_operand-returns-clause-gives : goal.right_operand-returns-clause-gives
 right_operand-returns-clause-gives t c =
-    rw (right_is c.args.room c.args.height (binary_tree c.args.op) (views c.args.lexemes) c.if-height-room.false, ← c.level-2.ensures, ← c.skip-operand.ensures) c.push_expression.ensures.gives
+    rw (right_is c.args.room c.args.height c.args.op (views c.args.lexemes) c.if-height-room.false, ← c.level-2.ensures, ← c.skip-operand.ensures) c.push_expression.ensures.gives

@@ -1,6 +1,5 @@
 use Rattle.std.proofs.Common.{drop, map, sym, append-nil, arith}
 use Rattle.std.proofs.lemmas.Grind.{common_steps}
-use Rattle.jni.specs.Table.{parameter_value}
 use Rattle.replay_arguments.specs.Actuals.{actual_view}
 use Rattle.replay_arguments.proofs.OperandLists.{no_pairs, none_there, there_are, there_are_none}
 use Rattle.replay_terms.specs.Views.{operand_ref_view, operands_view}
@@ -9,14 +8,14 @@ use Rattle.replay_arguments.proofs.actual.+push_actuals.Goals as goal
 pub returns-then-place-count : goal.returns-then-place-count
 returns-then-place-count t c =
     let os = operands_view c.args.operands.now in
-    let ps = map parameter_value c.args.parameters.now in
+    let ps = c.args.parameters.now in
     let none = no_pairs ps (drop c.args.place os) (there_are_none os c.args.place (omega (arith, c.count.ensures, c.if-place-count.true))) in
     rw none (sym (append-nil (map actual_view c.args.actuals.now.items)))
 
 pub returns-in-None : goal.returns-in-None
 returns-in-None t c =
     let os = operands_view c.args.operands.now in
-    let ps = map parameter_value c.args.parameters.now in
+    let ps = c.args.parameters.now in
     let none = no_pairs ps (drop c.args.place os) (none_there operand_ref_view os c.args.place c.get.result c.in-None.is c.get.ensures) in
     rw none (sym (append-nil (map actual_view c.args.actuals.now.items)))
 

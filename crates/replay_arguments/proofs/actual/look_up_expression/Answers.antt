@@ -5,7 +5,6 @@ use Rattle.base.specs.declared.element.ElementType.{ElementType}
 use Rattle.jni.specs.declared.access.Access.{Access}
 use Rattle.jni.specs.declared.kinds.ParameterKind.{ParameterKind}
 use Rattle.jni.specs.declared.kinds.ParameterKind.TheVariants as parameter
-use Rattle.jni.specs.Table.{parameter_value}
 use Rattle.semantics.specs.Arguments.{look_up_expression, reference_argument}
 use Rattle.semantics.specs.Sight.{Sight}
 use Rattle.replay_arguments.specs.Shares.{shared_view, sight_in}
@@ -13,7 +12,7 @@ use Rattle.replay_arguments.proofs.actual.look_up_expression.Goals as goal
 
 -- a parameter that is none of those before
 by_default : (sight : Sight) (e : Expr) (p : ParameterKind) → (p ≡ parameter.FieldID → ⊥) → (p ≡ parameter.MethodID → ⊥) → ((t : ElementType) → p ≡ parameter.ArrayVariable t → ⊥) → ((a : Access) → p ≡ parameter.BufferVariable a → ⊥) → (p ≡ parameter.Mode → ⊥)
-    → (p ≡ parameter.IsCopy → ⊥) → look_up_expression sight (parameter_value p) e ≡ reference_argument sight e
+    → (p ≡ parameter.IsCopy → ⊥) → look_up_expression sight p e ≡ reference_argument sight e
 by_default sight e parameter.Nullable f d a b m i = refl
 by_default sight e parameter.AnyReference f d a b m i = refl
 by_default sight e parameter.NonNull f d a b m i = refl

@@ -1,4 +1,4 @@
-use Rattle.jni.specs.Prototype.{Nullable}
+use Rattle.jni.specs.declared.kinds.ParameterKind.TheVariants.{Nullable}
 use Rattle.replay_arguments.proofs.actual.reference_argument.Goals as goal
 
 pub returns-in-Variable : goal.returns-in-Variable

@@ -1,5 +1,4 @@
 use Rattle.std.proofs.Common.{map, sym, subst}
-use Rattle.jni.specs.Table.{function_value}
 use Rattle.syntax.specs.Views.{unit_tree}
 use Rattle.semantics.specs.Views.{name_of}
 use Rattle.replay_arguments.specs.Actuals.{actual_view}
@@ -14,6 +13,6 @@ returns-in-None-clause-fits c =
     let scene = c.args.scene in
     let vs = variables_view scene.locals.now.variables in
     let args = map actual_view c.args.actuals.now in
-    let f = function_value c.args.function in
+    let f = c.args.function in
     subst (FitsCall scene.shared.now.store (array_given vs args) f) (sym c.work_out.ensures)
     (answer_fits (unit_tree c.args.caller.unit.now) scene.classes.now c.args.caller.thread (shared_view scene.shared.now) vs scene.locals.now.frames 0 (name_of scene.pending) args f)

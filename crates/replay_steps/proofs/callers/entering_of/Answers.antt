@@ -1,5 +1,4 @@
 use Rattle.std.proofs.Common.{List, drop, map, ap, ◌∙◌, rules}
-use Rattle.jni.specs.Table.{function_value}
 use Rattle.semantics.specs.Arguments.{Actual, actuals, passed_value}
 use Rattle.replay_arguments.specs.Actuals.{actual_view}
 use Rattle.replay_arguments.specs.Shares.{shared_view, sight_in}

@@ -1,7 +1,6 @@
 use Rattle.std.proofs.Common.{◌≡◌, ℤ, w32, ap, ◌∙◌, rules}
 use Rattle.std.proofs.Math.Facts.{to_z-of_z}
 use mir.Val.{SFits}
-use Rattle.base.specs.Element.{element_value}
 use Rattle.semantics.specs.Heap.{Heap, with_value_at}
 use Rattle.semantics.specs.Object.{Number}
 use Rattle.semantics.specs.Thread.{Shared}
@@ -20,7 +19,7 @@ returns c =
     let at = c.in-Some-named_place.at in
     let z = c.in-Some.number in
     let given : SFits w32 z = search rules in
-    let passed = to_z-of_z {w = w32} (record { sfits = c.convert-number.type_inv }) ∙ c.convert-number.ensures ∙ ap (convert (element_value element)) (to_z-of_z {w = w32} given) in
+    let passed = to_z-of_z {w = w32} (record { sfits = c.convert-number.type_inv }) ∙ c.convert-number.ensures ∙ ap (convert element) (to_z-of_z {w = w32} given) in
     let written = c.set.ensures ∙ ap (λ (y : ℤ). with_value_at s.heap at.object.number at.place (Number y)) passed in
     let dropped : c.args.i.now.purpose ≡ purposes.Put targets.Dropped = search rules in
     write_tried c.args.classes.now s c.args.variables.now element names.object.now names.field.now at.object.number at.place c.in-Some-named_place.ensures c.args.i.now z

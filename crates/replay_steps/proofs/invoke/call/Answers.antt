@@ -1,6 +1,6 @@
 use Rattle.std.proofs.Common.{◌≡◌, Result, Ok, Err, List, IfOk, map, sym, ap, ◌∙◌, subst}
-use Rattle.base.specs.Element.{ElementType, element_value}
-use Rattle.jni.specs.Table.{Facts, function_value, result_value}
+use Rattle.base.specs.declared.element.ElementType.{ElementType}
+use Rattle.jni.specs.Table.{Facts}
 use Rattle.syntax.specs.Views.{unit_tree}
 use Rattle.semantics.specs.Answer.{Answer}
 use Rattle.semantics.specs.AnswerTable.{call_answer}
@@ -20,11 +20,11 @@ use Rattle.replay_steps.proofs.invoke.call.Goals as goal
 
 -- the answer, by the element type that is wanted
 has_answer : (scene : Scene) (i : Invocation) (args : List Actual) (a : Answer) (T : ElementType) → T ≡ wanted_element scene.variables i.purpose
-    → a ≡ answered (trap_of scene.classes (seen_by scene i args) T (function_value i.function))
-    (call_answer scene.unit scene.classes scene.thread (seen_by scene i args) (function_value i.function))
-    → FitsCall scene.shared.heap (array_given (variables_view scene.variables) args) (function_value i.function) a → HasAnswer scene i args a
+    → a ≡ answered (trap_of scene.classes (seen_by scene i args) T i.function)
+    (call_answer scene.unit scene.classes scene.thread (seen_by scene i args) i.function)
+    → FitsCall scene.shared.heap (array_given (variables_view scene.variables) args) i.function a → HasAnswer scene i args a
 has_answer scene i args a T same is fits = record {
-  is = is ∙ ap (λ (V : ElementType). answered (trap_of scene.classes (seen_by scene i args) V (function_value i.function)) (call_answer scene.unit scene.classes scene.thread (seen_by scene i args) (function_value i.function))) same;
+  is = is ∙ ap (λ (V : ElementType). answered (trap_of scene.classes (seen_by scene i args) V i.function) (call_answer scene.unit scene.classes scene.thread (seen_by scene i args) i.function)) same;
   fits = fits;
 }
 
@@ -42,8 +42,8 @@ returns-then-turn-clause-step c =
     let args = map actual_view c.args.actuals.now in
     let before : Scene = scene_of turn s locals c.args.pending.now in
     let after : Scene = scene_of turn s locals c.refuse_object.new.pending in
-    let has = has_answer before i args (answer_view turn.classes.now c.answer_or_trap-answer.result) (element_value c.wanted_element.result) c.wanted_element.ensures c.answer_or_trap-answer.ensures.answer c.answer_or_trap-answer.ensures.fits in
-    subst (λ b. MakesCall b before i.line i.purpose (function_value i.function) args c.refuse_object.result after) (sym c.if-turn.true) (c.refuse_object.ensures.step s locals args has)
+    let has = has_answer before i args (answer_view turn.classes.now c.answer_or_trap-answer.result) c.wanted_element.result c.wanted_element.ensures c.answer_or_trap-answer.ensures.answer c.answer_or_trap-answer.ensures.fits in
+    subst (λ b. MakesCall b before i.line i.purpose i.function args c.refuse_object.result after) (sym c.if-turn.true) (c.refuse_object.ensures.step s locals args has)
 
 pub returns-in_ok-put_local-in-Gives-clause-step : goal.returns-in_ok-put_local-in-Gives-clause-step
 returns-in_ok-put_local-in-Gives-clause-step c =
@@ -54,10 +54,10 @@ returns-in_ok-put_local-in-Gives-clause-step c =
     let args = map actual_view c.args.actuals.now in
     let a = answer_view turn.classes.now c.answer_or_trap-answer.result in
     let before : Scene = scene_of turn s locals c.args.pending.now in
-    let has = has_answer before i args a (element_value c.wanted_element.result) c.wanted_element.ensures c.answer_or_trap-answer.ensures.answer c.answer_or_trap-answer.ensures.fits in
+    let has = has_answer before i args a c.wanted_element.result c.wanted_element.ensures c.answer_or_trap-answer.ensures.answer c.answer_or_trap-answer.ensures.fits in
     let new = c.carry_out.new in
-    let left = subst (λ (d : Done). CarriesOut turn (function_value i.function) c.args.actuals.now c.answer_or_trap-answer.result c.args.shared.now locals c.args.pending.now d new.shared new.locals new.pending) c.in-Gives.is c.in_ok-done.ensures in
-    call_gives (unit_tree turn.unit.now) turn.classes.now (in_use_view turn.in_use) turn.thread s locals.variables locals.frames (name_of c.args.pending.now) i.line i args a turn.refused c.in-Gives.given (result_value c.prototype.result.now.result)
+    let left = subst (λ (d : Done). CarriesOut turn i.function c.args.actuals.now c.answer_or_trap-answer.result c.args.shared.now locals c.args.pending.now d new.shared new.locals new.pending) c.in-Gives.is c.in_ok-done.ensures in
+    call_gives (unit_tree turn.unit.now) turn.classes.now (in_use_view turn.in_use) turn.thread s locals.variables locals.frames (name_of c.args.pending.now) i.line i args a turn.refused c.in-Gives.given c.prototype.result.now.result
     (shared_view new.shared) new.locals.variables new.locals.frames c.put_local.new.frames (name_of new.pending) c.outcome_for.result
     has c.if-turn.false left (ap (λ (x : Facts). x.prototype.result) c.prototype.ensures) c.in_ok-put_local-in-Gives.ensures c.outcome_for.ensures.step
 
@@ -70,9 +70,9 @@ returns-in-Lends-clause-step c =
     let args = map actual_view c.args.actuals.now in
     let a = answer_view turn.classes.now c.answer_or_trap-answer.result in
     let before : Scene = scene_of turn s locals c.args.pending.now in
-    let has = has_answer before i args a (element_value c.wanted_element.result) c.wanted_element.ensures c.answer_or_trap-answer.ensures.answer c.answer_or_trap-answer.ensures.fits in
+    let has = has_answer before i args a c.wanted_element.result c.wanted_element.ensures c.answer_or_trap-answer.ensures.answer c.answer_or_trap-answer.ensures.fits in
     let new = c.carry_out.new in
-    let left = subst (λ (d : Done). CarriesOut turn (function_value i.function) c.args.actuals.now c.answer_or_trap-answer.result c.args.shared.now locals c.args.pending.now d new.shared new.locals new.pending) c.in-Lends.is c.in_ok-done.ensures in
+    let left = subst (λ (d : Done). CarriesOut turn i.function c.args.actuals.now c.answer_or_trap-answer.result c.args.shared.now locals c.args.pending.now d new.shared new.locals new.pending) c.in-Lends.is c.in_ok-done.ensures in
     let b = c.in-Lends.buffer in
     both_ok c.lend.result (λ o varied is_for.
     call_lends (unit_tree turn.unit.now) turn.classes.now (in_use_view turn.in_use) turn.thread s locals.variables locals.frames (name_of c.args.pending.now) i.line i args a turn.refused b
@@ -89,9 +89,9 @@ returns-in-Calls-clause-step c =
     let args = map actual_view c.args.actuals.now in
     let a = answer_view turn.classes.now c.answer_or_trap-answer.result in
     let before : Scene = scene_of turn s locals c.args.pending.now in
-    let has = has_answer before i args a (element_value c.wanted_element.result) c.wanted_element.ensures c.answer_or_trap-answer.ensures.answer c.answer_or_trap-answer.ensures.fits in
+    let has = has_answer before i args a c.wanted_element.result c.wanted_element.ensures c.answer_or_trap-answer.ensures.answer c.answer_or_trap-answer.ensures.fits in
     let new = c.carry_out.new in
-    let left = subst (λ (d : Done). CarriesOut turn (function_value i.function) c.args.actuals.now c.answer_or_trap-answer.result c.args.shared.now locals c.args.pending.now d new.shared new.locals new.pending) c.in-Calls.is c.in_ok-done.ensures in
+    let left = subst (λ (d : Done). CarriesOut turn i.function c.args.actuals.now c.answer_or_trap-answer.result c.args.shared.now locals c.args.pending.now d new.shared new.locals new.pending) c.in-Calls.is c.in_ok-done.ensures in
     call_waits (unit_tree turn.unit.now) turn.classes.now (in_use_view turn.in_use) turn.thread s locals.variables locals.frames (name_of c.args.pending.now) i.line i args a turn.refused c.in-Calls.function
     (shared_view new.shared) new.locals.variables new.locals.frames (name_of new.pending) has c.if-turn.false left
 
@@ -104,9 +104,9 @@ returns-in-Halts-clause-step c =
     let args = map actual_view c.args.actuals.now in
     let a = answer_view turn.classes.now c.answer_or_trap-answer.result in
     let before : Scene = scene_of turn s locals c.args.pending.now in
-    let has = has_answer before i args a (element_value c.wanted_element.result) c.wanted_element.ensures c.answer_or_trap-answer.ensures.answer c.answer_or_trap-answer.ensures.fits in
+    let has = has_answer before i args a c.wanted_element.result c.wanted_element.ensures c.answer_or_trap-answer.ensures.answer c.answer_or_trap-answer.ensures.fits in
     let new = c.carry_out.new in
-    let left = subst (λ (d : Done). CarriesOut turn (function_value i.function) c.args.actuals.now c.answer_or_trap-answer.result c.args.shared.now locals c.args.pending.now d new.shared new.locals new.pending) c.in-Halts.is c.in_ok-done.ensures in
+    let left = subst (λ (d : Done). CarriesOut turn i.function c.args.actuals.now c.answer_or_trap-answer.result c.args.shared.now locals c.args.pending.now d new.shared new.locals new.pending) c.in-Halts.is c.in_ok-done.ensures in
     call_halts (unit_tree turn.unit.now) turn.classes.now (in_use_view turn.in_use) turn.thread s locals.variables locals.frames (name_of c.args.pending.now) i.line i args a turn.refused c.in-Halts.trap
     (shared_view new.shared) new.locals.variables new.locals.frames (name_of new.pending) has c.if-turn.false left
 

@@ -1,5 +1,4 @@
 use Rattle.std.proofs.Common.{List, IfOk, map, ap, ◌∙◌, subst}
-use Rattle.jni.specs.Table.{function_value}
 use Rattle.semantics.specs.Arguments.{Actual}
 use Rattle.replay_arguments.specs.Actuals.{actual_view}
 use Rattle.replay_arguments.specs.Shares.{shared_view}
@@ -13,7 +12,7 @@ returns-clause-step c =
     let s = shared_view c.args.shared.now in
     let locals = c.args.locals.now in
     let i = c.args.i.now in
-    let f = function_value i.function in
+    let f = i.function in
     let before : Scene = scene_of turn s locals c.args.pending.now in
     let after : Scene = scene_of turn (shared_view c.call.new.shared) c.call.new.locals c.call.new.pending in
     let looked_up = ap (map actual_view) c.deref.ensures.value ∙ c.in_ok-actuals.ensures in

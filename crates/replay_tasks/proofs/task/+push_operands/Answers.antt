@@ -4,7 +4,6 @@ use Rattle.syntax.specs.declared.call.Argument.{Argument}
 use Rattle.syntax.specs.Views.{argument_tree}
 use Rattle.jni.specs.declared.kinds.ParameterKind.{ParameterKind}
 use Rattle.jni.specs.declared.kinds.ParameterKind.TheVariants as kind
-use Rattle.jni.specs.Table.{parameter_value}
 use Rattle.semantics.specs.Task.{Operand, operand}
 use Rattle.replay_terms.specs.declared.operand.Operand.{Operand as OperandInMemory}
 use Rattle.replay_terms.specs.Views.{operand_view}
@@ -29,7 +28,7 @@ returns-in_ok-push-in-len1-up-arguments-clause-view t c =
     let arguments = c.args.arguments.now in
     let parameter : ParameterKind = get_or parameters 0 kind.Nullable in
     let argument : Argument = c.argument-item.result in
-    let more : List Operand = map operand (zip (map parameter_value (after_first parameters)) (map argument_tree (after_first arguments))) in
+    let more : List Operand = map operand (zip ((after_first parameters)) (map argument_tree (after_first arguments))) in
     IfOk-weaker c.push_operands.result _ _
     (λ done is. is ∙ ap (λ (os : List OperandInMemory). map operand_view os ++ more) c.in_ok-push-in-len1-up-arguments.ensures.items
     ∙ operand_first c.args.operands.now.items c.in_ok-operand_of-in-len1-up-arguments.field-0 parameter argument parameters arguments

@@ -1,5 +1,4 @@
 use Rattle.std.proofs.Common.{List, [], ◌∷◌, ◌++◌, map, ap, ◌∙◌}
-use Rattle.jni.specs.Table.{function_value}
 use Rattle.syntax.specs.Shapes.{ref_tree}
 use Rattle.semantics.specs.Task.{Invoke, NumberOperand, Operand}
 use Rattle.semantics.specs.Term.{Term}
@@ -10,7 +9,7 @@ use Rattle.replay_tasks.proofs.task.last_task.Goals as goal
 
 pub returns-clause-view : goal.returns-clause-view
 returns-clause-view c =
-    let f = function_value c.args.function in
+    let f = c.args.function in
     let before = c.in-Some.before.now in
     rw c.put_task.ensures (
     ap (λ (t : Term). Invoke c.args.line (purpose_view c.args.line c.args.purpose) f (map looked_up before ++ NumberOperand t ∷ [])) c.in_ok-number.ensures.view

@@ -1,5 +1,5 @@
 use Rattle.std.proofs.Common.{[], ◌∷◌, refl}
-use Rattle.jni.specs.Prototype.{NonNull, FieldID}
+use Rattle.jni.specs.declared.kinds.ParameterKind.TheVariants.{NonNull, FieldID}
 use Rattle.replay_tasks.proofs.task.numbers_of.Goals as goal
 
 pub returns-then-count-eq3 : goal.returns-then-count-eq3

@@ -4,8 +4,9 @@ use Rattle.std.proofs.lemmas.Result.{IfOk-weaker}
 use Rattle.syntax.specs.declared.call.Argument.{Argument}
 use Rattle.syntax.specs.Views.{argument_tree}
 use Rattle.jni.specs.JniFunction.{calls_method, prototype}
-use Rattle.jni.specs.Prototype.{ParameterKind, Passed}
-use Rattle.jni.specs.Table.{Facts, function_value, parameter_value}
+use Rattle.jni.specs.declared.kinds.ParameterKind.{ParameterKind}
+use Rattle.jni.specs.declared.kinds.ParameterKind.TheVariants.{Passed}
+use Rattle.jni.specs.Table.{Facts}
 use Rattle.semantics.specs.Task.{Operand, operand}
 use Rattle.replay_terms.specs.Views.{operand_view}
 use Rattle.replay_tasks.specs.Tasks.{ArgumentsInRange}
@@ -19,7 +20,7 @@ push_passed-requires-clause-numbers c =
 
 pub returns-then-not-calls_method-clause-view : goal.returns-then-not-calls_method-clause-view
 returns-then-not-calls_method-clause-view c =
-    let f = function_value c.args.function in
+    let f = c.args.function in
     let arguments = c.args.arguments.now in
     let before = map operand_view c.args.operands.now.items in
     let own : List ParameterKind → List Operand = λ ps. map operand (zip ps (map argument_tree arguments)) in
@@ -33,14 +34,14 @@ returns-then-not-calls_method-clause-view c =
 
 pub returns-clause-view : goal.returns-clause-view
 returns-clause-view c =
-    let f = function_value c.args.function in
+    let f = c.args.function in
     let arguments = c.args.arguments.now in
     let before = map operand_view c.args.operands.now.items in
     let own : List ParameterKind → List Operand = λ ps. map operand (zip ps (map argument_tree arguments)) in
     let further : List Argument → List Operand = λ more. map (λ a. operand (Passed, a)) (map argument_tree more) in
     IfOk-weaker c.push_passed.result _ _ (λ done is. is
     ∙ ap (λ (l : List Operand). l ++ further c.passed.result.now) c.in_ok-push_operands.ensures.view
-    ∙ append_assoc before (own (map parameter_value c.prototype.result.now.parameters.now)) (further c.passed.result.now)
+    ∙ append_assoc before (own c.prototype.result.now.parameters.now) (further c.passed.result.now)
     ∙ ap (λ (x : Facts). before ++ (own x.prototype.parameters ++ further c.passed.result.now)) c.prototype.ensures
     ∙ ap (λ (l : List Operand). before ++ l) (
     ap (λ (more : List Argument). own (prototype f).parameters ++ further more) c.passed.ensures

@@ -1,8 +1,9 @@
 use Rattle.std.proofs.Common.{◌≡◌, ℕ, suc, ◌+◌, ◌<◌, List, ◌∷◌, length, get_or, drop, ap, ◌∙◌, sym, arith, add-one, drop-cons}
 use Rattle.std.proofs.Math.ListN.{drop_of_length-le}
 use Rattle.base.specs.Bytes.{Identifier}
-use Rattle.syntax.specs.Tree.{Block, ResultType}
-use Rattle.syntax.specs.Views.{stmt_tree, result_tree}
+use Rattle.syntax.specs.declared.unit.ResultType.{ResultType}
+use Rattle.syntax.specs.Tree.{Block}
+use Rattle.syntax.specs.Views.{stmt_tree}
 use Rattle.syntax.specs.declared.stmt.Stmt.{Stmt as StmtInMemory}
 use Rattle.syntax.specs.declared.stmt.Block.{out-Block}
 use Rattle.syntax.proofs.Blocks.{block_is, statements_tree}
@@ -13,7 +14,7 @@ use Rattle.step_counts.proofs.length.+statements.Goals as goal
 pub after_block-loop-stmt-init : goal.after_block-loop-stmt-init
 after_block-loop-stmt-init t c =
     let block = block_is c.args.block.now ∙ ap (λ (items : List StmtInMemory). statements_tree items (out-Block c.args.block.now).end_line) (sym c.deref-stmt-items.ensures.value) in
-    omega (arith, ap (λ (b : Block). block_steps c.args.ints.now (result_tree c.args.returns) b) block)
+    omega (arith, ap (λ (b : Block). block_steps c.args.ints.now c.args.returns b) block)
 
 -- ---- the steps from a statement on
 
@@ -98,16 +99,16 @@ after_block-returns-in_err-rest-clause-some t c = rw c.from_residual.ensures tt
 pub after_block-returns-in_err-rest-clause-none : goal.after_block-returns-in_err-rest-clause-none
 after_block-returns-in_err-rest-clause-none t c =
     let s = c.stmt-item.result in
-    let next = steps_next c.args.ints.now (result_tree c.args.returns) c.deref-stmt-items.result.now c.loop-stmt.stmt-index s (out-Block c.args.block.now).end_line c.loop-stmt-test.true c.stmt-item.is in
+    let next = steps_next c.args.ints.now c.args.returns c.deref-stmt-items.result.now c.loop-stmt.stmt-index s (out-Block c.args.block.now).end_line c.loop-stmt-test.true c.stmt-item.is in
     rw c.from_residual.ensures (omega (arith, c.loop-stmt.invariant, next, c.in_err-rest.ensures.none s.line))
 
 pub after_block-loop-stmt-preserved : goal.after_block-loop-stmt-preserved
 after_block-loop-stmt-preserved t c =
     let s = c.stmt-item.result in
-    let next = steps_next c.args.ints.now (result_tree c.args.returns) c.deref-stmt-items.result.now c.loop-stmt.stmt-index s (out-Block c.args.block.now).end_line c.loop-stmt-test.true c.stmt-item.is in
+    let next = steps_next c.args.ints.now c.args.returns c.deref-stmt-items.result.now c.loop-stmt.stmt-index s (out-Block c.args.block.now).end_line c.loop-stmt-test.true c.stmt-item.is in
     omega (arith, c.loop-stmt.invariant, next, c.in_ok-rest.ensures.some s.line)
 
 pub after_block-returns-clause-some : goal.after_block-returns-clause-some
 after_block-returns-clause-some t c =
     let end = (out-Block c.args.block.now).end_line in
-    omega (arith, c.loop-stmt.invariant, ap (λ (items : List StmtInMemory). block_steps c.args.ints.now (result_tree c.args.returns) (statements_tree items end)) (drop_of_length-le _ c.loop-stmt-test.false))
+    omega (arith, c.loop-stmt.invariant, ap (λ (items : List StmtInMemory). block_steps c.args.ints.now c.args.returns (statements_tree items end)) (drop_of_length-le _ c.loop-stmt-test.false))

@@ -6,7 +6,7 @@ use Rattle.base.specs.Bytes.{Identifier}
 use Rattle.syntax.specs.declared.stmt.Block.{out-Block}
 use Rattle.syntax.specs.Parts.{statements_of, statements_within, names_declared, declared_name}
 use Rattle.syntax.specs.Tree.{Test, Block, IfElse}
-use Rattle.syntax.specs.Views.{form_tree, block_tree, result_tree, stmt_tree, test_tree}
+use Rattle.syntax.specs.Views.{form_tree, block_tree, stmt_tree, test_tree}
 use Rattle.syntax.proofs.Blocks.{block_is, statements_tree}
 use Rattle.type_rules.specs.TypeRules.{places_of, with_declared}
 use Rattle.types.specs.AllFaults.{told_at}
@@ -25,14 +25,14 @@ pub check_block-loop-stmt-init : goal.check_block-loop-stmt-init
 check_block-loop-stmt-init t c =
     let block = block_is c.args.block.now ∙ ap (λ items. statements_tree items (out-Block c.args.block.now).end_line) (sym c.deref-stmt-items.ensures.value) in
     record {
-      tells = left-all c.args.all c.args.faults.now.items _ _ (ap (λ b. found (places_of (result_tree c.args.returns) (scope_of c.args.known.now) c.args.taken.now b)) block);
+      tells = left-all c.args.all c.args.faults.now.items _ _ (ap (λ b. found (places_of c.args.returns (scope_of c.args.known.now) c.args.taken.now b)) block);
       taken = ap (λ b. c.args.taken.now ++ names_declared (statements_of b)) block;
       above = above-none c.args.known.now;
     }
 
 pub check_block-loop-stmt-preserved : goal.check_block-loop-stmt-preserved
 check_block-loop-stmt-preserved t c =
-    let returned = result_tree c.args.returns in
+    let returned = c.args.returns in
     let known = scope_of c.loop-stmt.known in
     let taken = c.loop-stmt.taken in
     let items = c.deref-stmt-items.result.now in
@@ -55,7 +55,7 @@ check_block-loop-stmt-preserved t c =
 pub check_block-returns-clause-tells : goal.check_block-returns-clause-tells
 check_block-returns-clause-tells t c =
     left-none c.args.all c.args.faults.now.items c.loop-stmt.faults.items _ _ c.loop-stmt.invariant.tells
-    (ap (λ items. found (places_of (result_tree c.args.returns) (scope_of c.loop-stmt.known) c.loop-stmt.taken (statements_tree items (out-Block c.args.block.now).end_line)))
+    (ap (λ items. found (places_of c.args.returns (scope_of c.loop-stmt.known) c.loop-stmt.taken (statements_tree items (out-Block c.args.block.now).end_line)))
     (drop_all c.loop-stmt.stmt-index c.deref-stmt-items.result.now c.loop-stmt-test.false)
     ∙ found-none)
 
@@ -86,7 +86,7 @@ check_inside-returns-in_default-clause-tells t c =
     on_ok_weaker c.declare.result
     (λ e line.
     subst (λ broken. Tells c.args.all c.args.faults.now.items c.args.faults.now.items broken)
-    (sym (none-inside (result_tree c.args.returns) (scope_of c.args.known.now) c.args.taken.now line c.args.form.now c.in_default.not-If c.in_default.not-IfElse c.in_default.not-While))
+    (sym (none-inside c.args.returns (scope_of c.args.known.now) c.args.taken.now line c.args.form.now c.in_default.not-If c.in_default.not-IfElse c.in_default.not-While))
     (tells-none c.args.all c.args.faults.now.items))
     c.declare.ensures.above
 
@@ -96,7 +96,7 @@ check_inside-returns-in_ok-check_block-in-IfElse-clause-tells t c =
     let old = c.args.faults.now.items in
     let middle = c.check_block-in-IfElse.new.faults.items in
     let new = c.check_block-in-IfElse-2.new.faults.items in
-    let returned = result_tree c.args.returns in
+    let returned = c.args.returns in
     let first = c.in_ok-check_block-in-IfElse.ensures in
     on_ok_weaker c.check_block-in-IfElse-2.result
     (λ e line.
@@ -123,7 +123,7 @@ pub check_inside-returns-in-If-clause-tells : goal.check_inside-returns-in-If-cl
 check_inside-returns-in-If-clause-tells t c =
     on_ok_weaker c.check_block.result
     (λ e line.
-    subst (λ f. Tells c.args.all c.args.faults.now.items c.check_block.new.faults.items (found (places_inside (result_tree c.args.returns) (scope_of c.args.known.now) c.args.taken.now (form_tree line f)))) (sym c.in-If.is) e)
+    subst (λ f. Tells c.args.all c.args.faults.now.items c.check_block.new.faults.items (found (places_inside c.args.returns (scope_of c.args.known.now) c.args.taken.now (form_tree line f)))) (sym c.in-If.is) e)
     c.check_block.ensures.tells
 
 pub check_inside-returns-in-If-clause-scope : goal.check_inside-returns-in-If-clause-scope
@@ -149,7 +149,7 @@ pub check_inside-returns-in-While-clause-tells : goal.check_inside-returns-in-Wh
 check_inside-returns-in-While-clause-tells t c =
     on_ok_weaker c.check_block-in-While.result
     (λ e line.
-    subst (λ f. Tells c.args.all c.args.faults.now.items c.check_block-in-While.new.faults.items (found (places_inside (result_tree c.args.returns) (scope_of c.args.known.now) c.args.taken.now (form_tree line f)))) (sym c.in-While.is) e)
+    subst (λ f. Tells c.args.all c.args.faults.now.items c.check_block-in-While.new.faults.items (found (places_inside c.args.returns (scope_of c.args.known.now) c.args.taken.now (form_tree line f)))) (sym c.in-While.is) e)
     c.check_block-in-While.ensures.tells
 
 pub check_inside-returns-in-While-clause-scope : goal.check_inside-returns-in-While-clause-scope

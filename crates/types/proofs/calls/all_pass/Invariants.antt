@@ -1,7 +1,7 @@
 use Rattle.std.proofs.Common.{◌≡◌, drop, map}
 use Rattle.std.specs.List.{list_all}
 use Rattle.syntax.specs.Views.{argument_tree}
-use Rattle.jni.specs.Prototype.{Passed}
+use Rattle.jni.specs.declared.kinds.ParameterKind.TheVariants.{Passed}
 use Rattle.type_rules.specs.ExprTypes.{argument_fits}
 use Rattle.types.specs.Faults.{scope_of}
 use Rattle.types.proofs.calls.all_pass.Given as goal

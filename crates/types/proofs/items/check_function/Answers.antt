@@ -1,6 +1,6 @@
 use Rattle.std.proofs.Common.{◌-◌, ◌++◌, drop, take, length, sym, ap, subst, ◌∙◌}
-use Rattle.syntax.specs.Views.{block_tree, result_tree}
-use Rattle.type_rules.specs.declared.ty.ExprType.{ExprType as TypeInMemory}
+use Rattle.syntax.specs.Views.{block_tree}
+use Rattle.type_rules.specs.declared.ty.ExprType.{ExprType}
 use Rattle.std.proofs.lemmas.Result.{on_ok_weaker}
 use Rattle.base.specs.Bytes.{ByName}
 use Rattle.type_rules.specs.TypeRules.{places_of}
@@ -16,7 +16,7 @@ returns-clause-tells c =
     on_ok_weaker c.check_body-checked.result
     (λ e.
     subst (Tells c.args.all c.args.faults.now.items c.check_body-checked.new.faults.items)
-    (ap (λ names. take 1 (head_faults c.args.names.now names f) ++ found (places_of (result_tree f.result) (scope_of known) names (block_tree f.body))) (c.deref.ensures.value ∙ c.in_ok-entry.ensures)
+    (ap (λ names. take 1 (head_faults c.args.names.now names f) ++ found (places_of f.result (scope_of known) names (block_tree f.body))) (c.deref.ensures.value ∙ c.in_ok-entry.ensures)
     ∙ sym (found-function c.args.names.now (scope_of c.args.known.now) f known c.in_ok-enter.ensures.scope))
     e)
     c.check_body-checked.ensures.tells
@@ -24,5 +24,5 @@ returns-clause-tells c =
 pub returns-clause-restored : goal.returns-clause-restored
 returns-clause-restored c =
     on_ok_weaker c.check_body-checked.result
-    (λ e. c.leave.ensures ∙ ap (λ (k : ByName TypeInMemory). drop (length k - c.len-outside.result) k) e ∙ ap (λ n. drop (length c.enter.new.known - n) c.enter.new.known) c.len-outside.ensures ∙ forgotten _ _ c.in_ok-enter.ensures.above)
+    (λ e. c.leave.ensures ∙ ap (λ (k : ByName ExprType). drop (length k - c.len-outside.result) k) e ∙ ap (λ n. drop (length c.enter.new.known - n) c.enter.new.known) c.len-outside.ensures ∙ forgotten _ _ c.in_ok-enter.ensures.above)
     c.check_body-checked.ensures.restored

@@ -1,8 +1,7 @@
 use Rattle.std.proofs.Common.{ap, ◌∙◌}
 use Rattle.std.specs.Option.{option_map}
-use Rattle.type_rules.specs.TypeViews.{type_value}
 use Rattle.type_rules.proofs.KnownDeclarations.{lookup-seen}
 use Rattle.types.proofs.scope.type_in.Goals as goal
 
 pub returns : goal.returns
-returns c = ap (option_map type_value) c.get.ensures ∙ lookup-seen type_value c.args.name.now c.args.known.now
+returns c = c.get.ensures ∙ lookup-seen c.args.name.now c.args.known.now

@@ -1,5 +1,5 @@
 use Rattle.std.proofs.Common.{OnOk, take, subst, sym, ap, ◌∙◌}
-use Rattle.syntax.specs.Views.{result_tree, stmt_tree}
+use Rattle.syntax.specs.Views.{stmt_tree}
 use Rattle.syntax.proofs.StatementLines.{line_is}
 use Rattle.type_rules.specs.TypeRules.{typing_rules}
 use Rattle.types.specs.Faults.{Tells, scope_of, refused_of}
@@ -10,7 +10,7 @@ use Rattle.types.proofs.statements.check_statement.Goals as goal
 
 pub returns-in-Some : goal.returns-in-Some
 returns-in-Some c =
-    let returned = result_tree c.args.returns in
+    let returned = c.args.returns in
     let known = scope_of c.args.known.now in
     let taken = c.args.taken.now in
     let s = stmt_tree c.args.stmt.now in
@@ -20,7 +20,7 @@ returns-in-Some c =
 
 pub returns-in-None : goal.returns-in-None
 returns-in-None c =
-    let returned = result_tree c.args.returns in
+    let returned = c.args.returns in
     let known = scope_of c.args.known.now in
     let taken = c.args.taken.now in
     let s = stmt_tree c.args.stmt.now in

@@ -1,6 +1,5 @@
 use Rattle.std.proofs.Common.{sym, ap, ◌∙◌, map}
 use Rattle.class_rules.specs.Class.{NumberField, ReferenceField}
-use Rattle.base.specs.Element.{element_value}
 use Rattle.world_lines.specs.declared.line.Line.{Line}
 use Rattle.world.specs.Gathered.{each_can_hold}
 use Rattle.world_lines.specs.LineContents.{written_values}
@@ -24,5 +23,5 @@ returns-in-Array c =
     let classes = c.args.classes.now in
     let names = c.args.names.now in
     c.all_can_hold-in-Array.ensures
-    ∙ held_alike classes names value_view (NumberField (element_value c.in-Array.array.element)) c.in-Array.array.values.items c.deref-in-Array.result.now c.deref-in-Array.ensures.value
+    ∙ held_alike classes names value_view (NumberField c.in-Array.array.element) c.in-Array.array.values.items c.deref-in-Array.result.now c.deref-in-Array.ensures.value
     ∙ ap (λ (l : Line). each_can_hold classes names (types_of_line classes (line_view l)) (written_values (line_view l))) (sym c.in-Array.is)

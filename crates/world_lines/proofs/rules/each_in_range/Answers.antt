@@ -1,5 +1,4 @@
 use Rattle.std.proofs.Common.{sym, ap, ◌∙◌, map}
-use Rattle.base.specs.Element.{element_value}
 use Rattle.world_lines.specs.declared.line.Line.{Line}
 use Rattle.world_lines.specs.LineContents.{written_values}
 use Rattle.world_lines.specs.LineViews.{value_view, line_view}
@@ -11,7 +10,7 @@ use Rattle.world_lines.proofs.rules.each_in_range.Goals as goal
 pub returns-in-Array : goal.returns-in-Array
 returns-in-Array c =
     c.are_in_range.ensures
-    ∙ numbers_in_range value_view (element_value c.in-Array.array.element) c.in-Array.array.values.items c.deref-in-Array.result.now c.deref-in-Array.ensures.value
+    ∙ numbers_in_range value_view c.in-Array.array.element c.in-Array.array.values.items c.deref-in-Array.result.now c.deref-in-Array.ensures.value
     ∙ ap (λ (l : Line). each_in_range (types_of_line c.args.classes.now (line_view l)) (written_values (line_view l))) (sym c.in-Array.is)
 
 pub returns-in-Thread : goal.returns-in-Thread

@@ -1,7 +1,7 @@
 use Rattle.std.proofs.Common.{◌≡◌, ℕ, List, Option, OnOk, unwrap_or, length, subst, ap, ◌∙◌, map, arith}
 use Rattle.std.specs.List.{list_all}
 use Rattle.std.proofs.Math.ListN.{length-map}
-use Rattle.base.specs.Element.{JInt}
+use Rattle.base.specs.declared.element.ElementType.TheVariants.{Int as JInt}
 use Rattle.world_lines.specs.declared.value.Value.{Value}
 use Rattle.world.specs.Gathered.{value_at, with_object}
 use Rattle.world.specs.GatheredViews.{gathered_of}

@@ -1,6 +1,6 @@
 use Rattle.std.proofs.Common.{map, ap, ◌∙◌, pos}
 use Rattle.std.proofs.lemmas.List.{map-append, take_all}
-use Rattle.base.specs.Element.{JInt}
+use Rattle.base.specs.declared.element.ElementType.TheVariants.{Int as JInt}
 use Rattle.world_lines.specs.declared.value.Value.TheVariants.{Number}
 use Rattle.world.specs.Gathered.{value_at}
 use Rattle.world_lines.specs.LineViews.{value_view}
