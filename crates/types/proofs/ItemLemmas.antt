@@ -17,13 +17,13 @@ use Rattle.type_rules.specs.ExprTypes.{Scope}
 use Rattle.type_rules.specs.declared.rule.TypeRule.TheVariants.{UnknownName, DeclaredTwice}
 use Rattle.type_rules.specs.TypeRules.{Place, StaticForm, HeadForm, has_name, has_repeated, breaks, broken_at, parameter_type, places_of, function_places, item_places}
 use Rattle.types.specs.AllFaults.{told_at}
-use Rattle.types.specs.Faults.{broken_if, found, scope_of, entry_scope, head_faults, own_places, with_static}
+use Rattle.types.specs.Faults.{broken_if, found, entry_scope, head_faults, own_places, with_static}
 use Rattle.types.proofs.RuleLemmas.{listed}
 use Rattle.types.proofs.PlaceLemmas.{found-none, found-append, found-next}
 
 -- ---- what is known and taken at a function's beginning
 
-known_names : (known : ByName ExprType) → map {B = Identifier} (λ v. v.0) (scope_of known) ≡ map {B = Identifier} (λ k. k.0) known
+known_names : (known : ByName ExprType) → map {B = Identifier} (λ v. v.0) known ≡ map {B = Identifier} (λ k. k.0) known
 known_names [] = refl
 known_names (k ∷ known) = ap (λ names. k.0 ∷ names) (known_names known)
 
@@ -36,7 +36,7 @@ entry_names : (parameters : List ParameterInMemory) (statics : Scope)
 entry_names [] statics = refl
 entry_names (p ∷ parameters) statics = ap (λ names. p.name ∷ names) (entry_names parameters statics)
 
-taken_names : (statics : Scope) (f : FunctionInMemory) (known : ByName ExprType) → scope_of known ≡ entry_scope statics f → parameter_names (function_tree f) ++ map (λ s. s.0) statics ≡ map {B = Identifier} (λ k. k.0) known
+taken_names : (statics : Scope) (f : FunctionInMemory) (known : ByName ExprType) → known ≡ entry_scope statics f → parameter_names (function_tree f) ++ map (λ s. s.0) statics ≡ map {B = Identifier} (λ k. k.0) known
 taken_names statics f known e =
     sym (ap (λ names. f.class_name ∷ names) (entry_names f.parameters.items statics)) ∙ sym (ap (λ (scope : Scope). map {B = Identifier} (λ v. v.0) scope) e) ∙ known_names known
 
@@ -57,8 +57,8 @@ head taken statics f entry e =
     ∙ ap (λ xs. broken_if (not (is_some (unmangle f.name))) UnknownName f.line ++ xs) (append-nil _)
 
 -- what is refused in a function where these names are known at its beginning
-pub found-function : (taken : List Identifier) (statics : Scope) (f : FunctionInMemory) (known : ByName ExprType) → scope_of known ≡ entry_scope statics f
-    → found (function_places taken statics (function_tree f)) ≡ take 1 (head_faults taken (map {B = Identifier} (λ k. k.0) known) f) ++ found (places_of f.result (scope_of known) (map {B = Identifier} (λ k. k.0) known) (block_tree f.body))
+pub found-function : (taken : List Identifier) (statics : Scope) (f : FunctionInMemory) (known : ByName ExprType) → known ≡ entry_scope statics f
+    → found (function_places taken statics (function_tree f)) ≡ take 1 (head_faults taken (map {B = Identifier} (λ k. k.0) known) f) ++ found (places_of f.result known (map {B = Identifier} (λ k. k.0) known) (block_tree f.body))
 unfolding head_place
 found-function taken statics f known e =
     let names = taken_names statics f known e in

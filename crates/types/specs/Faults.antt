@@ -27,10 +27,6 @@ TypeFault = FaultAt TypeRule ℕ
 abbrev pub fault_of : TypeFault → ℕ × TypeRule
 fault_of f = (f.line, f.rule)
 
--- the names that are known
-abbrev pub scope_of : ByName ExprType → Scope
-scope_of known = map (λ k. (k.0, k.1)) known
-
 -- ---- what a check finds in a list of broken rules
 
 -- the rules that are broken, each with its line

@@ -4,7 +4,7 @@ ghost use Rattle.std.specs.Prelude.{◌≡◌, ℕ, [], ◌∷◌, ◌++◌, OnO
 ghost use Rattle.syntax.specs.Parts.{statements_of, statements_within, names_declared};
 ghost use Rattle.syntax.specs.Views.{form_tree, block_tree};
 ghost use Rattle.type_rules.specs.TypeRules.{places_of, with_declared};
-ghost use Rattle.types.specs.Faults.{Tells, IsAbove, scope_of, found, places_inside};
+ghost use Rattle.types.specs.Faults.{Tells, IsAbove, found, places_inside};
 
 use crate::fault::TypeFault;
 use crate::statements::{check_statement, declared};
@@ -19,8 +19,8 @@ fn declare<'a: 'n, 'n>(
     taken: &mut Taken<'n>,
     form: &'a Form,
 ) -> Result<(), AllocError>
-    ensures scope { OnOk result ((line : ℕ) → scope_of known.new
-        ≡ with_declared (scope_of known.old) (form_tree line form.now)) }
+    ensures scope { OnOk result ((line : ℕ) → known.new
+        ≡ with_declared known.old (form_tree line form.now)) }
     ensures above { OnOk result (IsAbove known.new known.old) }
     ensures taken { OnOk result ((line : ℕ) → taken.new
         ≡ taken.old ++ names_declared (form_tree line form.now ∷ [])) }
@@ -47,9 +47,9 @@ fn check_inside<'a: 'n, 'n>(
     faults: &mut Vec<TypeFault>,
 ) -> Result<(), AllocError>
     ensures tells { OnOk result ((line : ℕ) → Tells all faults.old.items faults.new.items
-        (found (places_inside returns (scope_of known.old) taken.old (form_tree line form.now)))) }
-    ensures scope { OnOk result ((line : ℕ) → scope_of known.new
-        ≡ with_declared (scope_of known.old) (form_tree line form.now)) }
+        (found (places_inside returns known.old taken.old (form_tree line form.now)))) }
+    ensures scope { OnOk result ((line : ℕ) → known.new
+        ≡ with_declared known.old (form_tree line form.now)) }
     ensures above { OnOk result (IsAbove known.new known.old) }
     ensures taken { OnOk result ((line : ℕ) → taken.new
         ≡ taken.old ++ names_declared (statements_within (form_tree line form.now))) }
@@ -78,7 +78,7 @@ pub(crate) fn check_block<'a: 'n, 'n>(
     faults: &mut Vec<TypeFault>,
 ) -> Result<(), AllocError>
     ensures tells { OnOk result (Tells all faults.old.items faults.new.items
-        (found (places_of returns (scope_of known.old) taken.old (block_tree block.now)))) }
+        (found (places_of returns known.old taken.old (block_tree block.now)))) }
     ensures restored { OnOk result (known.new ≡ known.old) }
     ensures taken { OnOk result (taken.new
         ≡ taken.old ++ names_declared (statements_of (block_tree block.now))) }

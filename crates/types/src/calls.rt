@@ -12,7 +12,6 @@ ghost use Rattle.type_rules.specs.TypeRules.{is_formed, is_mode, modes_fit, has_
 ghost use Rattle.jni.specs.JniFunction.{takes_count};
 ghost use Rattle.jni.specs.declared.kinds.ParameterKind.TheVariants.{Passed};
 ghost use Rattle.types.specs.Called.{with_passed};
-ghost use Rattle.types.specs.Faults.{scope_of};
 ghost use Rattle.type_rules.specs.Uses.{argument_uses, call_uses};
 
 use crate::expressions::{has_unknown, is_formed, is_null, name_type, type_of};
@@ -27,21 +26,21 @@ use type_rules::{ExprType, Known};
 
 /// Whether an expression is NULL or the bare name of a reference.
 fn is_reference(known: &Known<'_, ExprType>, e: ExprRef<'_>) -> bool
-    ensures { result ≡ (is_null (ref_tree e.entry) || is_reference (name_type (scope_of known.now) (ref_tree e.entry))) }
+    ensures { result ≡ (is_null (ref_tree e.entry) || is_reference (name_type known.now (ref_tree e.entry))) }
 {
     is_null(e) || is_ref(name_type(known, e)) || is_global(name_type(known, e))
 }
 
 /// Whether an expression is NULL or the bare name of a reference, which may be weak.
 fn is_any_reference(known: &Known<'_, ExprType>, e: ExprRef<'_>) -> bool
-    ensures { result ≡ (is_null (ref_tree e.entry) || is_any_reference (name_type (scope_of known.now) (ref_tree e.entry))) }
+    ensures { result ≡ (is_null (ref_tree e.entry) || is_any_reference (name_type known.now (ref_tree e.entry))) }
 {
     is_reference(known, e) || is_weak(name_type(known, e))
 }
 
 /// Whether an expression fits a parameter; a mode is judged by a rule of its own.
 fn value_fits(known: &Known<'_, ExprType>, kind: ParameterKind, e: ExprRef<'_>) -> bool
-    ensures { result ≡ value_fits (scope_of known.now) kind (ref_tree e.entry) }
+    ensures { result ≡ value_fits known.now kind (ref_tree e.entry) }
 {
     match kind {
         ParameterKind::IntNumber => is_jint(type_of(known, e)),
@@ -70,7 +69,7 @@ fn text_fits(kind: ParameterKind) -> bool
 
 /// Whether the address of a variable may stand for a parameter.
 fn address_fits(known: &Known<'_, ExprType>, kind: ParameterKind, name: &Name) -> bool
-    ensures { result ≡ address_fits (scope_of known.now) kind name.now }
+    ensures { result ≡ address_fits known.now kind name.now }
 {
     match kind {
         ParameterKind::IsCopy => is_flag(type_in(known, name)),
@@ -85,7 +84,7 @@ pub(crate) fn argument_fits(
     kind: ParameterKind,
     argument: &Argument,
 ) -> bool
-    ensures { result ≡ argument_fits (scope_of known.now) kind (argument_tree argument.now) }
+    ensures { result ≡ argument_fits known.now kind (argument_tree argument.now) }
 {
     match argument {
         Argument::Value(e) => value_fits(known, kind, e.whole()),
@@ -96,7 +95,7 @@ pub(crate) fn argument_fits(
 
 /// Whether each of these arguments may be passed to a method.
 fn all_pass(known: &Known<'_, ExprType>, arguments: &[Argument]) -> bool
-    ensures { result ≡ list_all (argument_fits (scope_of known.now) Passed) (map argument_tree arguments.now) }
+    ensures { result ≡ list_all (argument_fits known.now Passed) (map argument_tree arguments.now) }
 {
     for argument in arguments {
         if !argument_fits(known, ParameterKind::Passed, argument) {
@@ -115,7 +114,7 @@ fn arguments_fit(
     passes: bool,
     arguments: &[Argument],
 ) -> bool
-    ensures { result ≡ arguments_fit (scope_of known.now)
+    ensures { result ≡ arguments_fit known.now
         (with_passed kinds.now passes (length (map argument_tree arguments.now)))
         (map argument_tree arguments.now) }
 {
@@ -166,7 +165,7 @@ pub(crate) fn call_arguments_fit(
     function: Option<JniFunction>,
     call: &Call,
 ) -> bool
-    ensures { result ≡ call_arguments_fit (scope_of known.now) (call_tree call.now)
+    ensures { result ≡ call_arguments_fit known.now (call_tree call.now)
         function }
 {
     match function {
@@ -274,7 +273,7 @@ pub(crate) fn may_be_tested(function: Option<JniFunction>) -> bool
 
 /// Whether some name of an argument is not known.
 fn argument_unknown(known: &Known<'_, ExprType>, argument: &Argument) -> bool
-    ensures { result ≡ argument_uses (is_unknown (scope_of known.now)) (argument_tree argument.now) }
+    ensures { result ≡ argument_uses (is_unknown known.now) (argument_tree argument.now) }
 {
     match argument {
         Argument::Value(e) => has_unknown(known, e.whole()),
@@ -285,7 +284,7 @@ fn argument_unknown(known: &Known<'_, ExprType>, argument: &Argument) -> bool
 
 /// Whether some name in a call is not known.
 pub(crate) fn call_unknown(known: &Known<'_, ExprType>, call: &Call) -> bool
-    ensures { result ≡ call_uses (is_unknown (scope_of known.now)) (call_tree call.now) }
+    ensures { result ≡ call_uses (is_unknown known.now) (call_tree call.now) }
 {
     for argument in &call.arguments {
         if argument_unknown(known, argument) {
@@ -297,7 +296,7 @@ pub(crate) fn call_unknown(known: &Known<'_, ExprType>, call: &Call) -> bool
 
 /// Whether each expression in a call is a bare name or constant, or has a type.
 pub(crate) fn call_formed(known: &Known<'_, ExprType>, call: &Call) -> bool
-    ensures { result ≡ list_all (is_formed (scope_of known.now)) (call_expressions (call_tree call.now)) }
+    ensures { result ≡ list_all (is_formed known.now) (call_expressions (call_tree call.now)) }
 {
     for argument in &call.arguments {
         if let Argument::Value(e) = argument {

@@ -7,7 +7,6 @@ ghost use Rattle.syntax.specs.Shapes.{ref_tree};
 ghost use Rattle.type_rules.specs.declared.ty.ExprType.TheVariants.{Jint};
 ghost use Rattle.type_rules.specs.ExprTypes.{is_word, is_jint, is_flag, is_truth, is_castable, is_index, has_elements, type_in, type_of, constant_type, prefix_type, binary_type, group, null_test_type, is_null, name_type, is_unknown};
 ghost use Rattle.type_rules.specs.TypeRules.{is_formed};
-ghost use Rattle.types.specs.Faults.{scope_of};
 ghost use Rattle.types.specs.ValueTypes.{value_type, of_value, bare_type};
 ghost use Rattle.type_rules.specs.Uses.{expr_uses};
 
@@ -142,7 +141,7 @@ fn element_type(
     name: &Name,
     index: Option<ValueType>,
 ) -> Option<ValueType>
-    ensures { option_map value_type result ≡ (if has_elements (type_in (scope_of known.now) name.now)
+    ensures { option_map value_type result ≡ (if has_elements (type_in known.now name.now)
         && is_index (option_map value_type index) then Some Jint else None) }
 {
     type_if(
@@ -154,7 +153,7 @@ fn element_type(
 /// The type of a name, where it is that of a value.
 #[inline(never)]
 fn value_type_in(known: &Known<'_, ExprType>, name: &Name) -> Option<ValueType>
-    ensures { option_map value_type result ≡ of_value (type_in (scope_of known.now) name.now) }
+    ensures { option_map value_type result ≡ of_value (type_in known.now name.now) }
 {
     match type_in(known, name) {
         Some(ExprType::Word) => Some(ValueType::Word),
@@ -174,7 +173,7 @@ pub(crate) fn is_null(e: ExprRef<'_>) -> bool
 
 /// The type of a bare name.
 pub(crate) fn name_type(known: &Known<'_, ExprType>, e: ExprRef<'_>) -> Option<ExprType>
-    ensures { result ≡ name_type (scope_of known.now) (ref_tree e.entry) }
+    ensures { result ≡ name_type known.now (ref_tree e.entry) }
 {
     match e.shape() {
         Shape::Variable(x) => type_in(known, x),
@@ -184,7 +183,7 @@ pub(crate) fn name_type(known: &Known<'_, ExprType>, e: ExprRef<'_>) -> Option<E
 
 /// Whether an expression compares a bare name, which may be NULL, with NULL.
 fn is_null_test(known: &Known<'_, ExprType>, e: ExprRef<'_>) -> bool
-    ensures { result ≡ is_some (null_test_type (scope_of known.now) (null_tested (ref_tree e.entry))) }
+    ensures { result ≡ is_some (null_test_type known.now (null_tested (ref_tree e.entry))) }
 {
     match e.null_test() {
         Some(test) => is_nullable(type_in(known, test.name)),
@@ -194,7 +193,7 @@ fn is_null_test(known: &Known<'_, ExprType>, e: ExprRef<'_>) -> bool
 
 /// The type of an expression, where it is that of a value.
 fn value_type_of(known: &Known<'_, ExprType>, e: ExprRef<'_>) -> Option<ValueType>
-    ensures { option_map value_type result ≡ of_value (type_of (scope_of known.now) (ref_tree e.entry)) }
+    ensures { option_map value_type result ≡ of_value (type_of known.now (ref_tree e.entry)) }
 {
     match e.shape() {
         Shape::Number { unsigned, .. } => Some(if unsigned {
@@ -218,7 +217,7 @@ fn value_type_of(known: &Known<'_, ExprType>, e: ExprRef<'_>) -> Option<ValueTyp
 
 /// The type of a name, which may be in parentheses.
 fn bare_type(known: &Known<'_, ExprType>, e: ExprRef<'_>) -> Option<ExprType>
-    ensures { result ≡ bare_type (scope_of known.now) (ref_tree e.entry) }
+    ensures { result ≡ bare_type known.now (ref_tree e.entry) }
 {
     match e.shape() {
         Shape::Variable(x) => type_in(known, x),
@@ -229,7 +228,7 @@ fn bare_type(known: &Known<'_, ExprType>, e: ExprRef<'_>) -> Option<ExprType>
 
 /// The type of an expression, if it has one.
 pub(crate) fn type_of(known: &Known<'_, ExprType>, e: ExprRef<'_>) -> Option<ExprType>
-    ensures { result ≡ type_of (scope_of known.now) (ref_tree e.entry) }
+    ensures { result ≡ type_of known.now (ref_tree e.entry) }
 {
     match value_type_of(known, e) {
         Some(ty) => Some(ty.among_all()),
@@ -239,7 +238,7 @@ pub(crate) fn type_of(known: &Known<'_, ExprType>, e: ExprRef<'_>) -> Option<Exp
 
 /// Whether an expression is a bare name or constant, or has a type.
 pub(crate) fn is_formed(known: &Known<'_, ExprType>, e: ExprRef<'_>) -> bool
-    ensures { result ≡ is_formed (scope_of known.now) (ref_tree e.entry) }
+    ensures { result ≡ is_formed known.now (ref_tree e.entry) }
 {
     match e.shape() {
         Shape::Named(_) | Shape::Variable(_) => true,
@@ -249,7 +248,7 @@ pub(crate) fn is_formed(known: &Known<'_, ExprType>, e: ExprRef<'_>) -> bool
 
 /// Whether some name of an expression is not known.
 pub(crate) fn has_unknown(known: &Known<'_, ExprType>, e: ExprRef<'_>) -> bool
-    ensures { result ≡ expr_uses (is_unknown (scope_of known.now)) (ref_tree e.entry) }
+    ensures { result ≡ expr_uses (is_unknown known.now) (ref_tree e.entry) }
 {
     match e.shape() {
         Shape::Number { .. } | Shape::Named(_) => false,

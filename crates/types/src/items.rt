@@ -6,7 +6,7 @@ ghost use Rattle.syntax.specs.Parts.{item_name};
 ghost use Rattle.syntax.specs.Views.{block_tree, function_tree, item_tree};
 ghost use Rattle.type_rules.specs.declared.rule.TypeRule.TheVariants.{DeclaredTwice};
 ghost use Rattle.type_rules.specs.TypeRules.{has_name, has_repeated, static_type, places_of, function_places, item_places};
-ghost use Rattle.types.specs.Faults.{Faults, Refuses, Finds, Tells, broken_if, scope_of, found, head_faults, own_places, with_static};
+ghost use Rattle.types.specs.Faults.{Faults, Refuses, Finds, Tells, broken_if, found, head_faults, own_places, with_static};
 
 use crate::blocks::check_block;
 use crate::fault::{TypeError, TypeFault, keep, refuse_if, refuse_name_if, told};
@@ -71,7 +71,7 @@ fn check_body<'a>(
     faults: &mut Vec<TypeFault>,
 ) -> Result<(), AllocError>
     ensures tells { OnOk result (Tells all faults.old.items faults.new.items (take 1 (head_faults names.now entry.now f.now)
-        ++ found (places_of f.now.result (scope_of known.old) entry.now (block_tree f.now.body)))) }
+        ++ found (places_of f.now.result known.old entry.now (block_tree f.now.body)))) }
     ensures restored { OnOk result (known.new ≡ known.old) }
 {
     let mut taken = Taken::new(alloc);
@@ -91,7 +91,7 @@ fn check_function<'a>(
     faults: &mut Vec<TypeFault>,
 ) -> Result<(), AllocError>
     ensures tells { OnOk result (Tells all faults.old.items faults.new.items
-        (found (function_places names.now (scope_of known.old) (function_tree f.now)))) }
+        (found (function_places names.now known.old (function_tree f.now)))) }
     ensures restored { OnOk result (known.new ≡ known.old) }
 {
     let outside = known.len();
@@ -122,7 +122,7 @@ fn check_static<'a>(
     ensures tells { OnOk result (Tells all faults.old.items faults.new.items
         (take 1 (broken_if (has_name names.old.items s.now.name) DeclaredTwice s.now.line))) }
     ensures names { OnOk result (names.new.items ≡ s.now.name ∷ names.old.items) }
-    ensures statics { OnOk result (scope_of statics.new ≡ (s.now.name, static_type s.now.kind) ∷ scope_of statics.old) }
+    ensures statics { OnOk result (statics.new ≡ (s.now.name, static_type s.now.kind) ∷ statics.old) }
 {
     let name = refuse_name_if(
         has_name(names, &s.name),
@@ -145,7 +145,7 @@ fn check_named<'a>(
     faults: &mut Vec<TypeFault>,
 ) -> Result<(), AllocError>
     ensures tells { OnOk result (Tells all faults.old.items faults.new.items
-        (found (function_places names.old.items (scope_of statics.old) (function_tree f.now)))) }
+        (found (function_places names.old.items statics.old (function_tree f.now)))) }
     ensures names { OnOk result (names.new.items ≡ f.now.name ∷ names.old.items) }
     ensures statics { OnOk result (statics.new ≡ statics.old) }
 {
@@ -163,9 +163,9 @@ fn check_item<'a>(
     faults: &mut Vec<TypeFault>,
 ) -> Result<(), AllocError>
     ensures tells { OnOk result (Tells all faults.old.items faults.new.items
-        (found (own_places names.old.items (scope_of statics.old) (item_tree item.now)))) }
+        (found (own_places names.old.items statics.old (item_tree item.now)))) }
     ensures names { OnOk result (names.new.items ≡ item_name (item_tree item.now) ∷ names.old.items) }
-    ensures statics { OnOk result (scope_of statics.new ≡ with_static (scope_of statics.old) (item_tree item.now)) }
+    ensures statics { OnOk result (statics.new ≡ with_static statics.old (item_tree item.now)) }
 {
     match item {
         Item::Static(s) => check_static(names, statics, s, all, faults),
@@ -183,7 +183,7 @@ pub(crate) fn check_items<'a>(
     faults: &mut Vec<TypeFault>,
 ) -> Result<(), AllocError>
     ensures { OnOk result (Tells all faults.old.items faults.new.items
-        (found (item_places names.old.items (scope_of statics.old) (map item_tree items.now)))) }
+        (found (item_places names.old.items statics.old (map item_tree items.now)))) }
 {
     for item in items {
         check_item(names, statics, item, all, faults)?;

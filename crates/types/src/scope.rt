@@ -4,7 +4,7 @@ ghost use Rattle.std.specs.Prelude.{◌≡◌, [], ◌∷◌, ◌++◌, OnOk, ma
 ghost use Rattle.std.specs.Option.{option_map};
 ghost use Rattle.type_rules.specs.ExprTypes.{type_in, is_unknown};
 ghost use Rattle.type_rules.specs.TypeRules.{has_name, parameter_type};
-ghost use Rattle.types.specs.Faults.{IsAbove, scope_of, entry_scope};
+ghost use Rattle.types.specs.Faults.{IsAbove, entry_scope};
 
 use std::alloc::AllocError;
 use syntax::{Function, Name, Parameter};
@@ -19,14 +19,14 @@ fn is_same(a: &Name, b: &Name) -> bool
 
 /// The type of a known name.
 pub(crate) fn type_in(known: &Known<'_, ExprType>, name: &Name) -> Option<ExprType>
-    ensures { result ≡ type_in (scope_of known.now) name.now }
+    ensures { result ≡ type_in known.now name.now }
 {
     known.get(name)
 }
 
 /// Whether a name is not known.
 pub(crate) fn is_unknown(known: &Known<'_, ExprType>, name: &Name) -> bool
-    ensures { result ≡ is_unknown (scope_of known.now) name.now }
+    ensures { result ≡ is_unknown known.now name.now }
 {
     type_in(known, name).is_none()
 }
@@ -40,7 +40,7 @@ pub(crate) fn has_name(names: &[Name], name: &Name) -> bool
 
 /// What is known at a function's beginning, after the statics that are known.
 pub(crate) fn enter<'a>(known: &mut Known<'a, ExprType>, f: &'a Function) -> Result<(), AllocError>
-    ensures scope { OnOk result (scope_of known.new ≡ entry_scope (scope_of known.old) f.now) }
+    ensures scope { OnOk result (known.new ≡ entry_scope known.old f.now) }
     ensures above { OnOk result (IsAbove known.new known.old) }
 {
     declare_parameters(known, &f.parameters)?;
@@ -52,8 +52,8 @@ fn declare_parameters<'a>(
     known: &mut Known<'a, ExprType>,
     parameters: &'a [Parameter],
 ) -> Result<(), AllocError>
-    ensures scope { OnOk result (scope_of known.new
-        ≡ map (λ p. (p.name, parameter_type p.kind)) parameters.now ++ scope_of known.old) }
+    ensures scope { OnOk result (known.new
+        ≡ map (λ p. (p.name, parameter_type p.kind)) parameters.now ++ known.old) }
     ensures above { OnOk result (IsAbove known.new known.old) }
 {
     match parameters {

@@ -16,7 +16,7 @@ ghost use Rattle.type_rules.specs.declared.rule.TypeRule.TheVariants.{UnknownNam
 ghost use Rattle.type_rules.specs.TypeRules.{is_formed, value_sets, right_side_sets, buffer_begins, test_fits, return_fits, statement_fits, copies_reference, typing_rules, breaks_type_rule};
 ghost use Rattle.types.specs.Called.{function_in, call_of_test, declared};
 ghost use Rattle.types.specs.AllFaults.{told_at};
-ghost use Rattle.types.specs.Faults.{Faults, scope_of, Judges, Tells, statement_place, refused_of};
+ghost use Rattle.types.specs.Faults.{Faults, Judges, Tells, statement_place, refused_of};
 ghost use Rattle.type_rules.specs.Uses.{right_uses, test_uses, uses};
 
 use crate::calls::{
@@ -49,7 +49,7 @@ pub(crate) fn function_called(form: &Form) -> Option<JniFunction>
 
 /// Whether some name of a right side is not known.
 fn right_unknown(known: &Known<'_, ExprType>, right: &RightSide) -> bool
-    ensures { result ≡ right_uses (is_unknown (scope_of known.now)) (right_side_tree right.now) }
+    ensures { result ≡ right_uses (is_unknown known.now) (right_side_tree right.now) }
 {
     match right {
         RightSide::Expr(e) => has_unknown(known, e.whole()),
@@ -59,7 +59,7 @@ fn right_unknown(known: &Known<'_, ExprType>, right: &RightSide) -> bool
 
 /// Whether some name of a test is not known.
 fn test_unknown(known: &Known<'_, ExprType>, test: &Test) -> bool
-    ensures { result ≡ test_uses (is_unknown (scope_of known.now)) (test_tree test.now) }
+    ensures { result ≡ test_uses (is_unknown known.now) (test_tree test.now) }
 {
     match test {
         Test::Expr(e) => has_unknown(known, e.whole()),
@@ -69,7 +69,7 @@ fn test_unknown(known: &Known<'_, ExprType>, test: &Test) -> bool
 
 /// Whether some name that a statement uses is not known.
 fn uses_unknown(known: &Known<'_, ExprType>, form: &Form) -> bool
-    ensures { (line : ℕ) → result ≡ uses (is_unknown (scope_of known.now)) (form_tree line form.now) }
+    ensures { (line : ℕ) → result ≡ uses (is_unknown known.now) (form_tree line form.now) }
 {
     match form {
         Form::Declare(_, _, r)
@@ -91,7 +91,7 @@ fn uses_unknown(known: &Known<'_, ExprType>, form: &Form) -> bool
 
 /// Whether a statement sets a name that is not known.
 fn assigns_unknown(known: &Known<'_, ExprType>, form: &Form) -> bool
-    ensures { (line : ℕ) → result ≡ some_passes (is_unknown (scope_of known.now))
+    ensures { (line : ℕ) → result ≡ some_passes (is_unknown known.now)
         (assigned_name (form_tree line form.now)) }
 {
     match form {
@@ -104,9 +104,9 @@ fn assigns_unknown(known: &Known<'_, ExprType>, form: &Form) -> bool
 /// all of them, so it isn't looked at again.
 #[tactic(auto, using(crate::proofs::StatementLemmas::unknown_names, crate::proofs::KnownLemmas::none_unknown))]
 fn names_unknown(known: &Known<'_, ExprType>, form: &Form, misfits: bool) -> bool
-    requires { (returns : ReturnType) × ((line : ℕ) → misfits ≡ breaks_type_rule TypeMisfit (scope_of known.now) []
+    requires { (returns : ReturnType) × ((line : ℕ) → misfits ≡ breaks_type_rule TypeMisfit known.now []
         returns (form_tree line form.now)) }
-    ensures { (line : ℕ) → result ≡ breaks_type_rule UnknownName (scope_of known.now) [] Void
+    ensures { (line : ℕ) → result ≡ breaks_type_rule UnknownName known.now [] Void
         (form_tree line form.now) }
 {
     if !misfits && own_call(form).is_none() {
@@ -140,7 +140,7 @@ fn declares_taken(taken: &Taken<'_>, form: &Form) -> bool
 
 /// Whether a variable of a type may be set to an expression. Of a known name in a local reference another rule speaks.
 fn value_sets(known: &Known<'_, ExprType>, ty: Option<ExprType>, e: ExprRef<'_>) -> bool
-    ensures { result ≡ value_sets (scope_of known.now) ty (ref_tree e.entry) }
+    ensures { result ≡ value_sets known.now ty (ref_tree e.entry) }
 {
     match ty {
         Some(ExprType::Word) => is_word(type_of(known, e)),
@@ -163,7 +163,7 @@ fn right_side_sets(
 ) -> bool
     requires { function
         ≡ function_in (call_of_right_side (Some (right_side_tree right.now))) }
-    ensures { result ≡ right_side_sets (scope_of known.now) ty (right_side_tree right.now) }
+    ensures { result ≡ right_side_sets known.now ty (right_side_tree right.now) }
 {
     match right {
         RightSide::Expr(e) => value_sets(known, ty, e.whole()),
@@ -186,7 +186,7 @@ fn buffer_begins(ty: ExprType, right: &RightSide, function: Option<JniFunction>)
 /// Whether an `if` may test this.
 fn test_fits(known: &Known<'_, ExprType>, test: &Test, function: Option<JniFunction>) -> bool
     requires { function ≡ function_in (call_of_test (test_tree test.now)) }
-    ensures { result ≡ test_fits (scope_of known.now) (test_tree test.now) }
+    ensures { result ≡ test_fits known.now (test_tree test.now) }
 {
     match test {
         Test::Expr(e) => is_truth(type_of(known, e.whole())),
@@ -196,7 +196,7 @@ fn test_fits(known: &Known<'_, ExprType>, test: &Test, function: Option<JniFunct
 
 /// Whether a function may return this.
 fn return_fits(known: &Known<'_, ExprType>, returns: ResultType, e: ExprRef<'_>) -> bool
-    ensures { result ≡ return_fits (scope_of known.now) returns (ref_tree e.entry) }
+    ensures { result ≡ return_fits known.now returns (ref_tree e.entry) }
 {
     match returns {
         ResultType::Void => false,
@@ -212,9 +212,9 @@ fn element_fits(
     index: ExprRef<'_>,
     value: ExprRef<'_>,
 ) -> bool
-    ensures { result ≡ (has_elements (type_in (scope_of known.now) name.now)
-        && is_index (type_of (scope_of known.now) (ref_tree index.entry))
-        && is_jint (type_of (scope_of known.now) (ref_tree value.entry))) }
+    ensures { result ≡ (has_elements (type_in known.now name.now)
+        && is_index (type_of known.now (ref_tree index.entry))
+        && is_jint (type_of known.now (ref_tree value.entry))) }
 {
     has_elements(type_in(known, name))
         && is_index(type_of(known, index))
@@ -229,7 +229,7 @@ pub(crate) fn statement_fits(
     function: Option<JniFunction>,
 ) -> bool
     requires { (line : ℕ) → function ≡ function_in (own_call (form_tree line form.now)) }
-    ensures { (line : ℕ) → result ≡ statement_fits (scope_of known.now) returns
+    ensures { (line : ℕ) → result ≡ statement_fits known.now returns
         (form_tree line form.now) }
 {
     match form {
@@ -254,8 +254,8 @@ pub(crate) fn statement_fits(
 /// Whether the arguments of a statement's call do not fit, or one of them is neither bare nor has a type.
 fn call_misfits(known: &Known<'_, ExprType>, form: &Form, function: Option<JniFunction>) -> bool
     requires { (line : ℕ) → function ≡ function_in (own_call (form_tree line form.now)) }
-    ensures { (line : ℕ) → result ≡ some_passes (λ c. not (list_all (is_formed (scope_of known.now))
-        (call_expressions c)) || not (call_arguments_fit (scope_of known.now) c (function_named c.function)))
+    ensures { (line : ℕ) → result ≡ some_passes (λ c. not (list_all (is_formed known.now)
+        (call_expressions c)) || not (call_arguments_fit known.now c (function_named c.function)))
         (own_call (form_tree line form.now)) }
 {
     match own_call(form) {
@@ -273,7 +273,7 @@ fn misfits(
     function: Option<JniFunction>,
 ) -> bool
     requires { (line : ℕ) → function ≡ function_in (own_call (form_tree line form.now)) }
-    ensures { (line : ℕ) → result ≡ breaks_type_rule TypeMisfit (scope_of known.now) [] returns
+    ensures { (line : ℕ) → result ≡ breaks_type_rule TypeMisfit known.now [] returns
         (form_tree line form.now) }
 {
     !statement_fits(known, returns, form, function) || call_misfits(known, form, function)
@@ -314,7 +314,7 @@ fn has_bad_mode(form: &Form, function: Option<JniFunction>) -> bool
 
 /// Whether a known name is copied into a variable of a type that is a local reference.
 fn copies(known: &Known<'_, ExprType>, ty: Option<ExprType>, right: &RightSide) -> bool
-    ensures { result ≡ copies_reference (scope_of known.now) ty
+    ensures { result ≡ copies_reference known.now ty
         (Some (right_side_tree right.now)) }
 {
     match right {
@@ -325,7 +325,7 @@ fn copies(known: &Known<'_, ExprType>, ty: Option<ExprType>, right: &RightSide) 
 
 /// Whether a statement copies a known name into a local reference.
 fn copies_reference(known: &Known<'_, ExprType>, form: &Form) -> bool
-    ensures { (line : ℕ) → result ≡ breaks_type_rule ReferenceCopied (scope_of known.now) [] Void
+    ensures { (line : ℕ) → result ≡ breaks_type_rule ReferenceCopied known.now [] Void
         (form_tree line form.now) }
 {
     match form {
@@ -337,7 +337,7 @@ fn copies_reference(known: &Known<'_, ExprType>, form: &Form) -> bool
 
 /// Whether a statement writes to a buffer that may not be written.
 fn writes_read_only(known: &Known<'_, ExprType>, form: &Form) -> bool
-    ensures { (line : ℕ) → result ≡ breaks_type_rule ReadOnlyWrite (scope_of known.now) [] Void
+    ensures { (line : ℕ) → result ≡ breaks_type_rule ReadOnlyWrite known.now [] Void
         (form_tree line form.now) }
 {
     match form {
@@ -354,7 +354,7 @@ fn misused(
 ) -> Option<TypeRule>
     requires { (line : ℕ) → function ≡ function_in (own_call (form_tree line form.now)) }
     ensures { (returns : ReturnType) (taken : List Identifier) (line : ℕ) → Judges result line (refused_of returns
-        (scope_of known.now) taken (form_tree line form.now) line (ReferenceCopied ∷ BadMode ∷ ReadOnlyWrite ∷ [])) }
+        known.now taken (form_tree line form.now) line (ReferenceCopied ∷ BadMode ∷ ReadOnlyWrite ∷ [])) }
 {
     if copies_reference(known, form) {
         return Some(TypeRule::ReferenceCopied);
@@ -377,7 +377,7 @@ fn miscalled(
 ) -> Option<TypeRule>
     requires { (line : ℕ) → function ≡ function_in (own_call (form_tree line form.now)) }
     ensures { (returns : ReturnType) (taken : List Identifier) (line : ℕ) → Judges result line (refused_of returns
-        (scope_of known.now) taken (form_tree line form.now) line
+        known.now taken (form_tree line form.now) line
         (UnknownFunction ∷ ArgumentCount ∷ ReferenceCopied ∷ BadMode ∷ ReadOnlyWrite ∷ [])) }
 {
     if calls_unknown(form, function) {
@@ -397,7 +397,7 @@ fn first_broken(
     returns: ResultType,
     form: &Form,
 ) -> Option<TypeRule>
-    ensures { (line : ℕ) → Judges result line (refused_of returns (scope_of known.now) taken.now
+    ensures { (line : ℕ) → Judges result line (refused_of returns known.now taken.now
         (form_tree line form.now) line typing_rules) }
 {
     let function = function_called(form);
@@ -447,7 +447,7 @@ pub(crate) fn check_statement(
     faults: &mut Vec<TypeFault>,
 ) -> Result<(), AllocError>
     ensures { OnOk result (Tells all faults.old.items faults.new.items (told_at (statement_place returns
-        (scope_of known.now) taken.now (stmt_tree stmt.now)))) }
+        known.now taken.now (stmt_tree stmt.now)))) }
 {
     match first_broken(known, taken, returns, &stmt.form) {
         Some(rule) => keep_broken(known, returns, stmt, rule, all, faults),

@@ -10,7 +10,7 @@ use Rattle.syntax.specs.Views.{form_tree, block_tree, stmt_tree, test_tree}
 use Rattle.syntax.proofs.Blocks.{block_is, statements_tree}
 use Rattle.type_rules.specs.TypeRules.{places_of, with_declared}
 use Rattle.types.specs.AllFaults.{told_at}
-use Rattle.types.specs.Faults.{Tells, IsAbove, scope_of, found, statement_place, places_inside}
+use Rattle.types.specs.Faults.{Tells, IsAbove, found, statement_place, places_inside}
 use Rattle.types.proofs.KeptLemmas.{tells-none, tells-next, left-all, left-next, left-none}
 use Rattle.types.proofs.PlaceLemmas.{found-none, found-append}
 use Rattle.types.proofs.BlockLemmas.{found-rest, declared-rest, alone, none-inside, above-none, above-more, forgotten}
@@ -25,7 +25,7 @@ pub check_block-loop-stmt-init : goal.check_block-loop-stmt-init
 check_block-loop-stmt-init t c =
     let block = block_is c.args.block.now ∙ ap (λ items. statements_tree items (out-Block c.args.block.now).end_line) (sym c.deref-stmt-items.ensures.value) in
     record {
-      tells = left-all c.args.all c.args.faults.now.items _ _ (ap (λ b. found (places_of c.args.returns (scope_of c.args.known.now) c.args.taken.now b)) block);
+      tells = left-all c.args.all c.args.faults.now.items _ _ (ap (λ b. found (places_of c.args.returns c.args.known.now c.args.taken.now b)) block);
       taken = ap (λ b. c.args.taken.now ++ names_declared (statements_of b)) block;
       above = above-none c.args.known.now;
     }
@@ -33,7 +33,7 @@ check_block-loop-stmt-init t c =
 pub check_block-loop-stmt-preserved : goal.check_block-loop-stmt-preserved
 check_block-loop-stmt-preserved t c =
     let returned = c.args.returns in
-    let known = scope_of c.loop-stmt.known in
+    let known = c.loop-stmt.known in
     let taken = c.loop-stmt.taken in
     let items = c.deref-stmt-items.result.now in
     let i = c.loop-stmt.stmt-index in
@@ -55,7 +55,7 @@ check_block-loop-stmt-preserved t c =
 pub check_block-returns-clause-tells : goal.check_block-returns-clause-tells
 check_block-returns-clause-tells t c =
     left-none c.args.all c.args.faults.now.items c.loop-stmt.faults.items _ _ c.loop-stmt.invariant.tells
-    (ap (λ items. found (places_of c.args.returns (scope_of c.loop-stmt.known) c.loop-stmt.taken (statements_tree items (out-Block c.args.block.now).end_line)))
+    (ap (λ items. found (places_of c.args.returns c.loop-stmt.known c.loop-stmt.taken (statements_tree items (out-Block c.args.block.now).end_line)))
     (drop_all c.loop-stmt.stmt-index c.deref-stmt-items.result.now c.loop-stmt-test.false)
     ∙ found-none)
 
@@ -86,7 +86,7 @@ check_inside-returns-in_default-clause-tells t c =
     on_ok_weaker c.declare.result
     (λ e line.
     subst (λ broken. Tells c.args.all c.args.faults.now.items c.args.faults.now.items broken)
-    (sym (none-inside c.args.returns (scope_of c.args.known.now) c.args.taken.now line c.args.form.now c.in_default.not-If c.in_default.not-IfElse c.in_default.not-While))
+    (sym (none-inside c.args.returns c.args.known.now c.args.taken.now line c.args.form.now c.in_default.not-If c.in_default.not-IfElse c.in_default.not-While))
     (tells-none c.args.all c.args.faults.now.items))
     c.declare.ensures.above
 
@@ -100,10 +100,10 @@ check_inside-returns-in_ok-check_block-in-IfElse-clause-tells t c =
     let first = c.in_ok-check_block-in-IfElse.ensures in
     on_ok_weaker c.check_block-in-IfElse-2.result
     (λ e line.
-    subst (λ f. Tells all old new (found (places_inside returned (scope_of c.args.known.now) c.args.taken.now (form_tree line f)))) (sym c.in-IfElse.is)
+    subst (λ f. Tells all old new (found (places_inside returned c.args.known.now c.args.taken.now (form_tree line f)))) (sym c.in-IfElse.is)
     (subst (Tells all old new) (sym (found-append _ _))
     (tells-next all old middle new _ _ first.tells
-    (subst (Tells all middle new) (ap₂ (λ k names. found (places_of returned (scope_of k) names (block_tree c.in-IfElse.d))) first.restored first.taken) e))))
+    (subst (Tells all middle new) (ap₂ (λ k names. found (places_of returned k names (block_tree c.in-IfElse.d))) first.restored first.taken) e))))
     c.check_block-in-IfElse-2.ensures.tells
 
 pub check_inside-returns-in_default-clause-scope : goal.check_inside-returns-in_default-clause-scope
@@ -123,13 +123,13 @@ pub check_inside-returns-in-If-clause-tells : goal.check_inside-returns-in-If-cl
 check_inside-returns-in-If-clause-tells t c =
     on_ok_weaker c.check_block.result
     (λ e line.
-    subst (λ f. Tells c.args.all c.args.faults.now.items c.check_block.new.faults.items (found (places_inside c.args.returns (scope_of c.args.known.now) c.args.taken.now (form_tree line f)))) (sym c.in-If.is) e)
+    subst (λ f. Tells c.args.all c.args.faults.now.items c.check_block.new.faults.items (found (places_inside c.args.returns c.args.known.now c.args.taken.now (form_tree line f)))) (sym c.in-If.is) e)
     c.check_block.ensures.tells
 
 pub check_inside-returns-in-If-clause-scope : goal.check_inside-returns-in-If-clause-scope
 check_inside-returns-in-If-clause-scope t c =
     on_ok_weaker c.check_block.result
-    (λ (e : c.check_block.new.known ≡ c.args.known.now) line. ap scope_of e ∙ ap (λ f. with_declared (scope_of c.args.known.now) (form_tree line f)) (sym c.in-If.is))
+    (λ (e : c.check_block.new.known ≡ c.args.known.now) line. e ∙ ap (λ f. with_declared c.args.known.now (form_tree line f)) (sym c.in-If.is))
     c.check_block.ensures.restored
 
 pub check_inside-returns-in-If-clause-above : goal.check_inside-returns-in-If-clause-above
@@ -149,13 +149,13 @@ pub check_inside-returns-in-While-clause-tells : goal.check_inside-returns-in-Wh
 check_inside-returns-in-While-clause-tells t c =
     on_ok_weaker c.check_block-in-While.result
     (λ e line.
-    subst (λ f. Tells c.args.all c.args.faults.now.items c.check_block-in-While.new.faults.items (found (places_inside c.args.returns (scope_of c.args.known.now) c.args.taken.now (form_tree line f)))) (sym c.in-While.is) e)
+    subst (λ f. Tells c.args.all c.args.faults.now.items c.check_block-in-While.new.faults.items (found (places_inside c.args.returns c.args.known.now c.args.taken.now (form_tree line f)))) (sym c.in-While.is) e)
     c.check_block-in-While.ensures.tells
 
 pub check_inside-returns-in-While-clause-scope : goal.check_inside-returns-in-While-clause-scope
 check_inside-returns-in-While-clause-scope t c =
     on_ok_weaker c.check_block-in-While.result
-    (λ (e : c.check_block-in-While.new.known ≡ c.args.known.now) line. ap scope_of e ∙ ap (λ f. with_declared (scope_of c.args.known.now) (form_tree line f)) (sym c.in-While.is))
+    (λ (e : c.check_block-in-While.new.known ≡ c.args.known.now) line. e ∙ ap (λ f. with_declared c.args.known.now (form_tree line f)) (sym c.in-While.is))
     c.check_block-in-While.ensures.restored
 
 pub check_inside-returns-in-While-clause-above : goal.check_inside-returns-in-While-clause-above

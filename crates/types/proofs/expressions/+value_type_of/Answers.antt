@@ -3,14 +3,13 @@ use Rattle.std.specs.Option.{is_some}
 use Rattle.syntax.specs.Parts.{null_tested}
 use Rattle.syntax.specs.Shapes.{ref_tree}
 use Rattle.type_rules.specs.ExprTypes.{type_of, binary_type, group, null_test_type}
-use Rattle.types.specs.Faults.{scope_of}
 use Rattle.types.specs.ValueTypes.{of_value}
 use Rattle.types.proofs.TypeLemmas.{not-null, binary-of_value}
 use Rattle.types.proofs.expressions.+value_type_of.Goals as goal
 
 pub returns-else-is_null_test : goal.returns-else-is_null_test
 returns-else-is_null_test t c =
-    let scope = scope_of c.args.known.now in
+    let scope = c.args.known.now in
     let op = c.in-Binary.op in
     let left = ref_tree c.in-Binary.left in
     let right = ref_tree c.in-Binary.right in

@@ -4,7 +4,7 @@ use Rattle.type_rules.specs.declared.ty.ExprType.{ExprType}
 use Rattle.std.proofs.lemmas.Result.{on_ok_weaker}
 use Rattle.base.specs.Bytes.{ByName}
 use Rattle.type_rules.specs.TypeRules.{places_of}
-use Rattle.types.specs.Faults.{Tells, scope_of, found, head_faults}
+use Rattle.types.specs.Faults.{Tells, found, head_faults}
 use Rattle.types.proofs.BlockLemmas.{forgotten}
 use Rattle.types.proofs.ItemLemmas.{found-function}
 use Rattle.types.proofs.items.check_function.Goals as goal
@@ -16,8 +16,8 @@ returns-clause-tells c =
     on_ok_weaker c.check_body-checked.result
     (λ e.
     subst (Tells c.args.all c.args.faults.now.items c.check_body-checked.new.faults.items)
-    (ap (λ names. take 1 (head_faults c.args.names.now names f) ++ found (places_of f.result (scope_of known) names (block_tree f.body))) (c.deref.ensures.value ∙ c.in_ok-entry.ensures)
-    ∙ sym (found-function c.args.names.now (scope_of c.args.known.now) f known c.in_ok-enter.ensures.scope))
+    (ap (λ names. take 1 (head_faults c.args.names.now names f) ++ found (places_of f.result known names (block_tree f.body))) (c.deref.ensures.value ∙ c.in_ok-entry.ensures)
+    ∙ sym (found-function c.args.names.now c.args.known.now f known c.in_ok-enter.ensures.scope))
     e)
     c.check_body-checked.ensures.tells
 

@@ -1,14 +1,14 @@
 use Rattle.std.proofs.Common.{sym, ap, subst, ◌∙◌}
 use Rattle.std.proofs.lemmas.Result.{on_ok_weaker}
 use Rattle.syntax.specs.Views.{item_tree}
-use Rattle.types.specs.Faults.{Tells, found, scope_of, own_places}
+use Rattle.types.specs.Faults.{Tells, found, own_places}
 use Rattle.types.proofs.ItemLemmas.{found-static}
 use Rattle.types.proofs.items.check_item.Goals as goal
 
 pub returns-in-Static-clause-tells : goal.returns-in-Static-clause-tells
 returns-in-Static-clause-tells c =
     let names = c.args.names.now.items in
-    let statics = scope_of c.args.statics.now in
+    let statics = c.args.statics.now in
     on_ok_weaker c.check_static.result
     (λ e.
     subst (Tells c.args.all c.args.faults.now.items c.check_static.new.faults.items)

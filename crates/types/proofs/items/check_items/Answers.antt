@@ -2,7 +2,7 @@ use Rattle.std.proofs.Common.{◌+◌, ◌++◌, map, drop, sym, ap, ap₂, ◌�
 use Rattle.std.proofs.lemmas.List.{drop_all}
 use Rattle.syntax.specs.Views.{item_tree}
 use Rattle.type_rules.specs.TypeRules.{item_places}
-use Rattle.types.specs.Faults.{found, scope_of, own_places}
+use Rattle.types.specs.Faults.{found, own_places}
 use Rattle.types.proofs.KeptLemmas.{left-next, left-none}
 use Rattle.types.proofs.PlaceLemmas.{found-none}
 use Rattle.types.proofs.ItemLemmas.{found-item}
@@ -14,7 +14,7 @@ loop-item-preserved c =
     let item = c.item-item.result in
     let rest = map item_tree (drop (i + 1) c.args.items.now) in
     let names = c.loop-item.names.items in
-    let statics = scope_of c.loop-item.statics in
+    let statics = c.loop-item.statics in
     left-next c.args.all c.args.faults.now.items c.loop-item.faults.items c.check_item.new.faults.items _ _ _ _ c.loop-item.invariant
     (found-item names statics c.args.items.now i item c.loop-item-test.true c.item-item.is
     ∙ ap₂ (λ all shared. found (own_places names statics (item_tree item)) ++ found (item_places all shared rest)) (sym c.in_ok-check_item.ensures.names) (sym c.in_ok-check_item.ensures.statics))
@@ -23,5 +23,5 @@ loop-item-preserved c =
 pub returns : goal.returns
 returns c =
     left-none c.args.all c.args.faults.now.items c.loop-item.faults.items _ _ c.loop-item.invariant
-    (ap (λ items. found (item_places c.loop-item.names.items (scope_of c.loop-item.statics) (map item_tree items))) (drop_all c.loop-item.item-index c.args.items.now c.loop-item-test.false)
+    (ap (λ items. found (item_places c.loop-item.names.items c.loop-item.statics (map item_tree items))) (drop_all c.loop-item.item-index c.args.items.now c.loop-item-test.false)
     ∙ found-none)

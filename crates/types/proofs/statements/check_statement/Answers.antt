@@ -2,7 +2,7 @@ use Rattle.std.proofs.Common.{OnOk, take, subst, sym, ap, ◌∙◌}
 use Rattle.syntax.specs.Views.{stmt_tree}
 use Rattle.syntax.proofs.StatementLines.{line_is}
 use Rattle.type_rules.specs.TypeRules.{typing_rules}
-use Rattle.types.specs.Faults.{Tells, scope_of, refused_of}
+use Rattle.types.specs.Faults.{Tells, refused_of}
 use Rattle.types.proofs.StatementLemmas.{statement-faults}
 use Rattle.types.proofs.KeptLemmas.{tells-none}
 use Rattle.types.proofs.JudgedLemmas.{judged-none}
@@ -11,7 +11,7 @@ use Rattle.types.proofs.statements.check_statement.Goals as goal
 pub returns-in-Some : goal.returns-in-Some
 returns-in-Some c =
     let returned = c.args.returns in
-    let known = scope_of c.args.known.now in
+    let known = c.args.known.now in
     let taken = c.args.taken.now in
     let s = stmt_tree c.args.stmt.now in
     subst (λ broken. OnOk c.keep_broken.result (Tells c.args.all c.args.faults.now.items c.keep_broken.new.faults.items (take 1 broken)))
@@ -21,7 +21,7 @@ returns-in-Some c =
 pub returns-in-None : goal.returns-in-None
 returns-in-None c =
     let returned = c.args.returns in
-    let known = scope_of c.args.known.now in
+    let known = c.args.known.now in
     let taken = c.args.taken.now in
     let s = stmt_tree c.args.stmt.now in
     let line = c.args.stmt.now.line in
