@@ -120,13 +120,13 @@ module _ (p : Lowered) (w : World) (store : Store) (pending : Option ℕ) (local
         subst (λ (e : CallEffect). Carries (answer.AcquiresCopy a) kind e (record store { elements = elements }) (given.Buffer held.Null)) (sym (copy_is false (lt-leb (lengths store.elements + length numbers) 65536 over)))
         (subst (λ (l : List (Option OwnedNumbers)). Carries (answer.AcquiresCopy a) kind (gives_copy false) (record store { elements = l }) (given.Buffer held.Null)) (sym same)
         (effected (answer.AcquiresCopy a) kind store (given.Buffer held.Null) shared s (BufferResult NoBuffer) refl refl refl (keeps_same store.heap shared)
-        (agrees_same p w store shared all h.store_agrees (beside others (beside (acquired_by s) nothing_acquired)) (beside_nothing others (acquired_by s))) (buffer, tt)))
+        (agrees_same p w store shared all h.store_agrees (beside others (beside (acquired_by s) nothing_acquired)) (beside_nothing others (acquired_by s))) (buffer, in_slot.null)))
     copied (held.Copy key) elements (within, gains, more) =
         let next : Acquired = beside others (beside (acquired_by s) (acquired_of (Copy it.name numbers))) in
         subst (λ (e : CallEffect). Carries (answer.AcquiresCopy a) kind e (record store { elements = elements }) (given.Buffer (held.Copy key))) (sym (copy_is true (le-leb (lengths store.elements + length numbers) 65536 within)))
         (effected (answer.AcquiresCopy a) kind (record store { elements = elements }) (given.Buffer (held.Copy key)) shared s (BufferResult (Copy it.name numbers)) refl refl refl (keeps_same store.heap shared)
         (agrees_copies p w store shared all h.store_agrees next elements
-        (taken_copy store.heap store.elements elements store.views (length shared.heap) owner it.name numbers all next (beside_more others (acquired_by s) (Copy it.name numbers)) more h.store_agrees.buffers)) (buffer, gains.has))
+        (taken_copy store.heap store.elements elements store.views (length shared.heap) owner it.name numbers all next (beside_more others (acquired_by s) (Copy it.name numbers)) more h.store_agrees.buffers)) (buffer, in_slot.copy gains.has))
     copied (held.View x) elements made = absurd made
 
   pub acquires_copy : (a : ℕ) {kind : ResultKind} {of_source : SourceAnswer} → Does (answer.AcquiresCopy a) kind of_source → brought.in_use ≡ in_use_of all
@@ -152,7 +152,7 @@ module _ (p : Lowered) (w : World) (store : Store) (pending : Option ℕ) (local
         subst (λ (e : CallEffect). Carries (answer.AcquiresView a) kind e (record store { heap = space; views = views }) (given.Buffer held.Null)) (sym (view_is false (le-ltb store.views 64 over)))
         (subst (λ (x : Store). Carries (answer.AcquiresView a) kind (gives_view false) x (given.Buffer held.Null)) (sym same_store)
         (effected (answer.AcquiresView a) kind store (given.Buffer held.Null) shared s (BufferResult NoBuffer) refl refl refl (keeps_same store.heap shared)
-        (agrees_same p w store shared all h.store_agrees (beside others (beside (acquired_by s) nothing_acquired)) (beside_nothing others (acquired_by s))) (buffer, tt)))
+        (agrees_same p w store shared all h.store_agrees (beside others (beside (acquired_by s) nothing_acquired)) (beside_nothing others (acquired_by s))) (buffer, in_slot.null)))
     viewed (held.Copy key) space views made = absurd made
     viewed (held.View x) space views (below, here, pinned, more) =
         let count = pins_at store.heap a + 1 in
@@ -165,7 +165,7 @@ module _ (p : Lowered) (w : World) (store : Store) (pending : Option ℕ) (local
         (effected (answer.AcquiresView a) kind after (given.Buffer (held.View x)) shared s (BufferResult (View n)) refl refl refl (keeps_pinned p w store shared all h.store_agrees a count)
         (agrees_pinned p w store shared all h.store_agrees next a count (store.views + 1)
         (taken_view store.heap store.elements store.views (length shared.heap) a n all next (beside_more others (acquired_by s) (View n)) h.store_agrees.heap.unique there within.1 h.store_agrees.buffers))
-        (buffer, subst (λ (y : ℕ). name_at (with_pins store.heap a count) y ≡ Some n) (sym here) (names_pinned store.heap a count a n there))))
+        (buffer, in_slot.view (subst (λ (y : ℕ). name_at (with_pins store.heap a count) y ≡ Some n) (sym here) (names_pinned store.heap a count a n there)))))
 
   pub acquires_view : (a : ℕ) {kind : ResultKind} {of_source : SourceAnswer} → Does (answer.AcquiresView a) kind of_source → brought.in_use ≡ in_use_of all
       → (b : Buffer) (space : Space) (views : ℕ) → MakesView a store.heap store.views b space views → Carries (answer.AcquiresView a) kind (of of_source) (record store { heap = space; views = views }) (given.Buffer b)

@@ -61,7 +61,7 @@ module _ (space after : Space) (copies left : List (Option OwnedNumbers)) (k : �
   all_but [] [] i kept h = h
   all_but [] (c ∷ buffers) i kept h = absurd h
   all_but (b ∷ slots) [] i kept h = absurd h
-  all_but (b ∷ slots) (c ∷ buffers) zero kept h = (tt, all_stay slots buffers (λ j key l at. kept (suc j) key l (λ e. cc) at) h.1)
+  all_but (b ∷ slots) (c ∷ buffers) zero kept h = (in_slot.null, all_stay slots buffers (λ j key l at. kept (suc j) key l (λ e. cc) at) h.1)
   all_but (b ∷ slots) (c ∷ buffers) (suc i) kept h = (
     buffer_stays (λ key l is. kept 0 key l (λ e. cc) (ap (λ (y : Buffer). Some y) is)) h.0,
     all_but slots buffers i (λ j key l other at. kept (suc j) key l (λ e. other cc) at) h.1,
@@ -139,6 +139,7 @@ pub keeps_others : {classes : Classes} {brought : Brought} {space : Space} {loca
     → CopiesStay a brought.buffers.copies left → KeepsCopies brought.buffers.owner brought.buffers.copies left
 keeps_others {brought = brought} {space = space} left (row.releases it) stay key c has other =
     stay key c has (λ up is.
-    let own = copy_there space brought.buffers.copies brought.buffers.owner it.holds.held it.holds.buffer key (sym it.held ∙ is) it.holds.agrees in
+    let agrees = subst (λ (y : Buffer). BufferAgrees space brought.buffers.copies brought.buffers.owner y it.holds.buffer) (sym it.held ∙ is) it.holds.agrees in
+    let own = copy_there agrees in
     other (let both : Some c ≡ Some own.0 = sym has ∙ own.1 in let same : c ≡ own.0 = cc in ap (λ (l : OwnedNumbers). l.owner) same ∙ own.2))
 keeps_others left does stay key c has other = stay key c has tt
