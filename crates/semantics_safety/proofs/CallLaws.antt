@@ -1,5 +1,5 @@
 -- The step of each call of the JNI keeps what holds of its thread, and so does each step within a call.
-use Rattle.std.proofs.Common.{◌≡◌, refl, ℕ, Bool, true, false, List, ◌∷◌, Some, sym, subst, length}
+use Rattle.std.proofs.Common.{◌≡◌, refl, ℕ, Bool, true, false, List, ◌∷◌, Some, sym, subst}
 use Rattle.class_rules.specs.Class.{Classes}
 use Rattle.syntax.specs.Tree.{SourceUnit}
 use Rattle.jni.specs.declared.function.JniFunction.{JniFunction}
@@ -7,14 +7,13 @@ use Rattle.jni.specs.declared.function.JniFunction.TheVariants.{DeleteLocalRef, 
 use Rattle.jni.specs.JniFunction.{calls_method}
 use Rattle.semantics.specs.Arguments.{Actual, actuals}
 use Rattle.semantics.specs.CallEffects.{CallResult}
-use Rattle.semantics.specs.CallStep.{call_step}
 use Rattle.semantics.specs.Effect.{Effect, Becomes, Sets, SetsNull, SetsElement, MakesArray, Prints, Calls, Returns, TrapsAt, NoEffect, effect_of}
 use Rattle.semantics.specs.Task.{Task, Target, Operand, Invoke}
 use Rattle.semantics.specs.Thread.{Thread, Shared, BuffersInUse, sight_of}
 use Rattle.semantics.specs.ThreadStep.{after_effect, step_within}
 use Rattle.semantics.proofs.AnswerKinds.{CallKind, EndsStatic, FillsArray, Quiet, call_kind}
-use Rattle.semantics_safety.proofs.OwnerLaws.{LandsBy, plain_by}
-use Rattle.semantics_safety.specs.Owners.{Owners}
+use Rattle.semantics_safety.proofs.OwnerLaws.{CallLands}
+use Rattle.semantics_safety.specs.Owners.{Owners, after_effect as owners_after}
 use Rattle.semantics_safety.specs.Points.{Point}
 use Rattle.semantics_safety.specs.Stands.{Goes, Stands}
 use Rattle.semantics_safety.specs.Wanted.{Runs, GoesOn}
@@ -28,26 +27,26 @@ use Rattle.semantics_safety.proofs.NullLaws.{null_lands}
 use Rattle.semantics_safety.proofs.QuietLaws.{IsPlain}
 use Rattle.semantics_safety.proofs.QuietSteps.{call_lands}
 use Rattle.semantics_safety.proofs.ReleaseCalls.{release_lands}
-use Rattle.semantics_safety.proofs.StepLaws.{plain_lands}
+use Rattle.semantics_safety.proofs.StepLaws.{LandsBy, plain_lands}
 
 module _ (unit : SourceUnit) (classes : Classes) (in_use : BuffersInUse) (k : ℕ) (s : Shared) (t : Thread) (line : ℕ) (rest : List Task) (p : Point) {weak : WeakNames} {own : Owners} (stands : Stands weak own s.statics t.variables t.frames p) (whole : Goes weak own s.statics t t.tasks) where
   -- the step of a call of a plain function
-  plain_function_lands : (f : JniFunction) (kind : CallKind) → call_kind f ≡ kind → IsPlain kind → (target : Target) (operands : List Operand) (args : List Actual) → args ≡ actuals (sight_of s t) f operands → Runs (Invoke line target f operands) (GoesOn rest) p → LandsBy weak (Calls line target f args) (length t.frames) own s.statics (call_step unit classes in_use k s t line target f args rest false)
+  plain_function_lands : (f : JniFunction) (kind : CallKind) → call_kind f ≡ kind → IsPlain kind → (target : Target) (operands : List Operand) (args : List Actual) → args ≡ actuals (sight_of s t) f operands → Runs (Invoke line target f operands) (GoesOn rest) p → CallLands unit classes in_use k s t line rest weak own target f args
   plain_function_lands f Quiet of plain target operands args is runs = call_lands unit classes in_use k s t line f args rest p stands (subst IsPlain (sym of) tt) whole of target operands runs
   plain_function_lands f EndsStatic of plain target operands args is runs = static_call_lands unit classes in_use k s t line rest p stands whole f target operands args of runs
   plain_function_lands f FillsArray of plain target operands args is runs = region_call_lands unit classes in_use k s t line rest p stands whole f target operands args is of runs
   plain_function_lands f kind of plain target operands args is runs = absurd plain
 
   -- the step of a call, by its function
-  pub each_call_lands : (f : JniFunction) (target : Target) (operands : List Operand) (args : List Actual) → args ≡ actuals (sight_of s t) f operands → calls_method f ≡ false → Runs (Invoke line target f operands) (GoesOn rest) p → LandsBy weak (Calls line target f args) (length t.frames) own s.statics (call_step unit classes in_use k s t line target f args rest false)
+  pub each_call_lands : (f : JniFunction) (target : Target) (operands : List Operand) (args : List Actual) → args ≡ actuals (sight_of s t) f operands → calls_method f ≡ false → Runs (Invoke line target f operands) (GoesOn rest) p → CallLands unit classes in_use k s t line rest weak own target f args
   each_call_lands DeleteLocalRef target operands args is plain runs =
-      subst (λ (l : List Actual). LandsBy weak (Calls line target DeleteLocalRef l) (length t.frames) own s.statics (call_step unit classes in_use k s t line target DeleteLocalRef l rest false)) (sym is) (delete_lands unit classes in_use k s t line rest p stands whole target operands runs)
+      subst (λ (l : List Actual). CallLands unit classes in_use k s t line rest weak own target DeleteLocalRef l) (sym is) (delete_lands unit classes in_use k s t line rest p stands whole target operands runs)
   each_call_lands PushLocalFrame target operands args is plain runs = push_lands unit classes in_use k s t line rest p stands whole target operands args runs
   each_call_lands PopLocalFrame target operands args is plain runs = pop_lands unit classes in_use k s t line rest p stands whole target operands args runs
   each_call_lands (GetBuffer access) target operands args is plain runs =
-      subst (λ (l : List Actual). LandsBy weak (Calls line target (GetBuffer access) l) (length t.frames) own s.statics (call_step unit classes in_use k s t line target (GetBuffer access) l rest false)) (sym is) (get_lands unit classes in_use k s t line rest p stands whole access target operands runs)
+      subst (λ (l : List Actual). CallLands unit classes in_use k s t line rest weak own target (GetBuffer access) l) (sym is) (get_lands unit classes in_use k s t line rest p stands whole access target operands runs)
   each_call_lands (ReleaseBuffer access) target operands args is plain runs =
-      subst (λ (l : List Actual). LandsBy weak (Calls line target (ReleaseBuffer access) l) (length t.frames) own s.statics (call_step unit classes in_use k s t line target (ReleaseBuffer access) l rest false)) (sym is) (release_lands unit classes in_use k s t line rest p stands whole access target operands runs)
+      subst (λ (l : List Actual). CallLands unit classes in_use k s t line rest weak own target (ReleaseBuffer access) l) (sym is) (release_lands unit classes in_use k s t line rest p stands whole access target operands runs)
   each_call_lands CallStaticVoidMethod target operands args is plain runs = absurd (cc)
   each_call_lands CallStaticIntMethod target operands args is plain runs = absurd (cc)
   each_call_lands CallStaticObjectMethod target operands args is plain runs = absurd (cc)
@@ -87,18 +86,13 @@ path_of (TrapsAt trap line) = Within tt
 path_of NoEffect = Within tt
 
 module _ (unit : SourceUnit) (classes : Classes) (in_use : BuffersInUse) (k : ℕ) (s : Shared) (t : Thread) (task : Task) (rest : List Task) (p : Point) {weak : WeakNames} {own : Owners} (stands : Stands weak own s.statics t.variables t.frames p) (runs : Runs task (GoesOn rest) p) (whole : Goes weak own s.statics t t.tasks) where
-  each_lands : (e : Effect) → IsWithin e → Follows weak own (sight_of s t) s.statics t.variables t.frames p rest e → LandsBy weak e (length t.frames) own s.statics (after_effect unit classes in_use k s t rest e)
+  each_lands : (e : Effect) → IsWithin e → Follows weak own (sight_of s t) s.statics t.variables t.frames p rest e → LandsBy weak (owners_after unit classes k s t e own) s.statics (after_effect unit classes in_use k s t rest e)
   each_lands (Calls line target f args) away (operands, is, ready, r) = each_call_lands unit classes in_use k s t line rest p stands whole f target operands args is away r
-  each_lands (SetsNull target) away h = plain_by weak (SetsNull target) tt (length t.frames) own s.statics (after_effect unit classes in_use k s t rest (SetsNull target)) (null_lands unit classes in_use k s t rest p stands target h)
-  each_lands (Becomes tasks) away h = plain_by weak (Becomes tasks) tt (length t.frames) own s.statics (after_effect unit classes in_use k s t rest (Becomes tasks)) (plain_lands unit classes in_use k s t rest p stands (sight_of s t) (Becomes tasks) tt whole h)
-  each_lands (Sets x v) away h = plain_by weak (Sets x v) tt (length t.frames) own s.statics (after_effect unit classes in_use k s t rest (Sets x v)) (plain_lands unit classes in_use k s t rest p stands (sight_of s t) (Sets x v) tt whole h)
-  each_lands (SetsElement x i z) away h = plain_by weak (SetsElement x i z) tt (length t.frames) own s.statics (after_effect unit classes in_use k s t rest (SetsElement x i z)) (plain_lands unit classes in_use k s t rest p stands (sight_of s t) (SetsElement x i z) tt whole h)
-  each_lands (MakesArray u x size) away h = plain_by weak (MakesArray u x size) tt (length t.frames) own s.statics (after_effect unit classes in_use k s t rest (MakesArray u x size)) (plain_lands unit classes in_use k s t rest p stands (sight_of s t) (MakesArray u x size) tt whole h)
-  each_lands (Prints z) away h = plain_by weak (Prints z) tt (length t.frames) own s.statics (after_effect unit classes in_use k s t rest (Prints z)) (plain_lands unit classes in_use k s t rest p stands (sight_of s t) (Prints z) tt whole h)
+  each_lands (SetsNull target) away h = null_lands unit classes in_use k s t rest p stands target h
   each_lands (Returns given) away h = absurd away
-  each_lands (TrapsAt trap line) away h = plain_by weak (TrapsAt trap line) tt (length t.frames) own s.statics (after_effect unit classes in_use k s t rest (TrapsAt trap line)) (plain_lands unit classes in_use k s t rest p stands (sight_of s t) (TrapsAt trap line) tt whole h)
   each_lands NoEffect away h = absurd h
+  each_lands e away h = plain_lands unit classes in_use k s t rest p stands (sight_of s t) e tt whole h
 
   -- each step within a call but a return, unmarked, leads to a point again, and is possible
-  pub each_step_lands : IsWithin (effect_of (sight_of s t) task) → LandsBy weak (effect_of (sight_of s t) task) (length t.frames) own s.statics (step_within unit classes in_use k s t false (Some (task ∷ rest)))
+  pub each_step_lands : IsWithin (effect_of (sight_of s t) task) → LandsBy weak (owners_after unit classes k s t (effect_of (sight_of s t) task) own) s.statics (step_within unit classes in_use k s t false (Some (task ∷ rest)))
   each_step_lands away = each_lands (effect_of (sight_of s t) task) away (effect_follows s.heap s.statics t.variables t.frames p stands rest task runs)

@@ -16,7 +16,7 @@ use Rattle.syntax.specs.declared.expr.Constant.TheVariants.{True, False, Null}
 use Rattle.syntax.specs.Tree.{Expr, Number, Named, Variable, Element, Prefix, Binary, Paren}
 use Rattle.type_rules.specs.declared.ty.ExprType.{ExprType}
 use Rattle.type_rules.specs.declared.ty.ExprType.TheVariants.{Word, Jint, Flag, Truth, Ref, Global, Buffer, Array}
-use Rattle.type_rules.specs.ExprTypes.{OperatorGroup, Logic, Equality, Order, OnWords, group, binary_type, prefix_type, is_castable, is_index, has_elements, is_nullable, constant_type, null_test_type, type_in, type_of}
+use Rattle.type_rules.specs.ExprTypes.{OperatorGroup, Logic, Equality, group, binary_type, prefix_type, is_castable, is_index, has_elements, is_nullable, constant_type, null_test_type, type_in, type_of}
 use Rattle.type_rules.specs.declared.ty.ExprType.TheVariants as types
 use Rattle.type_rules.specs.TypeGroups.{IsNumberType, OperatorFits}
 use Rattle.type_rules.proofs.TypeCases.{IsValueType, given, castable, indexed, operands, number_is_value, index_is_value, null_cases, none_right, or_none}

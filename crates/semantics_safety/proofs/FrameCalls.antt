@@ -14,12 +14,13 @@ use Rattle.jni.specs.declared.kinds.ResultKind.{ResultKind}
 use Rattle.jni.specs.declared.kinds.ResultKind.TheVariants.{NewLocal, GivesInt, GivesNothing}
 use Rattle.region_rules.specs.RegionStates as states
 use Rattle.region_rules.specs.RegionStates.{ReferenceAt, state_of, with_changed, killed, after_pop, get_of}
-use Rattle.semantics.specs.Answer.{Answer, effect_of}
+use Rattle.semantics.specs.Answer as answer
+use Rattle.semantics.specs.Answer.{Answer, effect_of, Pushes, DeletesLocal, Pops, RefusesFrames}
 use Rattle.semantics.specs.Arguments.{Actual, ReferenceActual, actuals, reference_in_actual, reference_given, variable_given, address_given}
-use Rattle.semantics.specs.CallEffects.{ScalarResult, ReferenceResult, NoResult, CallEffect, Leaves, level_of, without_local}
+use Rattle.semantics.specs.CallEffects.{ScalarResult, ReferenceResult, NoResult, CallEffect, Leaves, level_of, without_local, refuses_frames}
 use Rattle.semantics.specs.AnswerTable.{call_effect}
 use Rattle.semantics.specs.CallSight.{sight_of_call}
-use Rattle.semantics.specs.CallStep.{trap_of_call, target_element, checked, after_call, call_step, is_zero, completed, received, tell_copy}
+use Rattle.semantics.specs.CallStep.{trap_of_call, target_element, checked, is_zero, received, tell_copy}
 use Rattle.semantics.specs.Object.{Reference}
 use Rattle.semantics.specs.Sight.{held_reference}
 use Rattle.semantics.specs.Task.{Task, Target, Declared, Assigned, Tested, Dropped, Operand, Given, Invoke, Branch}
@@ -28,22 +29,23 @@ use Rattle.semantics.specs.Thread.{Frame, Thread, Shared, BuffersInUse, capaciti
 use Rattle.semantics.specs.declared.trap.Trap.{Trap}
 use Rattle.semantics.specs.Value.{Int, Truth}
 use Rattle.semantics.specs.Variable.{Variable, LocalRef, Variables}
-use Rattle.semantics.specs.Effect.{Calls, tasks_after}
+use Rattle.semantics.specs.Effect.{tasks_after}
 use Rattle.std.specs.Str.{bytes_eq}
 use Rattle.semantics.proofs.AnswerKinds.{AnswersAs, EndingLocal, EndingNoLocal, EndsLocal, Halting, PopsFrame, Popping, Pushing, PushingNone, PushesFrame, answers_as}
-use Rattle.semantics_safety.proofs.OwnerLaws.{LandsBy, quiet_by, stands_with}
-use Rattle.semantics_safety.specs.Owners.{Owners, left_by, other_than}
+use Rattle.semantics_safety.proofs.OwnerLaws.{quiet_by, stands_with, AnswerLands, CallLands}
+use Rattle.semantics_safety.specs.Owners.{Owners, after_answer, left_by, other_than, answer_to}
 use Rattle.semantics_safety.specs.Points.{Point, OperandsFit, owners}
 use Rattle.semantics_safety.specs.StepSafe.{references_at}
-use Rattle.semantics_safety.specs.Stands.{copies, Goes, Stands}
+use Rattle.semantics_safety.specs.Stands.{copies, Goes, Stands, IsOwned}
 use Rattle.semantics_safety.specs.Wanted.{Outside, Runs, RunsBlock, ResultGoes, GoesOn, IsTrueNow, IsFalseNow, call_seen, at}
 use Rattle.semantics_safety.specs.WeakNames.{WeakNames}
 use Rattle.semantics_safety.proofs.FrameLaws.{HasFrame, one_if, level_there, no_references, copies_deleted, deleted_length}
-use Rattle.semantics_safety.proofs.KilledLaws.{fewer, killed_owners, stands_killed, killed_owned}
+use Rattle.semantics_safety.proofs.KilledLaws.{fewer, killed_owners, stands_killed, killed_owned, killed_live}
 use Rattle.semantics_safety.proofs.PoppedLaws.{stands_popped, stands_pushed, popped_owned}
 use Rattle.semantics_safety.proofs.QuietLaws.{Gives, Plainly, ALocal, IsNoTest, told, given_lands}
 use Rattle.semantics_safety.proofs.QuietSteps.{has_frame, has_room}
 use Rattle.semantics_safety.proofs.ResultLaws.{AnInt, NullLocal, NoResultThere}
+use Rattle.semantics_safety.proofs.PointLaws.{owned_changed}
 
 module _ (unit : SourceUnit) (classes : Classes) (in_use : BuffersInUse) (k : ℕ) (s : Shared) (t : Thread) (line : ℕ) (rest : List Task) (p : Point) {weak : WeakNames} {own : Owners} (stands : Stands weak own s.statics t.variables t.frames p) (whole : Goes weak own s.statics t t.tasks) where
   -- ---- a reference is deleted
@@ -60,39 +62,32 @@ module _ (unit : SourceUnit) (classes : Classes) (in_use : BuffersInUse) (k : �
         absurd (omega (arith, owned, one, enough, none))
   ]
 
-  -- the owners without this one
-  abbrev without_own : Identifier → Owners
-  without_own x y = if bytes_eq y x then None else own y
-
-  left_deleted : (x : Identifier) (args : List Actual) → x ≡ variable_given args 0 → (y : Identifier) → without_own x y ≡ left_by DeleteLocalRef args (length t.frames) own y
-  left_deleted x args is y = ap (λ (z : Identifier). if bytes_eq y z then None else own y) is
-
   module _ (x : Identifier) (level : ℕ) (r : Reference) (target : Target) (args : List Actual) (get : Option (Access × Option Identifier)) (away : IsNoTest target) (e : state_of p.regions x ≡ Some (ReferenceAt level true)) (h : lookup x t.variables ≡ Some (LocalRef level r))
       (goes : ResultGoes target GivesNothing get (GoesOn rest) (at p (with_changed p.regions x killed))) (is : x ≡ variable_given args 0) (given : reference_given args 0 ≡ r) where
-    -- where these frames are left
-    left_with : (frames : List Frame) → length frames ≡ length t.frames → ((l m : ℕ) → owners (with_changed p.regions x killed) t.variables l m ≤ copies (references_at l frames) m)
-        → LandsBy weak (Calls line target DeleteLocalRef args) (length t.frames) own s.statics (after_call unit classes in_use k s t line target DeleteLocalRef args rest (Leaves [] s (record t { frames = frames }) NoResult))
-    left_with frames same enough =
-        given_lands unit classes in_use k s t line target DeleteLocalRef args rest (at p (with_changed p.regions x killed)) own (left_deleted x args is) GivesNothing [] s (record t { frames = frames }) NoResult get refl away (λ c. absurd (cc))
-        (stands_with (without_own x) s.statics t.variables frames (at p (with_changed p.regions x killed))
-        (stands_killed s.statics t.variables t.frames p stands x frames same enough) (killed_owned s.statics t.variables t.frames p stands x))
+    -- where these frames and owners are left
+    left_with : (a : Answer) (now : Owners) → ((y : Identifier) → now y ≡ left_by a args (length t.frames) own y) → (frames : List Frame) → length frames ≡ length t.frames → ((l m : ℕ) → owners (with_changed p.regions x killed) t.variables l m ≤ copies (references_at l frames) m)
+        → IsOwned now t.variables (at p (with_changed p.regions x killed)) → AnswerLands unit classes in_use k s t line rest weak own target DeleteLocalRef args a (Leaves [] s (record t { frames = frames }) NoResult)
+    left_with a now left frames same enough owned =
+        given_lands unit classes in_use k s t line target DeleteLocalRef args rest (at p (with_changed p.regions x killed)) own a left GivesNothing [] s (record t { frames = frames }) NoResult get refl away (λ c. absurd (cc))
+        (stands_with now s.statics t.variables frames (at p (with_changed p.regions x killed)) (stands_killed s.statics t.variables t.frames p stands x frames same enough) owned)
         (Plainly NoResultThere) goes
 
     level_is : level_of (lookup (variable_given args 0) t.variables) ≡ level
     level_is = ap (λ (z : Identifier). level_of (lookup z t.variables)) (sym is) ∙ ap level_of h
 
-    deleted : {kind : ResultKind} {a : Answer} → AnswersAs unit classes (sight_of_call s t DeleteLocalRef args) DeleteLocalRef EndsLocal kind a → LandsBy weak (Calls line target DeleteLocalRef args) (length t.frames) own s.statics (after_call unit classes in_use k s t line target DeleteLocalRef args rest (effect_of classes in_use k s t args a))
+    deleted : {kind : ResultKind} {a : Answer} → AnswersAs unit classes (sight_of_call s t DeleteLocalRef args) DeleteLocalRef EndsLocal kind a → AnswerLands unit classes in_use k s t line rest weak own target DeleteLocalRef args a (effect_of classes in_use k s t args a)
     unfolding effect_of
     deleted (EndingNoLocal none) =
-        left_with t.frames refl (λ l m. let less = fewer t.variables x l m p.regions.variables in let enough = stands.backed l m in omega (arith, less, enough))
+        left_with (answer.Gives NoResult) own (λ y. refl) t.frames refl (λ l m. let less = fewer t.variables x l m p.regions.variables in let enough = stands.backed l m in omega (arith, less, enough))
+        (owned_changed s.statics t.variables t.frames p stands x None killed killed_live)
     deleted (EndingLocal n found) =
         let held : lookup x t.variables ≡ Some (LocalRef level (Some n)) = h ∙ ap (λ (q : Reference). Some (LocalRef level q)) (sym given ∙ found) in
-        subst (λ (l : ℕ). LandsBy weak (Calls line target DeleteLocalRef args) (length t.frames) own s.statics (after_call unit classes in_use k s t line target DeleteLocalRef args rest (Leaves [] s (record t { frames = without_local l n t.frames }) NoResult))) (sym level_is)
-        (left_with (without_local level n t.frames) (deleted_length level n t.frames) (λ l m.
+        subst (λ (l : ℕ). AnswerLands unit classes in_use k s t line rest weak own target DeleteLocalRef args (DeletesLocal 0 n) (Leaves [] s (record t { frames = without_local l n t.frames }) NoResult)) (sym level_is)
+        (left_with (DeletesLocal 0 n) (λ y. if bytes_eq y x then None else own y) (λ y. ap (λ (z : Identifier). if bytes_eq y z then None else own y) is) (without_local level n t.frames) (deleted_length level n t.frames) (λ l m.
         let less = killed_owners t.variables x l m level n p.regions.variables e held in
         let one = copies_deleted level n l m t.frames (level_within x level n e held) in
         let enough = stands.backed l m in
-        omega (arith, less, one, enough)))
+        omega (arith, less, one, enough)) (killed_owned s.statics t.variables t.frames p stands x))
     deleted (Halting trap) = (whole, λ x r g. (r, g))
 
   -- the reference of a variable that is looked up
@@ -103,7 +98,7 @@ module _ (unit : SourceUnit) (classes : Classes) (in_use : BuffersInUse) (k : �
 
   delete_known : (x : Identifier) (level : ℕ) (target : Target) (get : _) → IsNoTest target → state_of p.regions x ≡ Some (ReferenceAt level true)
       → ResultGoes target GivesNothing get (GoesOn rest) (at p (with_changed p.regions x killed))
-      → LandsBy weak (Calls line target DeleteLocalRef (actuals (sight_of s t) DeleteLocalRef (Given (tree.Value (tree.Variable x)) ∷ []))) (length t.frames) own s.statics (call_step unit classes in_use k s t line target DeleteLocalRef (actuals (sight_of s t) DeleteLocalRef (Given (tree.Value (tree.Variable x)) ∷ [])) rest false)
+      → CallLands unit classes in_use k s t line rest weak own target DeleteLocalRef (actuals (sight_of s t) DeleteLocalRef (Given (tree.Value (tree.Variable x)) ∷ []))
   delete_known x level target get away e goes = by_trap (trap_of_call classes s t target DeleteLocalRef args)
     where
       args : List Actual
@@ -112,14 +107,14 @@ module _ (unit : SourceUnit) (classes : Classes) (in_use : BuffersInUse) (k : �
       shown : (r : Reference) × (lookup x t.variables ≡ Some (LocalRef level r))
       shown = stands.shows x (ReferenceAt level true) e
 
-      by_trap : (o : Option Trap) → LandsBy weak (Calls line target DeleteLocalRef args) (length t.frames) own s.statics (after_call unit classes in_use k s t line target DeleteLocalRef args rest (checked o (call_effect unit classes in_use k s t args DeleteLocalRef)))
+      by_trap : (o : Option Trap) → AnswerLands unit classes in_use k s t line rest weak own target DeleteLocalRef args (answer_to unit classes k s t DeleteLocalRef args) (checked o (call_effect unit classes in_use k s t args DeleteLocalRef))
       by_trap None =
           (deleted x level shown.0 target args get away e shown.1 goes refl (reference_is x level shown.0 shown.1) (answers_as unit classes k (sight_of_call s t DeleteLocalRef args) DeleteLocalRef))
       by_trap (Some trap) = (whole, λ x r g. (r, g))
 
   delete_operands : (target : Target) (operands : List Operand) → IsNoTest target → OperandsFit p (LocalVariable ∷ []) operands
       → ResultGoes target GivesNothing (get_of (call_seen DeleteLocalRef operands)) (GoesOn rest) (at p (states.after_call p.regions (call_seen DeleteLocalRef operands)))
-      → LandsBy weak (Calls line target DeleteLocalRef (actuals (sight_of s t) DeleteLocalRef operands)) (length t.frames) own s.statics (call_step unit classes in_use k s t line target DeleteLocalRef (actuals (sight_of s t) DeleteLocalRef operands) rest false)
+      → CallLands unit classes in_use k s t line rest weak own target DeleteLocalRef (actuals (sight_of s t) DeleteLocalRef operands)
   delete_operands target (Given (tree.Value (tree.Variable x)) ∷ []) away h goes = delete_known x h.0.0 target _ away h.0.1 goes
   delete_operands target (Given (tree.Value (tree.Variable x)) ∷ o ∷ operands) away h goes = absurd h.1
   delete_operands target [] away h goes = absurd h
@@ -127,7 +122,7 @@ module _ (unit : SourceUnit) (classes : Classes) (in_use : BuffersInUse) (k : �
 
   -- DeleteLocalRef
   pub delete_lands : (target : Target) (operands : List Operand) → Runs (Invoke line target DeleteLocalRef operands) (GoesOn rest) p
-      → LandsBy weak (Calls line target DeleteLocalRef (actuals (sight_of s t) DeleteLocalRef operands)) (length t.frames) own s.statics (call_step unit classes in_use k s t line target DeleteLocalRef (actuals (sight_of s t) DeleteLocalRef operands) rest false)
+      → CallLands unit classes in_use k s t line rest weak own target DeleteLocalRef (actuals (sight_of s t) DeleteLocalRef operands)
   delete_lands (Tested a b) operands r = absurd (no_push r.1)
     where
       no_push : DeleteLocalRef ≡ PushLocalFrame → ⊥
@@ -143,25 +138,27 @@ module _ (unit : SourceUnit) (classes : Classes) (in_use : BuffersInUse) (k : �
     abbrev pushed : Point
     pushed = at p (record p.regions { frames = p.regions.frames + 1 })
 
-    tested_lands : (t' : Thread) (z : ℤ) (q : Point) → Stands weak own s.statics t'.variables t'.frames q → GoesOn (Branch line (Done (Truth (is_zero (ScalarResult (Int z))))) a b ∷ rest) q
-        → LandsBy weak (Calls line (Tested a b) PushLocalFrame args) (length t.frames) own s.statics (completed unit classes in_use k s t line (Tested a b) PushLocalFrame args rest [] s t' (ScalarResult (Int z)))
-    tested_lands t' z q there g =
-        quiet_by weak line PushLocalFrame args (length t.frames) own own (Tested a b) (λ y other. refl) s.statics (record s { heap = s.heap ++ [] }) (record (received GivesInt (ScalarResult (Int z)) t') { tasks = Some (tasks_after line (Tested a b) (is_zero (ScalarResult (Int z))) ++ rest); variables = tell_copy (address_given args 1) (ScalarResult (Int z)) t'.variables })
+    -- a push that answers with a number
+    tested_lands : (answer : Answer) → ((y : Identifier) → own y ≡ left_by answer args (length t.frames) own y) → (t' : Thread) (z : ℤ) (q : Point) → Stands weak own s.statics t'.variables t'.frames q → GoesOn (Branch line (Done (Truth (is_zero (ScalarResult (Int z))))) a b ∷ rest) q
+        → AnswerLands unit classes in_use k s t line rest weak own (Tested a b) PushLocalFrame args answer (Leaves [] s t' (ScalarResult (Int z)))
+    tested_lands answer left t' z q there g =
+        quiet_by weak (Tested a b) (after_answer (Tested a b) answer args (length t.frames) own) (left_by answer args (length t.frames) own) own (λ vs. refl) (λ y other. left y) s.statics (record s { heap = s.heap ++ [] })
+        (record (received GivesInt (ScalarResult (Int z)) t') { tasks = Some (tasks_after line (Tested a b) (is_zero (ScalarResult (Int z))) ++ rest); variables = tell_copy (address_given args 1) (ScalarResult (Int z)) t'.variables })
         ((q, subst (λ (vs : Variables). Stands weak own s.statics vs t'.frames q) (sym (told t' line rest (address_given args 1) t'.variables GivesInt (ScalarResult (Int z)) (AnInt z))) there, g), λ x r e. (r, e))
 
-    refused : LandsBy weak (Calls line (Tested a b) PushLocalFrame args) (length t.frames) own s.statics (completed unit classes in_use k s t line (Tested a b) PushLocalFrame args rest [] s (record t { pending = Some (length classes + 1) }) (ScalarResult (Int (negsuc 3))))
-    refused = tested_lands (record t { pending = Some (length classes + 1) }) (negsuc 3) p stands (refl, (pushed, p, IsFalseNow pushed, on_true, on_false))
+    refused : (answer : Answer) → ((y : Identifier) → own y ≡ left_by answer args (length t.frames) own y) → AnswerLands unit classes in_use k s t line rest weak own (Tested a b) PushLocalFrame args answer (refuses_frames classes s t)
+    refused answer left = tested_lands answer left (record t { pending = Some (length classes + 1) }) (negsuc 3) p stands (refl, (pushed, p, IsFalseNow pushed, on_true, on_false))
 
-    pushes : {kind : ResultKind} {answer : Answer} → AnswersAs unit classes (sight_of_call s t PushLocalFrame args) PushLocalFrame PushesFrame kind answer → LandsBy weak (Calls line (Tested a b) PushLocalFrame args) (length t.frames) own s.statics (after_call unit classes in_use k s t line (Tested a b) PushLocalFrame args rest (effect_of classes in_use k s t args answer))
+    pushes : {kind : ResultKind} {answer : Answer} → AnswersAs unit classes (sight_of_call s t PushLocalFrame args) PushLocalFrame PushesFrame kind answer → AnswerLands unit classes in_use k s t line rest weak own (Tested a b) PushLocalFrame args answer (effect_of classes in_use k s t args answer)
     unfolding effect_of
     pushes (Pushing n) =
-        cond_both (nat_le (capacities (record { capacity = n; references = [] } ∷ t.frames)) most_references) _ _ (λ (e : CallEffect). LandsBy weak (Calls line (Tested a b) PushLocalFrame args) (length t.frames) own s.statics (after_call unit classes in_use k s t line (Tested a b) PushLocalFrame args rest e))
-        (λ e. tested_lands (record t { frames = record { capacity = n; references = [] } ∷ t.frames }) (pos 0) pushed (stands_pushed s.statics t.variables t.frames p stands (record { capacity = n; references = [] })) (refl, (pushed, p, IsTrueNow p, on_true, on_false)))
-        (λ e. refused)
-    pushes PushingNone = refused
+        cond_both (nat_le (capacities (record { capacity = n; references = [] } ∷ t.frames)) most_references) _ _ (λ (e : CallEffect). AnswerLands unit classes in_use k s t line rest weak own (Tested a b) PushLocalFrame args (Pushes n) e)
+        (λ e. tested_lands (Pushes n) (λ y. refl) (record t { frames = record { capacity = n; references = [] } ∷ t.frames }) (pos 0) pushed (stands_pushed s.statics t.variables t.frames p stands (record { capacity = n; references = [] })) (refl, (pushed, p, IsTrueNow p, on_true, on_false)))
+        (λ e. refused (Pushes n) (λ y. refl))
+    pushes PushingNone = refused RefusesFrames (λ y. refl)
     pushes (Halting trap) = (whole, λ x r g. (r, g))
 
-    push_at : (o : Option Trap) → LandsBy weak (Calls line (Tested a b) PushLocalFrame args) (length t.frames) own s.statics (after_call unit classes in_use k s t line (Tested a b) PushLocalFrame args rest (checked o (call_effect unit classes in_use k s t args PushLocalFrame)))
+    push_at : (o : Option Trap) → AnswerLands unit classes in_use k s t line rest weak own (Tested a b) PushLocalFrame args (answer_to unit classes k s t PushLocalFrame args) (checked o (call_effect unit classes in_use k s t args PushLocalFrame))
     push_at None =
         (pushes (answers_as unit classes k (sight_of_call s t PushLocalFrame args) PushLocalFrame))
     push_at (Some trap) = (whole, λ x r g. (r, g))
@@ -170,7 +167,7 @@ module _ (unit : SourceUnit) (classes : Classes) (in_use : BuffersInUse) (k : �
   no_other e h = cc
 
   -- PushLocalFrame
-  pub push_lands : (target : Target) (operands : List Operand) (args : List Actual) → Runs (Invoke line target PushLocalFrame operands) (GoesOn rest) p → LandsBy weak (Calls line target PushLocalFrame args) (length t.frames) own s.statics (call_step unit classes in_use k s t line target PushLocalFrame args rest false)
+  pub push_lands : (target : Target) (operands : List Operand) (args : List Actual) → Runs (Invoke line target PushLocalFrame operands) (GoesOn rest) p → CallLands unit classes in_use k s t line rest weak own target PushLocalFrame args
   push_lands (Tested a b) operands args r = push_at a b args r.2 r.3 (trap_of_call classes s t (Tested a b) PushLocalFrame args)
   push_lands (Declared kind x) operands args r = absurd (no_other refl r.1)
   push_lands (Assigned x) operands args r = absurd (no_other refl r.1)
@@ -183,21 +180,21 @@ module _ (unit : SourceUnit) (classes : Classes) (in_use : BuffersInUse) (k : �
   gives_any (Some n) = ALocal n
 
   popped : {kind : ResultKind} {a : Answer} (target : Target) (args : List Actual) (get : Option (Access × Option Identifier)) → IsNoTest target → HasFrame (drop 1 t.frames) → ResultGoes target NewLocal get (GoesOn rest) (at p (after_pop p.regions))
-      → AnswersAs unit classes (sight_of_call s t PopLocalFrame args) PopLocalFrame PopsFrame kind a → LandsBy weak (Calls line target PopLocalFrame args) (length t.frames) own s.statics (after_call unit classes in_use k s t line target PopLocalFrame args rest (effect_of classes in_use k s t args a))
+      → AnswersAs unit classes (sight_of_call s t PopLocalFrame args) PopLocalFrame PopsFrame kind a → AnswerLands unit classes in_use k s t line rest weak own target PopLocalFrame args a (effect_of classes in_use k s t args a)
   unfolding effect_of
   popped target args get away room goes (Popping r) =
-      given_lands unit classes in_use k s t line target PopLocalFrame args rest (at p (after_pop p.regions)) own (λ y. refl) NewLocal [] s (record t { frames = drop 1 t.frames }) (ReferenceResult r) get refl away (λ is. room)
+      given_lands unit classes in_use k s t line target PopLocalFrame args rest (at p (after_pop p.regions)) own (Pops r) (λ y. refl) NewLocal [] s (record t { frames = drop 1 t.frames }) (ReferenceResult r) get refl away (λ is. room)
       (stands_with (λ y. other_than (length t.frames) (own y)) s.statics t.variables (drop 1 t.frames) (at p (after_pop p.regions)) (stands_popped s.statics t.variables t.frames p stands) (popped_owned s.statics t.variables t.frames p stands)) (gives_any r) goes
   popped target args get away room goes (Halting trap) = (whole, λ x r g. (r, g))
 
   pop_at : (target : Target) (args : List Actual) (get : Option (Access × Option Identifier)) → IsNoTest target → ResultGoes target NewLocal get (GoesOn rest) (at p (after_pop p.regions)) → (o : Option Trap) → trap_of_call classes s t target PopLocalFrame args ≡ o
-      → LandsBy weak (Calls line target PopLocalFrame args) (length t.frames) own s.statics (after_call unit classes in_use k s t line target PopLocalFrame args rest (checked o (call_effect unit classes in_use k s t args PopLocalFrame)))
+      → AnswerLands unit classes in_use k s t line rest weak own target PopLocalFrame args (answer_to unit classes k s t PopLocalFrame args) (checked o (call_effect unit classes in_use k s t args PopLocalFrame))
   pop_at target args get away goes None e =
       (popped target args get away (has_frame (drop 1 t.frames) (has_room classes s t (target_element t.variables target) PopLocalFrame args e refl)) goes (answers_as unit classes k (sight_of_call s t PopLocalFrame args) PopLocalFrame))
   pop_at target args get away goes (Some trap) e = (whole, λ x r g. (r, g))
 
   -- PopLocalFrame
-  pub pop_lands : (target : Target) (operands : List Operand) (args : List Actual) → Runs (Invoke line target PopLocalFrame operands) (GoesOn rest) p → LandsBy weak (Calls line target PopLocalFrame args) (length t.frames) own s.statics (call_step unit classes in_use k s t line target PopLocalFrame args rest false)
+  pub pop_lands : (target : Target) (operands : List Operand) (args : List Actual) → Runs (Invoke line target PopLocalFrame operands) (GoesOn rest) p → CallLands unit classes in_use k s t line rest weak own target PopLocalFrame args
   pop_lands (Tested a b) operands args r = absurd (no_push r.1)
     where
       no_push : PopLocalFrame ≡ PushLocalFrame → ⊥

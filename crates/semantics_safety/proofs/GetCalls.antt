@@ -22,14 +22,14 @@ use Rattle.type_rules.specs.ExprTypes.{type_in}
 use Rattle.type_rules.specs.declared.ty.ExprType.TheVariants as types
 use Rattle.region_rules.specs.RegionStates.{get_of, VariableState, BufferState, Free, Untested, ReferenceAt, BufferIn, state_of, with_new, with_changed}
 use Rattle.semantics.specs.Object.{Reference}
-use Rattle.semantics.specs.Answer.{Answer, effect_of}
+use Rattle.semantics.specs.Answer.{Answer, effect_of, Copies, Views}
 use Rattle.semantics.specs.Arguments.{Actual, ReferenceActual, look_up, actuals, reference_in_actual, name_or_zero, object_given, address_given, address_in_actual}
 use Rattle.semantics.specs.CallEffects.{Leaves, BufferResult}
 use Rattle.semantics.specs.AnswerTable.{call_effect}
 use Rattle.semantics.specs.CallSight.{CallSight, sight_of_call}
 use Rattle.semantics.specs.Checks.{misses, with_kinds}
-use Rattle.semantics.specs.CallStep.{put, put_assigned, tell_copy, trap_of_call, target_element, checked, after_call, call_step}
-use Rattle.semantics.specs.Effect.{tasks_after, Calls}
+use Rattle.semantics.specs.CallStep.{put, put_assigned, tell_copy, trap_of_call, target_element, checked}
+use Rattle.semantics.specs.Effect.{tasks_after}
 use Rattle.semantics.specs.Sight.{held_reference}
 use Rattle.semantics.specs.Task.{Task, Target, Declared, Assigned, Tested, Dropped, VariableKind, ScalarKind, ReferenceKind, FieldKind, MethodKind, BufferKind, Operand, Given, Invoke}
 use Rattle.semantics.specs.Thread.{Thread, Shared, BuffersInUse, Frame, sight_of}
@@ -39,8 +39,8 @@ use Rattle.semantics.specs.Value.{Flag, Value}
 use Rattle.semantics.specs.Variable.{Variable, Scalar, LocalRef, Elements, Buffer, NoBuffer, Copy, View, Variables, Statics, assign}
 use Rattle.semantics.proofs.CheckLaws.{passed}
 use Rattle.semantics.proofs.AnswerKinds.{AnswersAs, Copying, GetsBuffer, Halting, Viewing, answers_as}
-use Rattle.semantics_safety.proofs.OwnerLaws.{LandsBy, put_by}
-use Rattle.semantics_safety.specs.Owners.{Owners}
+use Rattle.semantics_safety.proofs.OwnerLaws.{put_by, AnswerLands, CallLands}
+use Rattle.semantics_safety.specs.Owners.{Owners, left_by, answer_to}
 use Rattle.semantics_safety.specs.Points.{Point, OperandFits, OperandsFit, is_copy, owns}
 use Rattle.semantics_safety.specs.Stands.{VariableFits, IsOf, Lends, Shows, Goes, Stands}
 use Rattle.semantics_safety.specs.Wanted.{Holds, IsNew, DeclaresResult, AssignsResult, ResultGoes, Runs, GoesOn, CallKeeps, call_seen, operand_argument, at, named}
@@ -273,24 +273,24 @@ module _ (unit : SourceUnit) (classes : Classes) (in_use : BuffersInUse) (k : �
 
   module _ (access : Access) (a : Identifier) (c : Operand) (level n : ℕ) (target : Target) (away : IsNoTest target) (here_a : state_of p.regions a ≡ Some (ReferenceAt level true)) (at_a : lookup a t.variables ≡ Some (LocalRef level (Some n)))
       (fit : OperandFits p IsCopy c) (goes : ResultGoes target (GivesBuffer access) (Some (access, Some a)) (GoesOn rest) p) where
-    buffer_given : (b : Buffer) → IsLentBy t.variables access a b → LandsBy weak (Calls line target (GetBuffer access) (got_with access a c)) (length t.frames) own s.statics (after_call unit classes in_use k s t line target (GetBuffer access) (got_with access a c) rest (Leaves [] s t (BufferResult b)))
-    buffer_given b lent =
-        put_by weak line (GetBuffer access) (got_with access a c) (length t.frames) own own target (λ y other. refl) (BufferResult b) s.statics _ _
+    buffer_given : (answer : Answer) → ((y : Identifier) → own y ≡ left_by answer (got_with access a c) (length t.frames) own y) → (b : Buffer) → IsLentBy t.variables access a b → AnswerLands unit classes in_use k s t line rest weak own target (GetBuffer access) (got_with access a c) answer (Leaves [] s t (BufferResult b))
+    buffer_given answer left b lent =
+        put_by weak target _ (left_by answer (got_with access a c) (length t.frames) own) own (λ vs. refl) (λ y other. left y) s.statics target (BufferResult b) _ _
         (subst (λ (y : Option Identifier). Lands weak own s.statics (put target (BufferResult b) (record s { heap = s.heap ++ [] }) (record t { tasks = Some (tasks_after line target false ++ rest); variables = tell_copy y (BufferResult b) t.variables }))) (sym (told_is access a c))
         (got access a level here_a (Some n) at_a target away goes (record s { heap = s.heap ++ [] }) refl b lent (told_in c) (told_fits c fit)))
 
     same_object : object_given (got_with access a c) 0 ≡ n
     same_object = got_of access a c ∙ ap (object_of a) at_a
 
-    buffer_answered : {kind : ResultKind} {answer : Answer} → AnswersAs unit classes (sight_of_call s t (GetBuffer access) (got_with access a c)) (GetBuffer access) (GetsBuffer access) kind answer → LandsBy weak (Calls line target (GetBuffer access) (got_with access a c)) (length t.frames) own s.statics (after_call unit classes in_use k s t line target (GetBuffer access) (got_with access a c) rest (effect_of classes in_use k s t (got_with access a c) answer))
+    buffer_answered : {kind : ResultKind} {answer : Answer} → AnswersAs unit classes (sight_of_call s t (GetBuffer access) (got_with access a c)) (GetBuffer access) (GetsBuffer access) kind answer → AnswerLands unit classes in_use k s t line rest weak own target (GetBuffer access) (got_with access a c) answer (effect_of classes in_use k s t (got_with access a c) answer)
     unfolding effect_of
-    buffer_answered (Copying of plain) = buffer_given _ (copy_lent access a level n (object_given (got_with access a c) 0) at_a same_object _ _ plain)
-    buffer_answered (Viewing of critical) = buffer_given _ (view_lent access a level n (object_given (got_with access a c) 0) at_a same_object _ critical)
+    buffer_answered (Copying of plain) = buffer_given (Copies (object_given (got_with access a c) 0)) (λ y. refl) _ (copy_lent access a level n (object_given (got_with access a c) 0) at_a same_object _ _ plain)
+    buffer_answered (Viewing of critical) = buffer_given (Views (object_given (got_with access a c) 0)) (λ y. refl) _ (view_lent access a level n (object_given (got_with access a c) 0) at_a same_object _ critical)
     buffer_answered (Halting trap) = (whole, λ x q g. (q, g))
 
   got_at : (access : Access) (a : Identifier) (c : Operand) (level : ℕ) (r : Reference) (target : Target) → IsNoTest target → state_of p.regions a ≡ Some (ReferenceAt level true) → lookup a t.variables ≡ Some (LocalRef level r) → OperandFits p IsCopy c
       → ResultGoes target (GivesBuffer access) (Some (access, Some a)) (GoesOn rest) p → (o : Option Trap) → trap_of_call classes s t target (GetBuffer access) (got_with access a c) ≡ o
-      → LandsBy weak (Calls line target (GetBuffer access) (got_with access a c)) (length t.frames) own s.statics (after_call unit classes in_use k s t line target (GetBuffer access) (got_with access a c) rest (checked o (call_effect unit classes in_use k s t (got_with access a c) (GetBuffer access))))
+      → AnswerLands unit classes in_use k s t line rest weak own target (GetBuffer access) (got_with access a c) (answer_to unit classes k s t (GetBuffer access) (got_with access a c)) (checked o (call_effect unit classes in_use k s t (got_with access a c) (GetBuffer access)))
   got_at access a c level r target away here_a at_a fit goes (Some trap) e = (whole, λ x q g. (q, g))
   got_at access a c level None target away here_a at_a fit goes None e =
       absurd (let missing = null_missing access a c level at_a in let none = (passed classes (sight access a c) (target_element t.variables target) (GetBuffer access) e).given in let both : true ≡ false = sym missing ∙ none in cc)
@@ -299,7 +299,7 @@ module _ (unit : SourceUnit) (classes : Classes) (in_use : BuffersInUse) (k : �
 
   get_operands : (access : Access) (target : Target) (operands : List Operand) → IsNoTest target → CallKeeps p (GetBuffer access) (map operand_argument operands) → OperandsFit p (owner access ∷ IsCopy ∷ []) operands
       → ResultGoes target (GivesBuffer access) (get_of (call_seen (GetBuffer access) operands)) (GoesOn rest) p
-      → LandsBy weak (Calls line target (GetBuffer access) (actuals (sight_of s t) (GetBuffer access) operands)) (length t.frames) own s.statics (call_step unit classes in_use k s t line target (GetBuffer access) (actuals (sight_of s t) (GetBuffer access) operands) rest false)
+      → CallLands unit classes in_use k s t line rest weak own target (GetBuffer access) (actuals (sight_of s t) (GetBuffer access) operands)
   get_operands access target (Given (tree.Value (tree.Variable a)) ∷ c ∷ []) away (level, e) fit goes =
       let shown = stands.shows a (ReferenceAt level true) e in
       got_at access a c level shown.0 target away e shown.1 fit.1.0 goes (trap_of_call classes s t target (GetBuffer access) (got_with access a c)) refl
@@ -312,7 +312,7 @@ module _ (unit : SourceUnit) (classes : Classes) (in_use : BuffersInUse) (k : �
 
   -- the calls that get a buffer
   pub get_lands : (access : Access) (target : Target) (operands : List Operand) → Runs (Invoke line target (GetBuffer access) operands) (GoesOn rest) p
-      → LandsBy weak (Calls line target (GetBuffer access) (actuals (sight_of s t) (GetBuffer access) operands)) (length t.frames) own s.statics (call_step unit classes in_use k s t line target (GetBuffer access) (actuals (sight_of s t) (GetBuffer access) operands) rest false)
+      → CallLands unit classes in_use k s t line rest weak own target (GetBuffer access) (actuals (sight_of s t) (GetBuffer access) operands)
   get_lands access (Tested a b) operands r = absurd (get_no_push access r.1)
   get_lands access (Declared kind x) operands r = get_operands access (Declared kind x) operands tt r.0.rules r.0.types r.2
   get_lands access (Assigned x) operands r = get_operands access (Assigned x) operands tt r.0.rules r.0.types r.2

@@ -15,14 +15,15 @@ use Rattle.semantics.specs.CallEffects.{CallResult, ReferenceResult, CallEffect,
 use Rattle.semantics.specs.CallStep.{put, received, tell_copy, failure, is_zero, completed, after_call, after_refusal}
 use Rattle.region_rules.specs.RegionStates as states
 use Rattle.region_rules.specs.RegionStates.{RegionState}
-use Rattle.semantics.specs.Effect.{Calls, tasks_after}
+use Rattle.semantics.specs.Answer.{Answer}
+use Rattle.semantics.specs.Effect.{tasks_after}
 use Rattle.semantics.specs.Heap.{next_name}
 use Rattle.semantics.specs.Task.{Task, Target, Declared, Assigned, Tested, Dropped}
-use Rattle.semantics.specs.Thread.{Thread, Shared, BuffersInUse, Frame}
+use Rattle.semantics.specs.Thread.{Thread, Shared, BuffersInUse, Frame, Advance}
 use Rattle.semantics.specs.ThreadStep.{with_tasks}
 use Rattle.semantics.specs.Variable.{Variables, Statics}
 use Rattle.semantics.proofs.AnswerKinds.{CallKind, EndsLocal, EndsStatic, FillsArray, PopsFrame, Quiet, ReleasesBuffer, call_kind}
-use Rattle.semantics_safety.specs.Owners.{Owners, left_by}
+use Rattle.semantics_safety.specs.Owners.{Owners, after_answer, left_by}
 use Rattle.semantics_safety.specs.Points.{Point, owners}
 use Rattle.semantics_safety.specs.Stands.{copies, Goes, Stands}
 use Rattle.semantics_safety.specs.Wanted.{ResultGoes, GoesOn}
@@ -30,8 +31,8 @@ use Rattle.semantics_safety.specs.WeakNames.{WeakNames}
 use Rattle.semantics_safety.proofs.ResultLaws.{Simple, AnInt, AFlag, AField, NoField, AMethod, NoMethod, AGlobal, NoGlobal, AWeak, NoWeak, NoLocal, NullLocal, NoResultThere, result_lands}
 use Rattle.semantics_safety.proofs.FrameLaws.{references_of, same_references, same_length, HasFrame, frame_again}
 use Rattle.semantics_safety.proofs.ReferenceLaws.{with_target, local_lands}
-use Rattle.semantics_safety.proofs.OwnerLaws.{LandsBy, LandsByIfPossible, by_if_possible, put_by}
-use Rattle.semantics_safety.proofs.StepLaws.{Lands}
+use Rattle.semantics_safety.proofs.OwnerLaws.{LandsByIfPossible, by_if_possible, ends_local, put_by}
+use Rattle.semantics_safety.proofs.StepLaws.{Lands, LandsBy}
 
 -- the region rules don't know functions of such a kind apart, but for what they fill
 abbrev pub IsFreeKind : CallKind → Type 0
@@ -57,18 +58,16 @@ plain_free EndsLocal h = h
 plain_free PopsFrame h = h
 plain_free kind h = tt
 
+pub plain_ended : (kind : CallKind) → IsPlain kind → ends_local kind ≡ false
+plain_ended EndsLocal h = absurd h
+plain_ended PopsFrame h = absurd h
+plain_ended kind h = refl
+
 pub free_call : (f : JniFunction) (regions : RegionState) (args : List Argument) → IsFree f → states.after_call regions (Some (f, args)) ≡ regions
 free_call (ReleaseBuffer access) regions args h = absurd h
 free_call DeleteLocalRef regions args h = absurd h
 free_call PopLocalFrame regions args h = absurd h
 free_call f regions args h = refl
-
--- such a call ends no reference
-pub free_owners : (f : JniFunction) (args : List Actual) (frames : ℕ) (own : Owners) → IsFree f → (y : Identifier) → own y ≡ left_by f args frames own y
-free_owners (ReleaseBuffer access) args frames own h y = absurd h
-free_owners DeleteLocalRef args frames own h y = absurd h
-free_owners PopLocalFrame args frames own h y = absurd h
-free_owners f args frames own h y = refl
 
 -- a target that isn't a test
 abbrev pub IsNoTest : Target → Type 0
@@ -144,7 +143,7 @@ module _ (t : Thread) (line : ℕ) (rest : List Task) where
       ap (λ (tasks : List Task). record t { frames = with_local n t.frames; tasks = Some tasks; variables = tell_copy x (ReferenceResult (Some n)) t.variables }) (nothing_after target false h)
       ∙ ap (λ (vs : Variables). record t { frames = with_local n t.frames; tasks = Some rest; variables = vs }) (local_told x n t.variables)
 
-module _ (unit : SourceUnit) (classes : Classes) (in_use : BuffersInUse) (k : ℕ) (s : Shared) (t : Thread) (line : ℕ) (target : Target) (f : JniFunction) (args : List Actual) (rest : List Task) (p : Point) (own : Owners) where
+module _ (unit : SourceUnit) (classes : Classes) (in_use : BuffersInUse) (k : ℕ) (s : Shared) (t : Thread) (line : ℕ) (target : Target) (f : JniFunction) (args : List Actual) (rest : List Task) (p : Point) (own : Owners) (a : Answer) where
   -- a local reference goes into a frame that is there
   local_completed : {weak : WeakNames} {now : Owners} (shared : Shared) (t' : Thread) (n : ℕ) (get : _) (frames : List Frame) → t'.frames ≡ frames → HasFrame frames → Stands weak now shared.statics t'.variables t'.frames p → ResultGoes target NewLocal get (GoesOn rest) p
       → Lands weak (with_target target p.regions.frames now) shared.statics (put target (ReferenceResult (Some n)) shared (record t' { frames = with_local n t'.frames; tasks = Some rest }))
@@ -154,25 +153,26 @@ module _ (unit : SourceUnit) (classes : Classes) (in_use : BuffersInUse) (k : �
       (local_lands shared t' rest frame below p (subst (λ (frames : List Frame). Stands weak now shared.statics t'.variables frames p) e there) n target get h)
 
   -- the same for any result
-  pub given_lands : {weak : WeakNames} {now : Owners} → ((y : Identifier) → now y ≡ left_by f args (length t.frames) own y) → (kind : ResultKind) (made : List Object) (s' : Shared) (t' : Thread) (given : CallResult) (get : _) → (prototype f).result ≡ kind → IsNoTest target → (kind ≡ NewLocal → HasFrame t'.frames) → Stands weak now s'.statics t'.variables t'.frames p → Gives kind given
-      → ResultGoes target kind get (GoesOn rest) p → LandsBy weak (Calls line target f args) (length t.frames) own s'.statics (completed unit classes in_use k s t line target f args rest made s' t' given)
+  pub given_lands : {weak : WeakNames} {now : Owners} → ((y : Identifier) → now y ≡ left_by a args (length t.frames) own y) → (kind : ResultKind) (made : List Object) (s' : Shared) (t' : Thread) (given : CallResult) (get : _) → (prototype f).result ≡ kind → IsNoTest target → (kind ≡ NewLocal → HasFrame t'.frames) → Stands weak now s'.statics t'.variables t'.frames p → Gives kind given
+      → ResultGoes target kind get (GoesOn rest) p → LandsBy weak (after_answer target a args (length t.frames) own) s'.statics (completed unit classes in_use k s t line target f args rest made s' t' given)
   given_lands {weak} {now} left kind made s' t' given get is away room there (Plainly simple) h =
       let shared : Shared = record s' { heap = s'.heap ++ made } in
-      put_by weak line f args (length t.frames) own now target (λ y other. left y) given s'.statics shared _ (
+      put_by weak target (after_answer target a args (length t.frames) own) (left_by a args (length t.frames) own) now (λ vs. refl) (λ y other. left y) s'.statics target given shared _ (
       subst (λ (result : ResultKind). Lands weak now s'.statics (put target given shared (record (received result given t') { tasks = Some (tasks_after line target (is_zero given) ++ rest); variables = tell_copy (address_given args 1) given t'.variables }))) (sym is)
       (subst (λ (r : Thread). Lands weak now s'.statics (put target given shared r)) (sym (resumed_is t' line rest target (address_given args 1) kind given away simple))
       (result_lands unit classes in_use k shared t' rest p there target kind given get simple h)))
   given_lands {weak} {now} left kind made s' t' given get is away room there (ALocal n) h =
       let shared : Shared = record s' { heap = s'.heap ++ made } in
-      put_by weak line f args (length t.frames) own (with_target target p.regions.frames now) target (λ y other. ap (λ (b : Bool). if b then Some p.regions.frames else now y) other ∙ left y) given s'.statics shared _ (
+      put_by weak target (after_answer target a args (length t.frames) own) (left_by a args (length t.frames) own) (with_target target p.regions.frames now) (λ vs. refl)
+      (λ y other. ap (λ (b : Bool). if b then Some p.regions.frames else now y) other ∙ left y) s'.statics target given shared _ (
       subst (λ (result : ResultKind). Lands weak (with_target target p.regions.frames now) s'.statics (put target (ReferenceResult (Some n)) shared (record (received result (ReferenceResult (Some n)) t') { tasks = Some (tasks_after line target false ++ rest); variables = tell_copy (address_given args 1) (ReferenceResult (Some n)) t'.variables }))) (sym is)
       (subst (λ (r : Thread). Lands weak (with_target target p.regions.frames now) s'.statics (put target (ReferenceResult (Some n)) shared r)) (sym (resumed_local t' line rest target (address_given args 1) n away))
       (local_completed shared t' n get t'.frames refl (room refl) there h)))
 
-module _ (unit : SourceUnit) (classes : Classes) (in_use : BuffersInUse) (k : ℕ) (s : Shared) (t : Thread) (line : ℕ) (target : Target) (f : JniFunction) (args : List Actual) (rest : List Task) (p : Point) {weak : WeakNames} {own : Owners} (stands : Stands weak own s.statics t.variables t.frames p) where
-  -- the call ends no reference
-  abbrev IsKept : Type 0
-  IsKept = (y : Identifier) → own y ≡ left_by f args (length t.frames) own y
+module _ (unit : SourceUnit) (classes : Classes) (in_use : BuffersInUse) (k : ℕ) (s : Shared) (t : Thread) (line : ℕ) (target : Target) (f : JniFunction) (args : List Actual) (rest : List Task) (p : Point) {weak : WeakNames} {own : Owners} (stands : Stands weak own s.statics t.variables t.frames p) (a : Answer) (left : (y : Identifier) → own y ≡ left_by a args (length t.frames) own y) where
+  -- an effect leads to a point again
+  abbrev EffectLands : Advance → Type 0
+  EffectLands e = LandsBy weak (after_answer target a args (length t.frames) own) s.statics e
 
   -- the thread at its point, where a call has left its variables, its references and the statics as they were
   stands_again : (s' : Shared) (t' : Thread) → t'.variables ≡ t.variables → references_of t'.frames ≡ references_of t.frames → s'.statics ≡ s.statics → Stands weak own s'.statics t'.variables t'.frames p
@@ -190,28 +190,28 @@ module _ (unit : SourceUnit) (classes : Classes) (in_use : BuffersInUse) (k : �
         owned = stands.owned;
       }))
 
-  pub completed_lands : IsKept → (made : List Object) (s' : Shared) (t' : Thread) (given : CallResult) (get : _) → IsNoTest target → t'.variables ≡ t.variables → references_of t'.frames ≡ references_of t.frames → s'.statics ≡ s.statics → Simple (prototype f).result given → ResultGoes target (prototype f).result get (GoesOn rest) p
-      → LandsBy weak (Calls line target f args) (length t.frames) own s'.statics (completed unit classes in_use k s t line target f args rest made s' t' given)
-  completed_lands left made s' t' given get away vs fs ss simple h =
+  pub completed_lands : (made : List Object) (s' : Shared) (t' : Thread) (given : CallResult) (get : _) → IsNoTest target → t'.variables ≡ t.variables → references_of t'.frames ≡ references_of t.frames → s'.statics ≡ s.statics → Simple (prototype f).result given → ResultGoes target (prototype f).result get (GoesOn rest) p
+      → LandsBy weak (after_answer target a args (length t.frames) own) s'.statics (completed unit classes in_use k s t line target f args rest made s' t' given)
+  completed_lands made s' t' given get away vs fs ss simple h =
       let shared : Shared = record s' { heap = s'.heap ++ made } in
-      put_by weak line f args (length t.frames) own own target (λ y other. left y) given s'.statics shared _
+      put_by weak target (after_answer target a args (length t.frames) own) (left_by a args (length t.frames) own) own (λ vs. refl) (λ y other. left y) s'.statics target given shared _
       (subst (λ (r : Thread). Lands weak own s'.statics (put target given shared r)) (sym (resumed_is t' line rest target (address_given args 1) (prototype f).result given away simple))
       (result_lands unit classes in_use k shared t' rest p (stands_again s' t' vs fs ss) target (prototype f).result given get simple h))
 
   -- such a call leads to a point again
-  pub quiet_lands : IsKept → (get : _) (e : CallEffect) → IsNoTest target → Goes weak own s.statics t t.tasks → ((prototype f).result ≡ NewLocal → HasFrame t.frames) → IsQuiet s t (prototype f).result e → ResultGoes target (prototype f).result get (GoesOn rest) p
-      → LandsBy weak (Calls line target f args) (length t.frames) own s.statics (after_call unit classes in_use k s t line target f args rest e)
-  quiet_lands left get (Throws c) away whole room quiet h = completed_lands left (fresh_object classes c ∷ []) s (record t { pending = Some (next_name s.heap) }) (failure (prototype f).result) get away refl refl refl quiet h
-  quiet_lands left get (Halts trap) away whole room quiet h = (whole, λ x r e. (r, e))
-  quiet_lands left get (Enters function arguments) away whole room quiet h = absurd quiet
-  quiet_lands left get (Leaves made s' t' given) away whole room quiet h =
-      subst (λ (ss : Statics). LandsBy weak (Calls line target f args) (length t.frames) own ss (completed unit classes in_use k s t line target f args rest made s' t' given)) quiet.2
-      (given_lands unit classes in_use k s t line target f args rest p own left (prototype f).result made s' t' given get refl away (λ e. frame_again t'.frames t.frames quiet.1 (room e)) (stands_again s' t' quiet.0 quiet.1 quiet.2) quiet.3 h)
+  pub quiet_lands : (get : _) (e : CallEffect) → IsNoTest target → Goes weak own s.statics t t.tasks → ((prototype f).result ≡ NewLocal → HasFrame t.frames) → IsQuiet s t (prototype f).result e → ResultGoes target (prototype f).result get (GoesOn rest) p
+      → EffectLands (after_call unit classes in_use k s t line target f args rest e)
+  quiet_lands get (Throws c) away whole room quiet h = completed_lands (fresh_object classes c ∷ []) s (record t { pending = Some (next_name s.heap) }) (failure (prototype f).result) get away refl refl refl quiet h
+  quiet_lands get (Halts trap) away whole room quiet h = (whole, λ x r e. (r, e))
+  quiet_lands get (Enters function arguments) away whole room quiet h = absurd quiet
+  quiet_lands get (Leaves made s' t' given) away whole room quiet h =
+      subst (λ (ss : Statics). LandsBy weak (after_answer target a args (length t.frames) own) ss (completed unit classes in_use k s t line target f args rest made s' t' given)) quiet.2
+      (given_lands unit classes in_use k s t line target f args rest p own a left (prototype f).result made s' t' given get refl away (λ e. frame_again t'.frames t.frames quiet.1 (room e)) (stands_again s' t' quiet.0 quiet.1 quiet.2) quiet.3 h)
 
   -- and so does one whose allocation is refused, if it has one
-  pub refused_lands : IsKept → (get : _) (makes : Bool) → IsNoTest target → Simple (prototype f).result (failure (prototype f).result) → ResultGoes target (prototype f).result get (GoesOn rest) p
-      → LandsByIfPossible weak (Calls line target f args) (length t.frames) own s.statics (after_refusal unit classes in_use k s t line target f args rest makes)
-  refused_lands left get true away simple h =
-      by_if_possible weak (Calls line target f args) (length t.frames) own s.statics (completed unit classes in_use k s t line target f args rest [] s (record t { pending = Some (out_of_memory classes) }) (failure (prototype f).result))
-      (completed_lands left [] s (record t { pending = Some (out_of_memory classes) }) (failure (prototype f).result) get away refl refl refl simple h)
-  refused_lands left get false away simple h = tt
+  pub refused_lands : (get : _) (makes : Bool) → IsNoTest target → Simple (prototype f).result (failure (prototype f).result) → ResultGoes target (prototype f).result get (GoesOn rest) p
+      → LandsByIfPossible weak (after_answer target a args (length t.frames) own) s.statics (after_refusal unit classes in_use k s t line target f args rest makes)
+  refused_lands get true away simple h =
+      by_if_possible weak _ s.statics (completed unit classes in_use k s t line target f args rest [] s (record t { pending = Some (out_of_memory classes) }) (failure (prototype f).result))
+      (completed_lands [] s (record t { pending = Some (out_of_memory classes) }) (failure (prototype f).result) get away refl refl refl simple h)
+  refused_lands get false away simple h = tt

@@ -1,5 +1,5 @@
 -- The step of a plain call keeps what holds of its thread, and is possible.
-use Rattle.std.proofs.Common.{◌≡◌, ℕ, true, false, List, [], ◌∷◌, map, Option, Some, None, refl, subst, length}
+use Rattle.std.proofs.Common.{◌≡◌, ℕ, false, List, [], ◌∷◌, map, Option, Some, None, refl, subst, length}
 use Rattle.std.specs.Prelude.{slice_get}
 use Rattle.base.specs.declared.element.ElementType.{ElementType}
 use Rattle.class_rules.specs.Class.{Classes}
@@ -7,11 +7,13 @@ use Rattle.jni.specs.declared.access.Access.{Access}
 use Rattle.jni.specs.declared.function.JniFunction.TheVariants as functions
 use Rattle.jni.specs.declared.function.JniFunction.{JniFunction}
 use Rattle.jni.specs.declared.function.JniFunction.TheVariants.{PushLocalFrame}
-use Rattle.jni.specs.JniFunction.{is_allowed_pending, parameters_for, prototype}
+use Rattle.jni.specs.JniFunction.{prototype}
 use Rattle.jni.specs.declared.kinds.ResultKind.{ResultKind}
 use Rattle.jni.specs.declared.kinds.ResultKind.TheVariants.{NewLocal}
+use Rattle.semantics.specs.Answer.{Answer}
 use Rattle.semantics.specs.Arguments.{Actual}
-use Rattle.semantics.specs.CallStep.{trap_of_call, target_element, checked, after_call, call_step}
+use Rattle.semantics.specs.CallEffects.{CallEffect}
+use Rattle.semantics.specs.CallStep.{trap_of_call, target_element, checked}
 use Rattle.semantics.specs.AnswerTable.{call_effect}
 use Rattle.semantics.specs.CallSight.{is_full, sight_of_call}
 use Rattle.semantics.specs.Checks.{frames_after, lacks_room, trap_of}
@@ -20,20 +22,19 @@ use Rattle.region_rules.specs.RegionStates as states
 use Rattle.region_rules.specs.RegionStates.{RegionState, get_of}
 use Rattle.semantics.specs.Task.{Task, Target, Declared, Assigned, Tested, Dropped, Operand, Invoke}
 use Rattle.semantics.specs.Thread.{Frame, Thread, Shared, BuffersInUse}
-use Rattle.semantics.specs.Effect.{Calls}
 use Rattle.base.specs.Bytes.{Identifier}
 use Rattle.syntax.specs.Tree.{SourceUnit}
 use Rattle.semantics.proofs.CheckLaws.{passed}
-use Rattle.semantics.proofs.AnswerKinds.{Quiet, call_kind}
-use Rattle.semantics_safety.proofs.OwnerLaws.{LandsBy, LandsByIfPossible}
-use Rattle.semantics_safety.specs.Owners.{Owners, left_by}
+use Rattle.semantics.proofs.AnswerKinds.{Quiet, answers_as, call_kind}
+use Rattle.semantics_safety.proofs.OwnerLaws.{AnswerLands, CallLands, RefusedLands, none_ended}
+use Rattle.semantics_safety.specs.Owners.{Owners, answer_to, left_by}
 use Rattle.semantics_safety.specs.Points.{Point}
 use Rattle.semantics_safety.specs.Stands.{Goes, Stands}
 use Rattle.semantics_safety.specs.Wanted.{Runs, ResultGoes, GoesOn, call_seen, operand_argument, at}
 use Rattle.semantics_safety.specs.WeakNames.{WeakNames}
 use Rattle.semantics_safety.proofs.QuietCalls.{effect_quiet, fails_simply}
 use Rattle.semantics_safety.proofs.FrameLaws.{HasFrame}
-use Rattle.semantics_safety.proofs.QuietLaws.{IsNoTest, IsPlain, free_call, plain_free, quiet_lands, refused_lands, free_owners}
+use Rattle.semantics_safety.proofs.QuietLaws.{IsNoTest, IsPlain, free_call, plain_ended, plain_free, quiet_lands, refused_lands}
 use Rattle.semantics_safety.proofs.LevelLaws.{frames_stay}
 
 plain_no_push : (f : JniFunction) → IsPlain (call_kind f) → f ≡ PushLocalFrame → ⊥
@@ -59,43 +60,45 @@ module _ (unit : SourceUnit) (classes : Classes) (in_use : BuffersInUse) (k : �
       → ResultGoes target (prototype f).result (get_of (call_seen f operands)) (GoesOn rest) p
   goes_at target operands h = subst (λ (regions : RegionState). ResultGoes target (prototype f).result (get_of (call_seen f operands)) (GoesOn rest) (at p regions)) (free_call f p.regions (map operand_argument operands) (plain_free (call_kind f) plain)) h
 
-  left : (y : Identifier) → own y ≡ left_by f args (length t.frames) own y
-  left y = free_owners f args (length t.frames) own (plain_free (call_kind f) plain) y
+  -- what the call answers
+  abbrev answer : Answer
+  answer = answer_to unit classes k s t f args
+
+  left : (y : Identifier) → own y ≡ left_by answer args (length t.frames) own y
+  left y = none_ended (call_kind f) (plain_ended (call_kind f) plain) (answers_as unit classes k (sight_of_call s t f args) f) args (length t.frames) own y
 
   room : (target : Target) → trap_of_call classes s t target f args ≡ None → (prototype f).result ≡ NewLocal → HasFrame t.frames
   room target none is = has_frame t.frames (subst (λ (frames : List Frame). is_full (slice_get frames 0) ≡ false) (frames_stay f t.frames (plain_free (call_kind f) plain)) (has_room classes s t (target_element t.variables target) f args none is))
 
-  -- the call's effect leads to a point
-  abbrev EffectLands : Target → Type 0
-  EffectLands target = LandsBy weak (Calls line target f args) (length t.frames) own s.statics (after_call unit classes in_use k s t line target f args rest (call_effect unit classes in_use k s t args f))
+  abbrev EffectLands : Target → CallEffect → Type 0
+  EffectLands target e = AnswerLands unit classes in_use k s t line rest weak own target f args answer e
 
-  by_trap : (target : Target) → (((prototype f).result ≡ NewLocal → HasFrame t.frames) → EffectLands target) → (o : Option Trap) → trap_of_call classes s t target f args ≡ o
-      → LandsBy weak (Calls line target f args) (length t.frames) own s.statics (after_call unit classes in_use k s t line target f args rest (checked o (call_effect unit classes in_use k s t args f)))
+  by_trap : (target : Target) → (((prototype f).result ≡ NewLocal → HasFrame t.frames) → EffectLands target (call_effect unit classes in_use k s t args f)) → (o : Option Trap) → trap_of_call classes s t target f args ≡ o → EffectLands target (checked o (call_effect unit classes in_use k s t args f))
   by_trap target lands None e = lands (room target e)
   by_trap target lands (Some trap) e = (whole, λ x r g. (r, g))
 
   -- where it does, so does the call's step, unmarked
   pub plain_call_lands : (target : Target) (operands : List Operand)
-      → ((get : Option (Access × Option Identifier)) → IsNoTest target → ((prototype f).result ≡ NewLocal → HasFrame t.frames) → ResultGoes target (prototype f).result get (GoesOn rest) p → EffectLands target)
-      → Runs (Invoke line target f operands) (GoesOn rest) p → LandsBy weak (Calls line target f args) (length t.frames) own s.statics (call_step unit classes in_use k s t line target f args rest false)
+      → ((get : Option (Access × Option Identifier)) → IsNoTest target → ((prototype f).result ≡ NewLocal → HasFrame t.frames) → ResultGoes target (prototype f).result get (GoesOn rest) p → EffectLands target (call_effect unit classes in_use k s t args f))
+      → Runs (Invoke line target f operands) (GoesOn rest) p → CallLands unit classes in_use k s t line rest weak own target f args
   plain_call_lands (Tested a b) operands lands r = absurd (plain_no_push f plain r.1)
   plain_call_lands (Declared kind x) operands lands r = by_trap (Declared kind x) (λ room. lands (get_of (call_seen f operands)) tt room (goes_at (Declared kind x) operands r.2)) (trap_of_call classes s t (Declared kind x) f args) refl
   plain_call_lands (Assigned x) operands lands r = by_trap (Assigned x) (λ room. lands (get_of (call_seen f operands)) tt room (goes_at (Assigned x) operands r.2)) (trap_of_call classes s t (Assigned x) f args) refl
   plain_call_lands Dropped operands lands r = by_trap Dropped (λ room. lands (get_of (call_seen f operands)) tt room (goes_at Dropped operands r.2)) (trap_of_call classes s t Dropped f args) refl
 
   -- the step of a quiet call, unmarked
-  pub call_lands : call_kind f ≡ Quiet → (target : Target) (operands : List Operand) → Runs (Invoke line target f operands) (GoesOn rest) p → LandsBy weak (Calls line target f args) (length t.frames) own s.statics (call_step unit classes in_use k s t line target f args rest false)
+  pub call_lands : call_kind f ≡ Quiet → (target : Target) (operands : List Operand) → Runs (Invoke line target f operands) (GoesOn rest) p → CallLands unit classes in_use k s t line rest weak own target f args
   call_lands quiet target operands runs =
       plain_call_lands target operands (λ get away room goes.
-      quiet_lands unit classes in_use k s t line target f args rest p stands left get (call_effect unit classes in_use k s t args f) away whole room
+      quiet_lands unit classes in_use k s t line target f args rest p stands answer left get (call_effect unit classes in_use k s t args f) away whole room
       (effect_quiet unit classes in_use k s t args f quiet) goes) runs
 
   refused_at : (target : Target) (operands : List Operand) → IsNoTest target → ResultGoes target (prototype f).result (get_of (call_seen f operands)) (GoesOn rest) p
-      → LandsByIfPossible weak (Calls line target f args) (length t.frames) own s.statics (call_step unit classes in_use k s t line target f args rest true)
-  refused_at target operands away h = refused_lands unit classes in_use k s t line target f args rest p stands left (get_of (call_seen f operands)) _ away (fails_simply f plain) h
+      → RefusedLands unit classes in_use k s t line rest weak own target f args
+  refused_at target operands away h = refused_lands unit classes in_use k s t line target f args rest p stands answer left (get_of (call_seen f operands)) _ away (fails_simply f plain) h
 
   -- and any, marked as refused
-  pub refused_call_lands : (target : Target) (operands : List Operand) → Runs (Invoke line target f operands) (GoesOn rest) p → LandsByIfPossible weak (Calls line target f args) (length t.frames) own s.statics (call_step unit classes in_use k s t line target f args rest true)
+  pub refused_call_lands : (target : Target) (operands : List Operand) → Runs (Invoke line target f operands) (GoesOn rest) p → RefusedLands unit classes in_use k s t line rest weak own target f args
   refused_call_lands (Tested a b) operands r = absurd (plain_no_push f plain r.1)
   refused_call_lands (Declared kind x) operands r = refused_at (Declared kind x) operands tt (goes_at (Declared kind x) operands r.2)
   refused_call_lands (Assigned x) operands r = refused_at (Assigned x) operands tt (goes_at (Assigned x) operands r.2)

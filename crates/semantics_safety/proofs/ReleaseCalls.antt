@@ -22,21 +22,20 @@ use Rattle.jni.specs.Prototype.{release_mode}
 use Rattle.type_rules.specs.ExprTypes.{type_in}
 use Rattle.region_rules.specs.RegionStates as states
 use Rattle.region_rules.specs.RegionStates.{VariableState, Free, Usable, BufferIn, state_of, with_changed, made_free, has_commit}
-use Rattle.semantics.specs.Answer.{Answer, effect_of, with_copied_back}
+use Rattle.semantics.specs.Answer.{Answer, effect_of, with_copied_back, CopiesBack, Frees}
 use Rattle.semantics.specs.Arguments.{Actual, look_up, actuals, object_given, mode_given, mode_in_actual}
 use Rattle.semantics.specs.CallEffects.{Leaves, NoResult, with_freed, freed}
 use Rattle.semantics.specs.AnswerTable.{call_effect}
 use Rattle.semantics.specs.CallSight.{sight_of_call}
-use Rattle.semantics.specs.CallStep.{trap_of_call, checked, after_call, call_step}
+use Rattle.semantics.specs.CallStep.{trap_of_call, checked, after_call}
 use Rattle.semantics.specs.Task.{Task, Target, Declared, Assigned, Tested, Dropped, Operand, Given, Invoke}
 use Rattle.semantics.specs.Thread.{Thread, Shared, BuffersInUse, sight_of}
 use Rattle.semantics.specs.declared.trap.Trap.{Trap}
 use Rattle.semantics.specs.Variable.{Variable, Elements, Buffer, NoBuffer, Variables, Statics, assign, change, LocalRef}
-use Rattle.semantics.specs.Effect.{Calls}
 use Rattle.semantics.proofs.AnswerFacts.{frees_in}
 use Rattle.semantics.proofs.AnswerKinds.{AnswersAs, CopyingBack, Freeing, Halting, ReleasesBuffer, answers_as}
-use Rattle.semantics_safety.proofs.OwnerLaws.{LandsBy}
-use Rattle.semantics_safety.specs.Owners.{Owners}
+use Rattle.semantics_safety.proofs.OwnerLaws.{AnswerLands, CallLands}
+use Rattle.semantics_safety.specs.Owners.{Owners, after_answer, left_by, answer_to}
 use Rattle.semantics_safety.specs.Points.{Point, OperandsFit, is_copy}
 use Rattle.semantics_safety.specs.Stands.{VariableFits, Shows, Goes, Stands}
 use Rattle.semantics_safety.specs.Wanted.{Runs, ResultGoes, GoesOn, CallKeeps, operand_argument, call_seen, at}
@@ -47,7 +46,7 @@ use Rattle.semantics_safety.proofs.PointLaws.{owners_kept, free_owns}
 use Rattle.semantics_safety.proofs.QuietLaws.{Plainly, IsNoTest, given_lands}
 use Rattle.semantics_safety.proofs.ResultLaws.{NoResultThere}
 use Rattle.semantics_safety.proofs.SetLaws.{once_changed, owners_same, stands_at}
-use Rattle.semantics_safety.proofs.StepLaws.{apart_buffer, type_of_buffer, buffer_no_copy}
+use Rattle.semantics_safety.proofs.StepLaws.{LandsBy, apart_buffer, type_of_buffer, buffer_no_copy}
 
 null_buffer : (v u : _) (b : Buffer) → Elements v NoBuffer ≡ Elements u b → b ≡ NoBuffer
 null_buffer v u b e = cc
@@ -95,19 +94,27 @@ module _ (unit : SourceUnit) (classes : Classes) (in_use : BuffersInUse) (k : �
       let shown = stands.shows x (BufferIn (Usable access a)) e in
       subst (λ (vs : Variables). Stands weak own s.statics vs t.frames (freed_point x)) (sym (changed_is x freed (Elements shown.0 shown.1) t.variables shown.2)) (stands_free x access a shown.0 shown.1 e shown.2)
 
-  module _ (access : Access) (a x : Identifier) (usable : state_of p.regions x ≡ Some (BufferIn (Usable access a))) (target : Target) (away : IsNoTest target) (args : List Actual) (get : _) where
+  module _ (access : Access) (a x : Identifier) (usable : state_of p.regions x ≡ Some (BufferIn (Usable access a))) (target : Target) (away : IsNoTest target) (args : List Actual) (get : Option (Access × Option Identifier)) where
+    -- an answer that ends no reference, and leaves the statics as they were
+    abbrev Answered : Answer → Shared → Type 0
+    Answered answer s' = ((y : Identifier) → own y ≡ left_by answer args (length t.frames) own y) × (s'.statics ≡ s.statics)
+
+    abbrev Lands : Answer → Shared → Thread → Type 0
+    Lands answer s' t' = AnswerLands unit classes in_use k s t line rest weak own target (ReleaseBuffer access) args answer (Leaves [] s' t' NoResult)
+
+    released_lands : (answer : Answer) (s' : Shared) (t' : Thread) (q : Point) → Answered answer s' → Stands weak own s.statics t'.variables t'.frames q → ResultGoes target GivesNothing get (GoesOn rest) q → Lands answer s' t'
+    released_lands answer s' t' q (left, same) there goes =
+        subst (λ (ss : Statics). LandsBy weak (after_answer target answer args (length t.frames) own) ss (after_call unit classes in_use k s t line target (ReleaseBuffer access) args rest (Leaves [] s' t' NoResult))) same
+        (given_lands unit classes in_use k s t line target (ReleaseBuffer access) args rest q own answer left GivesNothing [] s' t' NoResult get refl away (λ c. absurd (cc))
+        (subst (λ (ss : Statics). Stands weak own ss t'.variables t'.frames q) (sym same) there) (Plainly NoResultThere) goes)
+
     -- with the buffer given up
-    freed_lands : (s' : Shared) → s'.statics ≡ s.statics → ResultGoes target GivesNothing get (GoesOn rest) (freed_point x) → LandsBy weak (Calls line target (ReleaseBuffer access) args) (length t.frames) own s.statics (after_call unit classes in_use k s t line target (ReleaseBuffer access) args rest (Leaves [] s' (with_freed t x) NoResult))
-    freed_lands s' same goes =
-        subst (λ (ss : Statics). LandsBy weak (Calls line target (ReleaseBuffer access) args) (length t.frames) own ss (after_call unit classes in_use k s t line target (ReleaseBuffer access) args rest (Leaves [] s' (with_freed t x) NoResult))) same
-        (given_lands unit classes in_use k s t line target (ReleaseBuffer access) args rest (freed_point x) own (λ y. refl) GivesNothing [] s' (with_freed t x) NoResult get refl away (λ c. absurd (cc))
-        (subst (λ (ss : Statics). Stands weak own ss (change x freed t.variables) t.frames (freed_point x)) (sym same) (stands_freed x access a usable)) (Plainly NoResultThere) goes)
+    freed_lands : (answer : Answer) (s' : Shared) → Answered answer s' → ResultGoes target GivesNothing get (GoesOn rest) (freed_point x) → Lands answer s' (with_freed t x)
+    freed_lands answer s' is goes = released_lands answer s' (with_freed t x) (freed_point x) is (stands_freed x access a usable) goes
 
     -- with the buffer kept
-    kept_lands : (s' : Shared) → s'.statics ≡ s.statics → ResultGoes target GivesNothing get (GoesOn rest) p → LandsBy weak (Calls line target (ReleaseBuffer access) args) (length t.frames) own s.statics (after_call unit classes in_use k s t line target (ReleaseBuffer access) args rest (Leaves [] s' t NoResult))
-    kept_lands s' same goes =
-        subst (λ (ss : Statics). LandsBy weak (Calls line target (ReleaseBuffer access) args) (length t.frames) own ss (after_call unit classes in_use k s t line target (ReleaseBuffer access) args rest (Leaves [] s' t NoResult))) same
-        (given_lands unit classes in_use k s t line target (ReleaseBuffer access) args rest p own (λ y. refl) GivesNothing [] s' t NoResult get refl away (λ c. absurd (cc)) (subst (λ (ss : Statics). Stands weak own ss t.variables t.frames p) (sym same) stands) (Plainly NoResultThere) goes)
+    kept_lands : (answer : Answer) (s' : Shared) → Answered answer s' → ResultGoes target GivesNothing get (GoesOn rest) p → Lands answer s' t
+    kept_lands answer s' is goes = released_lands answer s' t p is stands goes
 
   -- the point after a release, by whether it commits
   abbrev released_point : Bool → Identifier → Point
@@ -153,24 +160,24 @@ module _ (unit : SourceUnit) (classes : Classes) (in_use : BuffersInUse) (k : �
 
     released : {kind : ResultKind} {answer : Answer} (access : Access) → state_of p.regions x ≡ Some (BufferIn (Usable access a)) → (has_commit (map operand_argument modes) ≡ true → is_critical access ≡ false) → OperandsFit p (release_mode access) modes
         → AnswersAs unit classes (sight_of_call s t (ReleaseBuffer access) (given_to access a x modes)) (ReleaseBuffer access) (ReleasesBuffer access) kind answer
-        → LandsBy weak (Calls line target (ReleaseBuffer access) (given_to access a x modes)) (length t.frames) own s.statics (after_call unit classes in_use k s t line target (ReleaseBuffer access) (given_to access a x modes) rest (effect_of classes in_use k s t (given_to access a x modes) answer))
+        → AnswerLands unit classes in_use k s t line rest weak own target (ReleaseBuffer access) (given_to access a x modes) answer (effect_of classes in_use k s t (given_to access a x modes) answer)
     unfolding effect_of
     released access usable commits fit (CopyingBack T true of mode) =
-        freed_lands access a x usable target away (given_to access a x modes) get (record s { heap = with_copied_back t.variables x (object_given (given_to access a x modes) 0) s.heap }) refl (goes_by false (committed T a x modes fit true mode))
+        freed_lands access a x usable target away (given_to access a x modes) get (CopiesBack (object_given (given_to access a x modes) 0) 1 true) (record s { heap = with_copied_back t.variables x (object_given (given_to access a x modes) 0) s.heap }) ((λ y. refl), refl) (goes_by false (committed T a x modes fit true mode))
     released access usable commits fit (CopyingBack T false of mode) =
-        kept_lands access a x usable target away (given_to access a x modes) get (record s { heap = with_copied_back t.variables x (object_given (given_to access a x modes) 0) s.heap }) refl (goes_by true (committed T a x modes fit false mode))
-    released access usable commits fit (Freeing mode) = freed_lands access a x usable target away (given_to access a x modes) get s refl (goes_by false (uncommitted access a x modes fit commits mode))
+        kept_lands access a x usable target away (given_to access a x modes) get (CopiesBack (object_given (given_to access a x modes) 0) 1 false) (record s { heap = with_copied_back t.variables x (object_given (given_to access a x modes) 0) s.heap }) ((λ y. refl), refl) (goes_by true (committed T a x modes fit false mode))
+    released access usable commits fit (Freeing mode) = freed_lands access a x usable target away (given_to access a x modes) get (Frees 1) s ((λ y. refl), refl) (goes_by false (uncommitted access a x modes fit commits mode))
     released access usable commits fit (Halting trap) = (whole, λ y r g. (r, g))
 
     released_at : (access : Access) (o : Option Trap) → state_of p.regions x ≡ Some (BufferIn (Usable access a)) → (has_commit (map operand_argument modes) ≡ true → is_critical access ≡ false) → OperandsFit p (release_mode access) modes
-        → LandsBy weak (Calls line target (ReleaseBuffer access) (given_to access a x modes)) (length t.frames) own s.statics (after_call unit classes in_use k s t line target (ReleaseBuffer access) (given_to access a x modes) rest (checked o (call_effect unit classes in_use k s t (given_to access a x modes) (ReleaseBuffer access))))
+        → AnswerLands unit classes in_use k s t line rest weak own target (ReleaseBuffer access) (given_to access a x modes) (answer_to unit classes k s t (ReleaseBuffer access) (given_to access a x modes)) (checked o (call_effect unit classes in_use k s t (given_to access a x modes) (ReleaseBuffer access)))
     released_at access None usable commits fit =
         (released access usable commits fit (answers_as unit classes k (sight_of_call s t (ReleaseBuffer access) (given_to access a x modes)) (ReleaseBuffer access)))
     released_at access (Some trap) usable commits fit = (whole, λ y r g. (r, g))
 
   release_operands : (access : Access) (target : Target) (operands : List Operand) → IsNoTest target → CallKeeps p (ReleaseBuffer access) (map operand_argument operands) → OperandsFit p (prototype (ReleaseBuffer access)).parameters operands
       → ResultGoes target GivesNothing None (GoesOn rest) (at p (states.after_call p.regions (call_seen (ReleaseBuffer access) operands)))
-      → LandsBy weak (Calls line target (ReleaseBuffer access) (actuals (sight_of s t) (ReleaseBuffer access) operands)) (length t.frames) own s.statics (call_step unit classes in_use k s t line target (ReleaseBuffer access) (actuals (sight_of s t) (ReleaseBuffer access) operands) rest false)
+      → CallLands unit classes in_use k s t line rest weak own target (ReleaseBuffer access) (actuals (sight_of s t) (ReleaseBuffer access) operands)
   release_operands access target (Given (tree.Value (tree.Variable a)) ∷ Given (tree.Value (tree.Variable x)) ∷ modes) away (usable, commits) fit goes =
       released_at a x modes target away None goes access (trap_of_call classes s t target (ReleaseBuffer access) (given_to access a x modes)) usable commits fit.1.1
   release_operands access target operands away rules fit goes = absurd rules
@@ -184,7 +191,7 @@ module _ (unit : SourceUnit) (classes : Classes) (in_use : BuffersInUse) (k : �
 
   -- the calls that release a buffer
   pub release_lands : (access : Access) (target : Target) (operands : List Operand) → Runs (Invoke line target (ReleaseBuffer access) operands) (GoesOn rest) p
-      → LandsBy weak (Calls line target (ReleaseBuffer access) (actuals (sight_of s t) (ReleaseBuffer access) operands)) (length t.frames) own s.statics (call_step unit classes in_use k s t line target (ReleaseBuffer access) (actuals (sight_of s t) (ReleaseBuffer access) operands) rest false)
+      → CallLands unit classes in_use k s t line rest weak own target (ReleaseBuffer access) (actuals (sight_of s t) (ReleaseBuffer access) operands)
   release_lands access (Tested a b) operands r = absurd (no_push access r.1)
   release_lands access (Declared kind x) operands r = release_operands access (Declared kind x) operands tt r.0.rules (own_types access operands r.0.types) r.2
   release_lands access (Assigned x) operands r = release_operands access (Assigned x) operands tt r.0.rules (own_types access operands r.0.types) r.2

@@ -1,38 +1,36 @@
 -- A return into a caller leads to the point from which the caller goes on, and other returns to the end of the thread's call.
-use Rattle.std.proofs.Common.{◌≡◌, ℕ, pos, Bool, true, false, List, [], ◌∷◌, ◌++◌, length, flat_map, Option, Some, None, refl, sym, ap, ◌∙◌, subst, if◌then◌else◌}
+use Rattle.std.proofs.Common.{◌≡◌, ℕ, pos, Bool, true, List, [], ◌∷◌, ◌++◌, flat_map, Some, None, refl, sym, ap, ◌∙◌, subst, if◌then◌else◌}
 use Rattle.std.specs.Prelude.{IsTrue}
 use Rattle.std.specs.List.{AllZip}
 use Rattle.std.proofs.lemmas.List.Concat.{flat_map-cons}
-use Rattle.base.specs.Bytes.{Identifier, lookup}
 use Rattle.syntax.specs.Tree.{SourceUnit}
 use Rattle.class_rules.specs.Class.{Classes}
-use Rattle.jni.specs.declared.function.JniFunction.TheVariants.{ExceptionClear}
 use Rattle.jni.specs.declared.kinds.ResultKind.{ResultKind}
 use Rattle.jni.specs.declared.kinds.ResultKind.TheVariants.{NewLocal, NewGlobal, NewWeak, GivesFlag, GivesInt, GivesField, GivesMethod, GivesNothing, GivesBuffer}
 use Rattle.semantics.specs.Object.{Reference}
 use Rattle.semantics.specs.World.{Invocation}
 use Rattle.semantics.specs.CallEffects.{CallResult, NoResult, NullResult, ScalarResult, ReferenceResult, WeakResult, FieldResult, MethodResult, BufferResult, with_local}
-use Rattle.semantics.specs.CallStep.{blank, filled, put, put_assigned, received}
+use Rattle.semantics.specs.CallStep.{put, received}
 use Rattle.semantics.specs.Heap.{Heap}
 use Rattle.semantics.specs.Return.{ending_after, calls_after, fitted, given_back, resumed_in, return_into}
 use Rattle.semantics.specs.Step.{is_unfinished}
-use Rattle.semantics.specs.Task.{Target, Declared, Assigned, Tested, Dropped}
-use Rattle.semantics.specs.Thread.{Frame, Caller, Thread, Shared, BuffersInUse, Advance, Advances, NoAdvance, objects_viewed}
+use Rattle.semantics.specs.Task.{Target}
+use Rattle.semantics.specs.Thread.{Frame, Caller, Thread, Shared, BuffersInUse, Advance, objects_viewed}
 use Rattle.semantics.specs.Value.{Word, Int, Flag, Truth}
-use Rattle.semantics.specs.Variable.{Variable, StaticReference, Statics, assign}
-use Rattle.semantics_safety.specs.Owners.{Owners, is_target, with_result}
-use Rattle.semantics_safety.specs.Stands.{CallerStands, Goes, Stands}
+use Rattle.semantics.specs.Variable.{Statics}
+use Rattle.semantics_safety.specs.Owners.{Owners, with_result}
+use Rattle.semantics_safety.specs.Stands.{CallerStands, Stands}
 use Rattle.semantics_safety.specs.StepSafe.{IsMethodResult, has_calls}
 use Rattle.semantics_safety.specs.Wanted.{GoesOn, ResultGoes}
 use Rattle.semantics_safety.specs.WeakNames.{WeakNames}
 use Rattle.semantics_safety.proofs.ClauseLaws.{no_views}
 use Rattle.semantics_safety.proofs.FrameLaws.{HasFrame}
-use Rattle.semantics_safety.proofs.OwnerLaws.{assigned_by, quiet_by}
+use Rattle.semantics_safety.proofs.OwnerLaws.{put_by}
 use Rattle.semantics_safety.proofs.QuietLaws.{ALocal, Gives, Plainly, received_is}
 use Rattle.semantics_safety.proofs.QuietSteps.{has_frame}
 use Rattle.semantics_safety.proofs.ReferenceLaws.{local_lands, with_target}
 use Rattle.semantics_safety.proofs.ResultLaws.{AnInt, NoLocal, NoResultThere, NullLocal, result_lands}
-use Rattle.semantics_safety.proofs.StepLaws.{Lands}
+use Rattle.semantics_safety.proofs.StepLaws.{Lands, LandsBy}
 
 -- ---- without a caller
 
@@ -88,22 +86,9 @@ back_gives (Some n) (GivesBuffer access) m given = absurd m
 
 -- ---- into a caller
 
--- a step that leaves the thread so, with a caller's owners once its result is where it goes
+-- a step that leaves the thread at a point, with a caller's owners once its result is where it goes
 abbrev pub LandsBack : WeakNames → Target → Owners → Statics → Advance → Type 0
-LandsBack weak target own ss (Advances s t event) = Goes weak (with_result target own t.variables) s.statics t t.tasks × ((x : Identifier) (r : StaticReference) → lookup x ss ≡ Some r → (q : StaticReference) × (lookup x s.statics ≡ Some q))
-LandsBack weak target own ss NoAdvance = ⊥
-
-module _ (weak : WeakNames) (own new : Owners) where
-  back_assigned : (x : Identifier) → ((y : Identifier) → is_target (Assigned x) y ≡ false → new y ≡ own y) → (given : CallResult) (ss : Statics) (s : Shared) (t : Thread) (o : Option Variable) → Lands weak new ss (put_assigned x given s t o) → LandsBack weak (Assigned x) own ss (put_assigned x given s t o)
-  back_assigned x left given ss s t (Some v) h = assigned_by weak 0 ExceptionClear [] 0 own new x left given ss s t (Some v) h
-  back_assigned x left given ss s t None h = assigned_by weak 0 ExceptionClear [] 0 own new x left given ss s t None h
-
-  -- a result that is put into its target
-  put_back : (target : Target) → ((y : Identifier) → is_target target y ≡ false → new y ≡ own y) → (given : CallResult) (ss : Statics) (s : Shared) (t : Thread) → Lands weak new ss (put target given s t) → LandsBack weak target own ss (put target given s t)
-  put_back (Declared kind x) left given ss s t h = quiet_by weak 0 ExceptionClear [] 0 own new (Declared kind x) left ss s (record t { variables = assign x (filled (blank kind (length t.frames)) given) t.variables }) h
-  put_back (Assigned x) left given ss s t h = back_assigned x left given ss s t (lookup x t.variables) h
-  put_back (Tested a b) left given ss s t h = quiet_by weak 0 ExceptionClear [] 0 own new (Tested a b) left ss s t h
-  put_back Dropped left given ss s t h = quiet_by weak 0 ExceptionClear [] 0 own new Dropped left ss s t h
+LandsBack weak target own ss e = LandsBy weak (λ event. with_result target own) ss e
 
 module _ (unit : SourceUnit) (classes : Classes) (in_use : BuffersInUse) (k : ℕ) (s : Shared) (t : Thread) (c : Caller) (callers : List Caller) {weak : WeakNames} {own : Owners} (stands : CallerStands weak s.statics own c) where
   -- the thread within its caller, its tasks aside
@@ -121,10 +106,11 @@ module _ (unit : SourceUnit) (classes : Classes) (in_use : BuffersInUse) (k : �
   by_kind kind given is (Plainly simple) =
       let goes = subst (λ (r : ResultKind). ResultGoes c.target r None (GoesOn c.tasks) stands.point) is stands.goes in
       subst (λ (u : Thread). LandsBack weak c.target own s.statics (put c.target given s u)) (sym (received_is (resumed_in t c callers) 0 [] kind given simple))
-      (put_back weak own own c.target (λ y e. refl) given s.statics s (resumed_in t c callers)
+      (put_by weak c.target (λ event. with_result c.target own) own own (λ vs. refl) (λ y e. refl) s.statics c.target given s (resumed_in t c callers)
       (result_lands unit classes in_use k s within c.tasks stands.point stands.stands c.target kind given None simple goes))
   by_kind kind given is (ALocal n) =
-      put_back weak own (with_target c.target stands.point.regions.frames own) c.target (λ y e. ap (λ (b : Bool). if b then Some stands.point.regions.frames else own y) e) (ReferenceResult (Some n)) s.statics s _
+      put_by weak c.target (λ event. with_result c.target own) own (with_target c.target stands.point.regions.frames own) (λ vs. refl)
+      (λ y e. ap (λ (b : Bool). if b then Some stands.point.regions.frames else own y) e) s.statics c.target (ReferenceResult (Some n)) s _
       (local_back n c.frames refl (has_frame c.frames (stands.room is)) c.result is stands.goes)
 
   -- a caller goes on from its point

@@ -1,5 +1,5 @@
 -- What holds of each thread before its steps holds after each journal that can be replayed, so each thread's next step is safe.
-use Rattle.std.proofs.Common.{◌≡◌, ℕ, zero, suc, Bool, true, false, ◌&&◌, List, [], ◌∷◌, map, Option, Some, None, refl, sym, ◌∙◌, subst, if◌then◌else◌, ap, ◌+◌, ◌<◌, ◌==◌, length, arith}
+use Rattle.std.proofs.Common.{◌≡◌, ℕ, zero, suc, Bool, true, false, ◌&&◌, List, [], ◌∷◌, map, Option, Some, None, refl, sym, ◌∙◌, subst, if◌then◌else◌, ap, ◌+◌, ◌<◌, ◌==◌, arith}
 use Rattle.std.proofs.lemmas.Bool.Decides.{nat_tests}
 use Rattle.std.specs.Prelude.{IsTrue, find, is_none, not, is_some, slice_get, slice_set}
 use Rattle.std.specs.List.{list_all, AllByRecursion, AllZip}
@@ -36,11 +36,11 @@ use Rattle.semantics.specs.WeakReferences.{may_clear, cleared, cleared_statics, 
 use Rattle.semantics.specs.World.{Invocation, World}
 use Rattle.semantics.proofs.ClearedEffects.{cleared_lookup}
 use Rattle.semantics.proofs.StepLaws.{step-thread}
-use Rattle.semantics.specs.Effect.{Effect, Becomes, Sets, SetsNull, SetsElement, MakesArray, Prints, Calls, Returns, TrapsAt, NoEffect, effect_of}
+use Rattle.semantics.specs.Effect.{Effect, Calls, Returns, effect_of}
 use Rattle.semantics.specs.CallEffects.{CallResult}
 use Rattle.semantics.specs.CallStep.{call_step, calling, received, trap_of_call}
 use Rattle.semantics.specs.Return.{ending_after, calls_after, given_back, resumed_in, return_by, return_into}
-use Rattle.semantics_safety.specs.Owners.{Owners, ThreadOwners, AllOwners, no_owners, no_owner, with_result, after_event, after_invoked, after_return, after_step, after_tasks, after_advance, after_turn, after_entry, with_owners, owners_from, owners_after}
+use Rattle.semantics_safety.specs.Owners.{Owners, ThreadOwners, AllOwners, no_owners, no_owner, with_result, after_effect as owners_within, after_invoked, after_return, after_step, after_tasks, after_advance, after_turn, after_entry, with_owners, owners_from, owners_after}
 use Rattle.semantics_safety.specs.Points.{Point}
 use Rattle.semantics_safety.specs.Stands.{AreCallable, VariableFits, Stands, CallerStands, Goes, IsSound}
 use Rattle.semantics_safety.specs.StepSafe.{IsCallable, has_calls, HasCalls, IsSafe}
@@ -55,7 +55,8 @@ use Rattle.semantics_safety.proofs.CallersKept.{LeavesCallers, callers_left}
 use Rattle.semantics_safety.proofs.KeptMethods.{LeavesCallable, methods_kept}
 use Rattle.semantics_safety.proofs.Pushes.{call_made_loads, call_to, caller_stands, each_call, method_callable, unrefused}
 use Rattle.semantics_safety.proofs.ReturnLaws.{LandsBack, back_gives, callers_viewless, calls_there, return_lands}
-use Rattle.semantics_safety.proofs.OwnerLaws.{LandsBy, LandsByIfPossible}
+use Rattle.semantics_safety.proofs.OwnerLaws.{LandsByIfPossible}
+use Rattle.semantics_safety.proofs.StepLaws.{LandsBy}
 use Rattle.semantics_safety.proofs.RefusedLaws.{marked_step_lands}
 use Rattle.semantics_safety.proofs.StepClauses.{resumable, methods, view, return, references, owned, release, declared, free, taken, possible}
 
@@ -248,27 +249,20 @@ module _ (unit : SourceUnit) (classes : Classes) (first : Statics) (enters : All
   abbrev AllLoad : List Invocation → Type 0
   AllLoad calls = IsTrue (list_all (call_loads unit classes) calls)
 
-  module _ (s : Shared) (t : Thread) (task : Task) (rest : List Task) (own : ThreadOwners) where
+  module _ (k : ℕ) (s : Shared) (t : Thread) (task : Task) (rest : List Task) (own : ThreadOwners) where
     -- the step's effect
     abbrev effect : Effect
     effect = effect_of (sight_of s t) task
 
     -- one that doesn't return leaves the callers' owners
-    kept_owners : (e : Effect) → IsWithin e → (event : Event) (vs : Variables) → after_step t own event e vs ≡ record own { current = after_event event e (length t.frames) own.current vs }
+    kept_owners : (e : Effect) → IsWithin e → (event : Event) (vs : Variables) → after_step unit classes k s t own event e vs ≡ record own { current = owners_within unit classes k s t e own.current event vs }
     kept_owners (Returns given) away event vs = absurd away
-    kept_owners (Becomes tasks) away event vs = refl
-    kept_owners (Sets x v) away event vs = refl
-    kept_owners (SetsNull target) away event vs = refl
-    kept_owners (SetsElement x i z) away event vs = refl
-    kept_owners (MakesArray u x n) away event vs = refl
-    kept_owners (Prints z) away event vs = refl
     kept_owners (Calls line target f args) away event vs =
-        ap (λ (b : Bool). after_invoked b event own (after_event event (Calls line target f args) (length t.frames) own.current vs)) away
-    kept_owners (TrapsAt trap line) away event vs = refl
-    kept_owners NoEffect away event vs = refl
+        ap (λ (b : Bool). after_invoked b event own (owners_within unit classes k s t (Calls line target f args) own.current event vs)) away
+    kept_owners e away event vs = refl
 
     module _ (away : IsWithin effect) (ss : Statics) (callers : AllZip (CallerStands weak ss) own.callers t.callers) (loads : AllLoad t.calls) where
-      lands_on : (refused : Bool) (e : Advance) → LandsBy weak effect (length t.frames) own.current ss e → KeepsCalls (held t) e → PlacedOn refused (after_tasks s t (Some (task ∷ rest)) own) ss e
+      lands_on : (refused : Bool) (e : Advance) → LandsBy weak (owners_within unit classes k s t effect own.current) ss e → KeepsCalls (held t) e → PlacedOn refused (after_tasks unit classes k s t (Some (task ∷ rest)) own) ss e
       lands_on refused (Advances s' t' event) h kept =
           let same_callers : t.callers ≡ t'.callers = ap (λ (x : Held). x.1) (sym kept) in
           let same_calls : t.calls ≡ t'.calls = ap (λ (x : Held). x.0) (sym kept) in (
@@ -281,7 +275,7 @@ module _ (unit : SourceUnit) (classes : Classes) (first : Statics) (enters : All
           )
       lands_on refused NoAdvance h kept = absurd h
 
-      lands_if_possible : (e : Advance) → LandsByIfPossible weak effect (length t.frames) own.current ss e → KeepsCalls (held t) e → PlacedOn true (after_tasks s t (Some (task ∷ rest)) own) ss e
+      lands_if_possible : (e : Advance) → LandsByIfPossible weak (owners_within unit classes k s t effect own.current) ss e → KeepsCalls (held t) e → PlacedOn true (after_tasks unit classes k s t (Some (task ∷ rest)) own) ss e
       lands_if_possible (Advances s' t' event) h kept = lands_on true (Advances s' t' event) h kept
       lands_if_possible NoAdvance h kept = refl
 
@@ -317,7 +311,7 @@ module _ (unit : SourceUnit) (classes : Classes) (first : Statics) (enters : All
   module _ (room : BuffersInUse) (k : ℕ) (s : Shared) (t : Thread) (own : ThreadOwners) (sound : IsSound unit classes own s.statics t) (task : Task) (rest : List Task) (p : Point) (stands : Stands weak own.current s.statics t.variables t.frames p)
       (line : ℕ) (target : Target) (f : JniFunction) (args : List Actual) (method : calls_method f ≡ true) where
     abbrev left_by_call : Event → Variables → ThreadOwners
-    left_by_call event vs = after_step t own event (Calls line target f args) vs
+    left_by_call event vs = after_step unit classes k s t own event (Calls line target f args) vs
 
     trapped : (trap : Trap) → PlacedOn false left_by_call s.statics (Advances s t (Trapped trap line))
     trapped trap =
@@ -333,7 +327,7 @@ module _ (unit : SourceUnit) (classes : Classes) (first : Statics) (enters : All
     pushed operands is runs m none given =
         let callable = method_callable unit classes (sight_of s t) t.variables (λ x. refl) sound.methods f method operands m (subst (λ (l : List Actual). method_given l 1 ≡ Some m) is given) in
         let now : ThreadOwners = record { current = no_owner; callers = own.current ∷ own.callers } in
-        let same : now ≡ left_by_call Quiet [] = ap (λ (b : Bool). after_invoked b Quiet own (after_event Quiet (Calls line target f args) (length t.frames) own.current [])) (sym method) in (
+        let same : now ≡ left_by_call Quiet [] = ap (λ (b : Bool). after_invoked b Quiet own (owners_within unit classes k s t (Calls line target f args) own.current Quiet [])) (sym method) in (
           subst (λ (o : ThreadOwners). Placed unit classes o s.statics (calling unit classes room k s t line target f args rest (call_to unit classes room k s t line target f args rest method m))) same (record {
             goes = (refl, λ e. refl, stands.only);
             callers = (caller_stands classes s t line f args rest p stands method target operands none runs, sound.callers);
@@ -356,60 +350,60 @@ module _ (unit : SourceUnit) (classes : Classes) (first : Statics) (enters : All
       by_test true e later = let same : g ≡ f = cc in subst (Enters weak first) same h.0
       by_test false e later = later e
 
-  module _ (s : Shared) (t : Thread) (own : ThreadOwners) (stay : NamesStay first s.statics) (only : HoldWeakly weak s.statics) (call : Invocation) (calls : List Invocation) (loads : IsTrue (list_all (call_loads unit classes) calls)) (callers : AllZip (CallerStands weak s.statics) own.callers t.callers) where
-    enters_class : (f : Function) (o : Option ℕ) → Enters weak first f → is_some o ≡ true → fit_parameters f.parameters call.arguments ≡ true → PlacedOn false (after_tasks s t None own) s.statics (entry_advance s (option_map (λ c. entered t calls f c call.arguments) o))
+  module _ (k : ℕ) (s : Shared) (t : Thread) (own : ThreadOwners) (stay : NamesStay first s.statics) (only : HoldWeakly weak s.statics) (call : Invocation) (calls : List Invocation) (loads : IsTrue (list_all (call_loads unit classes) calls)) (callers : AllZip (CallerStands weak s.statics) own.callers t.callers) where
+    enters_class : (f : Function) (o : Option ℕ) → Enters weak first f → is_some o ≡ true → fit_parameters f.parameters call.arguments ≡ true → PlacedOn false (after_tasks unit classes k s t None own) s.statics (entry_advance s (option_map (λ c. entered t calls f c call.arguments) o))
     enters_class f None h there fits = absurd (cc)
     enters_class f (Some c) (scope, sees, kinds, once, goes) there fits =
         (record { callers = callers; goes = (entry_point f scope, stands_at_entry weak s.statics scope f c call.arguments (sees_later first s.statics stay scope sees) kinds only fits once, goes); loads = loads }, λ x r e. (r, e))
 
-    enters_function : (o : Option Function) → function_at unit call.function ≡ o → some_passes (is_callable classes call.arguments) o ≡ true → PlacedOn false (after_tasks s t None own) s.statics (entry_advance s (entered_function classes t call calls o))
+    enters_function : (o : Option Function) → function_at unit call.function ≡ o → some_passes (is_callable classes call.arguments) o ≡ true → PlacedOn false (after_tasks unit classes k s t None own) s.statics (entry_advance s (entered_function classes t call calls o))
     enters_function None e h = absurd (cc)
     enters_function (Some f) e h =
         let both = and_parts (is_some (class_of_function classes f)) (fit_parameters f.parameters call.arguments) h in
         enters_class f (class_of_function classes f) (found_enters (functions_of unit) call.function f enters e) both.0 both.1
 
-  entry_steps : (s : Shared) (t : Thread) (own : ThreadOwners) → NamesStay first s.statics → HoldWeakly weak s.statics → AllZip (CallerStands weak s.statics) own.callers t.callers → (calls : List Invocation) → IsTrue (has_calls calls) → IsTrue (list_all (call_loads unit classes) calls) → PlacedOn false (after_tasks s t None own) s.statics (entry_advance s (enter unit classes t calls))
-  entry_steps s t own stay only callers [] has loads = absurd (cc)
-  entry_steps s t own stay only callers (call ∷ calls) has loads =
+  entry_steps : (k : ℕ) (s : Shared) (t : Thread) (own : ThreadOwners) → NamesStay first s.statics → HoldWeakly weak s.statics → AllZip (CallerStands weak s.statics) own.callers t.callers → (calls : List Invocation) → IsTrue (has_calls calls) → IsTrue (list_all (call_loads unit classes) calls) → PlacedOn false (after_tasks unit classes k s t None own) s.statics (entry_advance s (enter unit classes t calls))
+  entry_steps k s t own stay only callers [] has loads = absurd (cc)
+  entry_steps k s t own stay only callers (call ∷ calls) has loads =
       let both = and_parts (call_loads unit classes call) (list_all (call_loads unit classes) calls) loads in
-      enters_function s t own stay only call calls both.1 callers (function_at unit call.function) refl both.0
+      enters_function k s t own stay only call calls both.1 callers (function_at unit call.function) refl both.0
 
   -- ---- a thread's step
 
   module _ (room : BuffersInUse) (k : ℕ) (s : Shared) (t : Thread) (own : ThreadOwners) (stay : NamesStay first s.statics) (live : is_unfinished t.ending ≡ true) (sound : IsSound unit classes own s.statics t) where
     -- a step within the call, by its effect
     module _ (task : Task) (rest : List Task) (p : Point) (stands : Stands weak own.current s.statics t.variables t.frames p) (runs : Runs task (GoesOn rest) p) where
-      unmarked : Path (effect_of (sight_of s t) task) → PlacedOn false (after_tasks s t (Some (task ∷ rest)) own) s.statics (step_within unit classes room k s t false (Some (task ∷ rest)))
+      unmarked : Path (effect_of (sight_of s t) task) → PlacedOn false (after_tasks unit classes k s t (Some (task ∷ rest)) own) s.statics (step_within unit classes room k s t false (Some (task ∷ rest)))
       unmarked (Returning given is) =
-          subst (λ (e : Effect). PlacedOn false (λ event vs. after_step t own event e vs) s.statics (after_effect unit classes room k s t rest e)) (sym is)
+          subst (λ (e : Effect). PlacedOn false (λ event vs. after_step unit classes k s t own event e vs) s.statics (after_effect unit classes room k s t rest e)) (sym is)
           (returned room k s t own sound.loads stands.only given own.callers t.callers refl sound.callers)
       unmarked (Calling line target f args is method) =
-          subst (λ (e : Effect). PlacedOn false (λ event vs. after_step t own event e vs) s.statics (after_effect unit classes room k s t rest e)) (sym is)
+          subst (λ (e : Effect). PlacedOn false (λ event vs. after_step unit classes k s t own event e vs) s.statics (after_effect unit classes room k s t rest e)) (sym is)
           (method_called room k s t own sound task rest p stands line target f args method
           (subst (Follows weak own.current (sight_of s t) s.statics t.variables t.frames p rest) is (effect_follows s.heap s.statics t.variables t.frames p stands rest task runs)))
       unmarked (Within away) =
-          lands_on s t task rest own away s.statics sound.callers sound.loads false (step_within unit classes room k s t false (Some (task ∷ rest)))
+          lands_on k s t task rest own away s.statics sound.callers sound.loads false (step_within unit classes room k s t false (Some (task ∷ rest)))
           (each_step_lands unit classes room k s t task rest p stands runs sound.goes away) (calls_kept unit classes room k s t false task rest away)
 
-      marked : Path (effect_of (sight_of s t) task) → PlacedOn true (after_tasks s t (Some (task ∷ rest)) own) s.statics (step_within unit classes room k s t true (Some (task ∷ rest)))
-      marked (Returning given is) = subst (λ (e : Effect). PlacedOn true (λ event vs. after_step t own event e vs) s.statics (after_refused_effect unit classes room k s t rest e)) (sym is) refl
+      marked : Path (effect_of (sight_of s t) task) → PlacedOn true (after_tasks unit classes k s t (Some (task ∷ rest)) own) s.statics (step_within unit classes room k s t true (Some (task ∷ rest)))
+      marked (Returning given is) = subst (λ (e : Effect). PlacedOn true (λ event vs. after_step unit classes k s t own event e vs) s.statics (after_refused_effect unit classes room k s t rest e)) (sym is) refl
       marked (Calling line target f args is method) =
-          subst (λ (e : Effect). PlacedOn true (λ event vs. after_step t own event e vs) s.statics (after_refused_effect unit classes room k s t rest e)) (sym is)
-          (unrefused unit classes room k s t line target f args rest method (PlacedOn true (λ event vs. after_step t own event (Calls line target f args) vs) s.statics) refl)
+          subst (λ (e : Effect). PlacedOn true (λ event vs. after_step unit classes k s t own event e vs) s.statics (after_refused_effect unit classes room k s t rest e)) (sym is)
+          (unrefused unit classes room k s t line target f args rest method (PlacedOn true (λ event vs. after_step unit classes k s t own event (Calls line target f args) vs) s.statics) refl)
       marked (Within away) =
-          lands_if_possible s t task rest own away s.statics sound.callers sound.loads (step_within unit classes room k s t true (Some (task ∷ rest)))
+          lands_if_possible k s t task rest own away s.statics sound.callers sound.loads (step_within unit classes room k s t true (Some (task ∷ rest)))
           (marked_step_lands unit classes room k s t task rest p stands runs sound.goes) (calls_kept unit classes room k s t true task rest away)
 
-    steps_at : (refused : Bool) (o : Option (List Task)) → Goes weak own.current s.statics t o → PlacedOn refused (after_tasks s t o own) s.statics (step_within unit classes room k s t refused o)
+    steps_at : (refused : Bool) (o : Option (List Task)) → Goes weak own.current s.statics t o → PlacedOn refused (after_tasks unit classes k s t o own) s.statics (step_within unit classes room k s t refused o)
     steps_at true None g = refl
-    steps_at false None g = entry_steps s t own stay g.2 sound.callers t.calls (g.1 live) sound.loads
+    steps_at false None g = entry_steps k s t own stay g.2 sound.callers t.calls (g.1 live) sound.loads
     steps_at refused (Some []) g = absurd (g.2)
     steps_at false (Some (task ∷ rest)) (p, stands, runs) = unmarked task rest p stands runs (path_of (effect_of (sight_of s t) task))
     steps_at true (Some (task ∷ rest)) (p, stands, runs) = marked task rest p stands runs (path_of (effect_of (sight_of s t) task))
 
-    thread_steps : (refused : Bool) → StepsOn refused (after_tasks s t t.tasks own) s.statics (thread_step unit classes room k s t refused)
+    thread_steps : (refused : Bool) → StepsOn refused (after_tasks unit classes k s t t.tasks own) s.statics (thread_step unit classes room k s t refused)
     thread_steps refused =
-        steps_on refused (after_tasks s t t.tasks own) s.statics (thread_step unit classes room k s t refused) (steps_at refused t.tasks sound.goes)
+        steps_on refused (after_tasks unit classes k s t t.tasks own) s.statics (thread_step unit classes room k s t refused) (steps_at refused t.tasks sound.goes)
         (methods_kept unit classes room k s t finds sound.methods sound.below refused t.tasks)
         (callers_left CallerHolds unit classes room k s t sound.below (λ task rest line target f args at is method. sound.methods) refused)
 
@@ -432,17 +426,17 @@ module _ (unit : SourceUnit) (classes : Classes) (first : Statics) (enters : All
   event_running owners s k (PrintedNumber z) h = record { sound = h.sound; stay = h.stay; only = h.only }
   event_running owners s k (Trapped trap line) h = record { sound = h.sound; stay = h.stay; only = h.only }
 
-  advance_running : (owners : AllOwners) (s : State) (k : ℕ) (old : Thread) (refused : Bool) (e : Advance) (next : State) → AreRunning owners s → StepsOn refused (after_tasks s.shared old old.tasks (owners k)) s.shared.statics e → advanced s k e ≡ Some next
-      → AreRunning (with_owners owners k (after_advance s.shared old (owners k) e)) next
+  advance_running : (owners : AllOwners) (s : State) (k : ℕ) (old : Thread) (refused : Bool) (e : Advance) (next : State) → AreRunning owners s → StepsOn refused (after_tasks unit classes k s.shared old old.tasks (owners k)) s.shared.statics e → advanced s k e ≡ Some next
+      → AreRunning (with_owners owners k (after_advance unit classes k s.shared old (owners k) e)) next
   advance_running owners s k old refused NoAdvance next h g e = absurd (cc)
   advance_running owners s k old refused (Advances shared t event) next h g e =
       let same : with_event (record s { shared = shared; threads = set_thread s.threads k t }) k event ≡ next = cc in
-      let now : AllOwners = with_owners owners k (after_tasks s.shared old old.tasks (owners k) event t.variables) in
+      let now : AllOwners = with_owners owners k (after_tasks unit classes k s.shared old old.tasks (owners k) event t.variables) in
       subst (AreRunning now) same
       (event_running now (record s { shared = shared; threads = set_thread s.threads k t }) k event (record {
-        sound = all_put owners shared.statics (after_tasks s.shared old old.tasks (owners k) event t.variables) s.threads k t (all_later owners s.shared.statics shared.statics 1 s.threads g.1 (sound_only (after_tasks s.shared old old.tasks (owners k) event t.variables) shared.statics t g.0) h.sound) g.0;
+        sound = all_put owners shared.statics (after_tasks unit classes k s.shared old old.tasks (owners k) event t.variables) s.threads k t (all_later owners s.shared.statics shared.statics 1 s.threads g.1 (sound_only (after_tasks unit classes k s.shared old old.tasks (owners k) event t.variables) shared.statics t g.0) h.sound) g.0;
         stay = λ x r at. let q = h.stay x r at in g.1 x q.0 q.1;
-        only = sound_only (after_tasks s.shared old old.tasks (owners k) event t.variables) shared.statics t g.0;
+        only = sound_only (after_tasks unit classes k s.shared old old.tasks (owners k) event t.variables) shared.statics t g.0;
       }))
 
   live_thread : (s : State) (k : ℕ) → can_step classes s k ≡ true → is_live (thread_at s k) ≡ true
@@ -489,7 +483,7 @@ module _ (unit : SourceUnit) (classes : Classes) (first : Statics) (enters : All
   step_there : (owners : AllOwners) (s : State) (k : ℕ) (t : Thread) → AreRunning owners s → thread_at s k ≡ Some t → can_step classes s k ≡ true → (next : State) × (turn_step unit classes s k false ≡ Some next)
   step_there owners s k t h there can =
       let live : is_live (Some t) ≡ true = subst (λ (o : Option Thread). is_live o ≡ true) there (live_thread s k can) in
-      let leads = advance_there (after_tasks s.shared t t.tasks (owners k)) s k (thread_step unit classes (in_use s) k s.shared t false) (thread_steps (in_use s) k s.shared t (owners k) h.stay live (thread_sound owners s k t h there) false) in
+      let leads = advance_there (after_tasks unit classes k s.shared t t.tasks (owners k)) s k (thread_step unit classes (in_use s) k s.shared t false) (thread_steps (in_use s) k s.shared t (owners k) h.stay live (thread_sound owners s k t h there) false) in
       (leads.0, step-thread unit classes s k t false (record { thread = there; can = can }) ∙ leads.1)
 
 -- ---- runs

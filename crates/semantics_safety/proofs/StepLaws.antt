@@ -10,7 +10,7 @@ use Rattle.type_rules.specs.declared.ty.ExprType.TheVariants as types
 use Rattle.type_rules.specs.TypeGroups.{IsNumberType}
 use Rattle.semantics.specs.Effect.{Effect, Becomes, Sets, SetsNull, SetsElement, MakesArray, Prints, Calls, Returns, TrapsAt, NoEffect}
 use Rattle.semantics.specs.Task.{Task}
-use Rattle.semantics.specs.Thread.{Thread, Shared, BuffersInUse, Frame, Advance, Advances, NoAdvance}
+use Rattle.semantics.specs.Thread.{Thread, Shared, BuffersInUse, Frame, Event, Advance, Advances, NoAdvance}
 use Rattle.semantics.specs.ThreadStep.{set_element, with_tasks, after_effect}
 use Rattle.semantics.specs.Value.{Value, Word, Int, Flag, Truth, convert}
 use Rattle.semantics.specs.Variable.{Variable, Scalar, LocalRef, FieldHandle, MethodHandle, Elements, LocalArray, Buffer, NoBuffer, Copy, View, StaticReference, Variables, Statics, assign}
@@ -32,10 +32,15 @@ use Rattle.semantics_safety.proofs.SetLaws.{stands_new, stands_kept, none_some, 
 abbrev pub GoesFrom : WeakNames → Owners → Statics → Variables → List Frame → List Task → Type 0
 GoesFrom weak own ss vs frames tasks = (q : Point) × Stands weak own ss vs frames q × GoesOn tasks q
 
--- a step that leaves the thread so, and the names of the statics as they were
+-- a step that leaves the thread so, with owners by its event and by the variables that it leaves, and the names of the statics as they were
+abbrev pub LandsBy : WeakNames → (Event → Variables → Owners) → Statics → Advance → Type 0
+LandsBy weak give ss (Advances s t event) = Goes weak (give event t.variables) s.statics t t.tasks
+    × ((x : Identifier) (r : StaticReference) → lookup x ss ≡ Some r → (q : StaticReference) × (lookup x s.statics ≡ Some q))
+LandsBy weak give ss NoAdvance = ⊥
+
+-- with these owners, whatever they are
 abbrev pub Lands : WeakNames → Owners → Statics → Advance → Type 0
-Lands weak own ss (Advances s t event) = Goes weak own s.statics t t.tasks × ((x : Identifier) (r : StaticReference) → lookup x ss ≡ Some r → (q : StaticReference) × (lookup x s.statics ≡ Some q))
-Lands weak own ss NoAdvance = ⊥
+Lands weak own ss e = LandsBy weak (λ event vs. own) ss e
 
 pub same_statics : (ss : Statics) (x : Identifier) (r : StaticReference) → lookup x ss ≡ Some r → (q : StaticReference) × (lookup x ss ≡ Some q)
 same_statics ss x r e = (r, e)

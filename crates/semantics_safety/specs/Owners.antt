@@ -1,14 +1,16 @@
 -- Which variables have a local reference of their own: one that the call was entered with or that a call gave to the variable,
--- and that neither DeleteLocalRef nor PopLocalFrame has ended.
+-- and that no call has ended.
 use Rattle.std.specs.Prelude.{◌≡◌, ℕ, ◌==◌, Bool, true, false, if◌then◌else◌, List, [], ◌∷◌, length, Option, Some, None}
 use Rattle.std.specs.Str.{bytes_eq}
 use Rattle.base.specs.Bytes.{Identifier, lookup}
 use Rattle.syntax.specs.Tree.{SourceUnit}
 use Rattle.class_rules.specs.Class.{Classes}
 use Rattle.jni.specs.declared.function.JniFunction.{JniFunction}
-use Rattle.jni.specs.declared.function.JniFunction.TheVariants.{DeleteLocalRef, PopLocalFrame}
 use Rattle.jni.specs.JniFunction.{calls_method}
+use Rattle.semantics.specs.Answer.{Answer, DeletesLocal, Pops}
+use Rattle.semantics.specs.AnswerTable.{call_answer}
 use Rattle.semantics.specs.Arguments.{Actual, variable_given}
+use Rattle.semantics.specs.CallSight.{sight_of_call}
 use Rattle.semantics.specs.Effect.{Effect, Calls, Returns}
 use Rattle.semantics.specs.Journal.{Entry, Step, Clearing, Journal}
 use Rattle.semantics.specs.Start.{start}
@@ -54,36 +56,32 @@ is_target (Declared kind y) x = bytes_eq x y
 is_target (Assigned y) x = bytes_eq x y
 is_target target x = false
 
+-- the owners once a result is where it goes, with these variables then
+abbrev pub with_result : Target → Owners → Variables → Owners
+with_result target own vs x = if is_target target x then level_held (lookup x vs) else own x
+
 -- a level other than this one
 abbrev pub other_than : ℕ → Option ℕ → Option ℕ
 other_than top None = None
 other_than top (Some level) = if level == top then None else Some level
 
--- the owners that a call leaves, where this is the number of frames before it
-abbrev pub left_by : JniFunction → List Actual → (frames : ℕ) → Owners → Owners
-left_by DeleteLocalRef args frames own x = if bytes_eq x (variable_given args 0) then None else own x
-left_by PopLocalFrame args frames own x = other_than frames (own x)
-left_by f args frames own x = own x
+-- The owners that an answer leaves, where this is the number of frames before it. A call that deletes NULL ends none: whatever was the
+-- variable's own stays so until a call gives it another, and nothing is asked of it before, since NULL is no reference.
+abbrev pub left_by : Answer → List Actual → (frames : ℕ) → Owners → Owners
+left_by (DeletesLocal i n) args frames own x = if bytes_eq x (variable_given args i) then None else own x
+left_by (Pops r) args frames own x = other_than frames (own x)
+left_by a args frames own x = own x
 
--- those once its result is in its variable, with these variables then
-abbrev pub after_call : Target → JniFunction → List Actual → (frames : ℕ) → Owners → Variables → Owners
-after_call target f args frames own vs x = if is_target target x then level_held (lookup x vs) else left_by f args frames own x
+-- after an event; a trap leaves all as they were
+abbrev pub after_event : Event → (before after : Owners) → Owners
+after_event (Trapped trap line) before after = before
+after_event event before after = after
+
+-- after a call with this answer whose result goes to this target, with these variables then
+abbrev pub after_answer : Target → Answer → List Actual → (frames : ℕ) → Owners → Event → Variables → Owners
+after_answer target a args frames own event vs = after_event event own (with_result target (left_by a args frames own) vs)
 
 -- ---- a step
-
--- the owners after an effect that leaves these variables
-abbrev pub after_effect : Effect → (frames : ℕ) → Owners → Variables → Owners
-after_effect (Calls line target f args) frames own vs = after_call target f args frames own vs
-after_effect e frames own vs = own
-
--- the same, but nothing changes where the effect is a trap
-abbrev pub after_event : Event → Effect → (frames : ℕ) → Owners → Variables → Owners
-after_event (Trapped trap line) e frames own vs = own
-after_event event e frames own vs = after_effect e frames own vs
-
--- those of a caller once a result is where it goes, with these variables then
-abbrev pub with_result : Target → Owners → Variables → Owners
-with_result target own vs x = if is_target target x then level_held (lookup x vs) else own x
 
 -- after a return into the first of these callers, which has these variables then; without one it is a call's end
 abbrev pub after_return : List Caller → List Owners → ThreadOwners → Variables → ThreadOwners
@@ -95,22 +93,33 @@ abbrev pub after_invoked : (method : Bool) → Event → ThreadOwners → Owners
 after_invoked true Quiet own left = record { current = no_owner; callers = own.current ∷ own.callers }
 after_invoked method event own left = record own { current = left }
 
--- after the effect of a step within a call
-abbrev pub after_step : Thread → ThreadOwners → Event → Effect → Variables → ThreadOwners
-after_step t own event (Returns given) vs = after_return t.callers own.callers own vs
-after_step t own event (Calls line target f args) vs =
-    after_invoked (calls_method f) event own (after_event event (Calls line target f args) (length t.frames) own.current vs)
-after_step t own event e vs = record own { current = after_event event e (length t.frames) own.current vs }
+-- a step of thread k, which is t
+module _ (unit : SourceUnit) (classes : Classes) (k : ℕ) (s : Shared) (t : Thread) where
+  -- what a call answers
+  abbrev pub answer_to : JniFunction → List Actual → Answer
+  answer_to f args = call_answer unit classes k (sight_of_call s t f args) f
 
--- after a step of a thread with these tasks that leaves these variables; a call begins with those that it is given
-abbrev pub after_tasks : Shared → Thread → Option (List Task) → ThreadOwners → Event → Variables → ThreadOwners
-after_tasks s t None own event vs = record own { current = holders vs }
-after_tasks s t (Some tasks) own event vs = after_step t own event (next_effect s t (Some tasks)) vs
+  -- the owners after an effect that leaves these variables
+  abbrev pub after_effect : Effect → Owners → Event → Variables → Owners
+  after_effect (Calls line target f args) own event vs = after_answer target (answer_to f args) args (length t.frames) own event vs
+  after_effect e own event vs = own
 
--- after a step of a thread, where it is possible
-abbrev pub after_advance : Shared → Thread → ThreadOwners → Advance → ThreadOwners
-after_advance s t own NoAdvance = own
-after_advance s t own (Advances s' t' event) = after_tasks s t t.tasks own event t'.variables
+  -- after the effect of a step within a call
+  abbrev pub after_step : ThreadOwners → Event → Effect → Variables → ThreadOwners
+  after_step own event (Returns given) vs = after_return t.callers own.callers own vs
+  after_step own event (Calls line target f args) vs =
+      after_invoked (calls_method f) event own (after_effect (Calls line target f args) own.current event vs)
+  after_step own event e vs = own
+
+  -- after a step with these tasks that leaves these variables; a call begins with those that it is given
+  abbrev pub after_tasks : Option (List Task) → ThreadOwners → Event → Variables → ThreadOwners
+  after_tasks None own event vs = record own { current = holders vs }
+  after_tasks (Some tasks) own event vs = after_step own event (next_effect s t (Some tasks)) vs
+
+  -- after a step, where it is possible
+  abbrev pub after_advance : ThreadOwners → Advance → ThreadOwners
+  after_advance own NoAdvance = own
+  after_advance own (Advances s' t' event) = after_tasks t.tasks own event t'.variables
 
 -- ---- a journal
 
@@ -126,7 +135,7 @@ with_owners owners k own j = if j == k then own else owners j
 abbrev pub after_turn : SourceUnit → Classes → State → AllOwners → (k : ℕ) → (refused : Bool) → Option Thread → AllOwners
 after_turn unit classes s owners k refused None = owners
 after_turn unit classes s owners k refused (Some t) = with_owners owners k
-    (after_advance s.shared t (owners k) (thread_step unit classes (in_use s) k s.shared t refused))
+    (after_advance unit classes k s.shared t (owners k) (thread_step unit classes (in_use s) k s.shared t refused))
 
 -- after an entry
 abbrev pub after_entry : SourceUnit → Classes → State → AllOwners → Entry → AllOwners
