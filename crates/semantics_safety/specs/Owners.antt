@@ -72,14 +72,10 @@ left_by (DeletesLocal i n) args frames own x = if bytes_eq x (variable_given arg
 left_by (Pops r) args frames own x = other_than frames (own x)
 left_by a args frames own x = own x
 
--- after an event; a trap leaves all as they were
-abbrev pub after_event : Event → (before after : Owners) → Owners
-after_event (Trapped trap line) before after = before
-after_event event before after = after
-
--- after a call with this answer whose result goes to this target, with these variables then
+-- those after a call with this answer whose result goes to this target, with these variables then; a trap leaves all as they were
 abbrev pub after_answer : Target → Answer → List Actual → (frames : ℕ) → Owners → Event → Variables → Owners
-after_answer target a args frames own event vs = after_event event own (with_result target (left_by a args frames own) vs)
+after_answer target a args frames own (Trapped trap line) vs = own
+after_answer target a args frames own event vs = with_result target (left_by a args frames own) vs
 
 -- ---- a step
 
