@@ -36,11 +36,11 @@ owners_more unit w s owners (x ∷ journal) e s' is = by_step (world_step unit w
 
 -- a step of thread k that leaves this
 pub owners_stepped : (unit : SourceUnit) (w : World) (journal : Journal) (s : State) (k : ℕ) (refused : Bool) (t : source.Thread) (a : Advance) → replay unit w journal ≡ Some s → thread_at s k ≡ Some t → thread_step unit w.classes (in_use s) k s.shared t refused ≡ a
-    → owners_after unit w (journal ++ Step k refused ∷ []) ≡ with_owners (owners_after unit w journal) k (after_advance s.shared t (owners_after unit w journal k) a)
+    → owners_after unit w (journal ++ Step k refused ∷ []) ≡ with_owners (owners_after unit w journal) k (after_advance unit w.classes k s.shared t (owners_after unit w journal k) a)
 owners_stepped unit w journal s k refused t a is there steps =
     owners_more unit w (start unit w) (λ k. no_owners) journal (Step k refused) s is
     ∙ ap (after_turn unit w.classes s (owners_after unit w journal) k refused) there
-    ∙ ap (λ (x : Advance). with_owners (owners_after unit w journal) k (after_advance s.shared t (owners_after unit w journal k) x)) steps
+    ∙ ap (λ (x : Advance). with_owners (owners_after unit w journal) k (after_advance unit w.classes k s.shared t (owners_after unit w journal k) x)) steps
 
 pub owner_here : (owners : AllOwners) (k : ℕ) (own : ThreadOwners) → with_owners owners k own k ≡ own
 owner_here owners k own = by_test (k == k) ((Decides-eqb k k).1 refl)

@@ -353,7 +353,7 @@ module _ (p : Lowered) (world : World) (store : Store) (ts : List Thread) (print
         replays = replayed;
         store_agrees = shares;
         threads_agree =
-            let own = after_advance c.state.shared f.source (owners k) (source.Advances a.next_shared a.next (event_view e)) in
+            let own = after_advance (unit_tree p.unit) classes k c.state.shared f.source (owners k) (source.Advances a.next_shared a.next (event_view e)) in
             let now : AllOwners = with_owners owners k own in
             let less = slice_get_within ts i t at in
             let few = c.few in

@@ -171,7 +171,7 @@ module _ (p : Lowered) (w : World) (store : Store) (pending : Option ℕ) (call 
     abbrev left_own : Owners
     left_own = owners_left p w store pending call in_memory others k owner own shared s task rest h answer works does
 
-    abbrev owners : LeavesOwners p w store pending call in_memory others k owner own shared s task rest h called.f answer
+    abbrev owners : LeavesOwners p w store pending call in_memory others k owner own shared s task rest h of_source answer
     owners = leaves_owners p w store pending call in_memory others k owner own shared s task rest h answer works does
 
     abbrev Shown : CallResult → Variables → List ℕ → List HeldBuffer → Type 0

@@ -31,7 +31,7 @@ use Rattle.semantics.specs.ThreadStep.{with_tasks, after_effect, next_effect, se
 use Rattle.semantics.specs.declared.trap.Trap.{Trap}
 use Rattle.semantics.specs.Value.{convert}
 use Rattle.semantics.specs.Variable.{Variable, Scalar, LocalArray, assign}
-use Rattle.semantics_safety.specs.Owners.{Owners}
+use Rattle.semantics_safety.specs.Owners.{Owners, after_effect as owners_left}
 use Rattle.semantics_safety.specs.StepSafe.{HoldsNoBuffer, SetsWhole}
 use Rattle.tables.specs.Elements.{OwnedNumbers}
 use Rattle.code_meaning.specs.Coding.{element_of}
@@ -293,7 +293,7 @@ module _ (p : Lowered) (w : World) (store : Store) (others : Acquired) (k owner 
         }
 
     writes : (did : Effect) (changed : Visible → Type 0) → Writes code r.known call.place call.stack held seen changed rest → (vs : _) → after_effect (unit_tree p.unit) classes (in_use_with others s) k shared s rest did ≡ source.Advances shared (record s { tasks = Some rest; variables = vs }) source.Quiet
-        → changed (visible_to own shared (record s { tasks = Some rest; variables = vs })) → taken_by vs ≡ taken_by s.variables → agrees.owners_left did (event_view e) (length s.frames) own vs ≡ own → agrees.GoesOn p w store store others k owner own shared s rest after pending did false e
+        → changed (visible_to own shared (record s { tasks = Some rest; variables = vs })) → taken_by vs ≡ taken_by s.variables → owners_left (unit_tree p.unit) classes k shared s did own (event_view e) vs ≡ own → agrees.GoesOn p w store store others k owner own shared s rest after pending did false e
     writes did changed h vs steps shown taken left =
         let same : h.here ≡ i = cc (h.at, at) in
         let plain_is : plain_of i call.stack call.slots.numbers.items ≡ Some (plain.Next, [], h.numbers) = subst (λ (j : Instr). plain_of j call.stack call.slots.numbers.items ≡ Some (plain.Next, [], h.numbers)) same h.plain in

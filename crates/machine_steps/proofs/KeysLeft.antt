@@ -6,14 +6,9 @@ use Rattle.std.proofs.lemmas.Bool.Decides.{Decides-eqb}
 use Rattle.std.proofs.lemmas.Option.{slice_get-map}
 use Rattle.class_rules.specs.Class.{Classes}
 use Rattle.heap.specs.Heap.{Space}
-use Rattle.jni.specs.declared.function.JniFunction.{JniFunction}
 use Rattle.jni.specs.declared.kinds.ResultKind.{ResultKind}
-use Rattle.jni.specs.declared.kinds.ResultKind.TheVariants.{GivesNothing}
-use Rattle.syntax.specs.Tree.{SourceUnit}
 use Rattle.semantics.specs.Answer.{Answer as SourceAnswer, DeletesLocal, Pops}
-use Rattle.semantics.specs.CallSight.{CallSight}
 use Rattle.semantics.specs.Thread.{Shared, Thread}
-use Rattle.semantics.proofs.AnswerKinds.{AnswersAs, CallKind, EndingLocal, EndsLocal, PopsFrame, Popping}
 use Rattle.semantics_safety.specs.Owners.{other_than}
 use Rattle.tables.specs.Locals.{LocalTable}
 use Rattle.machine_answers.specs.declared.answer.Answer.{Answer}
@@ -37,24 +32,10 @@ level_left (row.deletes n variable there) frames key level left = absurd left
 level_left (row.pops r agrees) frames key level left = left
 level_left does frames key level left = tt
 
--- where nothing is given, all keys are left but the one that is deleted
-pub left_but_one : {classes : Classes} {brought : Brought} {space : Space} {locals : LocalTable} {shared : Shared} {s : Thread} {answer : Answer} {of_source : SourceAnswer}
-    → IsAnswer classes brought space locals shared s answer GivesNothing of_source → (frames key level : ℕ) → ((one : ℕ) → answer ≡ replies.Deletes one → key ≢ one) → IsLeft answer frames key level
+-- where a reference is deleted, all keys are left but its own
+pub left_but_one : {classes : Classes} {brought : Brought} {space : Space} {locals : LocalTable} {shared : Shared} {s : Thread} {answer : Answer} {kind : ResultKind} {i n : ℕ}
+    → IsAnswer classes brought space locals shared s answer kind (DeletesLocal i n) → (frames key level : ℕ) → ((one : ℕ) → answer ≡ replies.Deletes one → key ≢ one) → IsLeft answer frames key level
 left_but_one (row.deletes {key = one} n variable there) frames key level other = other one refl
-left_but_one does frames key level other = tt
-
--- functions of this kind end local references
-abbrev pub ends_local : CallKind → Bool
-ends_local EndsLocal = true
-ends_local PopsFrame = true
-ends_local kind = false
-
--- those of the other kinds end none
-pub none_ended : {unit : SourceUnit} {classes : Classes} {sight : CallSight} {f : JniFunction} {result : ResultKind} {a : SourceAnswer} (kind : CallKind)
-    → ends_local kind ≡ false → AnswersAs unit classes sight f kind result a → (frames level : ℕ) → LeavesLevel a frames level
-none_ended kind none (EndingLocal n is) frames level = absurd (cc)
-none_ended kind none (Popping r) frames level = absurd (cc)
-none_ended kind none h frames level = tt
 
 -- ---- owners
 

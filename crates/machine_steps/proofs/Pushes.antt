@@ -19,7 +19,7 @@ use Rattle.semantics.specs.AnswerTable.{call_answer, call_effect, method_called}
 use Rattle.semantics.specs.CallSight.{CallSight, sight_of_call}
 use Rattle.semantics.specs.Answer as answer
 use Rattle.semantics.specs.Checks.{calls_well, first_trap, go_together, trap_of}
-use Rattle.semantics.specs.Effect.{Effect, effect_of}
+use Rattle.semantics.specs.Effect.{Calls, Effect, effect_of}
 use Rattle.semantics.specs.Method.{MethodId}
 use Rattle.semantics.specs.Object.{Reference, sizes}
 use Rattle.semantics.specs.Task.{Target, Task}
@@ -32,7 +32,7 @@ use Rattle.semantics.specs.Variable.{Variables}
 use Rattle.semantics.specs.World.{Invocation, World, loaded_objects}
 use Rattle.semantics.specs.declared.event.Event.TheVariants as event
 use Rattle.semantics.proofs.CheckLaws.{fits_and_goes}
-use Rattle.semantics_safety.specs.Owners.{ThreadOwners, after_call as owners_after_call, after_invoked, after_step, after_tasks, no_owner}
+use Rattle.semantics_safety.specs.Owners.{ThreadOwners, after_effect as owners_left, after_invoked, after_step, after_tasks, no_owner}
 use Rattle.code_meaning.specs.Lowered.{Lowered}
 use Rattle.code_meaning.specs.Slots.{visible_to}
 use Rattle.machine_scenes.specs.Buffers.{Acquired, SameAcquired, acquired_by, beside}
@@ -192,11 +192,11 @@ module _ (p : Lowered) (w : World) (store : Store) (others : Acquired) (k : ℕ)
   abbrev now : ThreadOwners
   now = record { current = no_owner; callers = own.current ∷ own.callers }
 
-  owners_now : after_tasks shared s s.tasks own source.Quiet [] ≡ now
+  owners_now : after_tasks (unit_tree p.unit) w.classes k shared s s.tasks own source.Quiet [] ≡ now
   owners_now =
-      ap (λ (ts : Option (List Task)). after_tasks shared s ts own source.Quiet []) e.tasks
-      ∙ ap (λ (x : Effect). after_step s own source.Quiet x []) c.is
-      ∙ ap (λ (m : Bool). after_invoked m source.Quiet own (owners_after_call c.target c.f c.args (length s.frames) own.current [])) c.method
+      ap (λ (ts : Option (List Task)). after_tasks (unit_tree p.unit) w.classes k shared s ts own source.Quiet []) e.tasks
+      ∙ ap (λ (x : Effect). after_step (unit_tree p.unit) w.classes k shared s own source.Quiet x []) c.is
+      ∙ ap (λ (m : Bool). after_invoked m source.Quiet own (owners_left (unit_tree p.unit) w.classes k shared s (Calls c.line c.target c.f c.args) own.current source.Quiet [])) c.method
 
   invoke : IsInvoke (sight_of shared s) task c.line c.target c.f c.args
   invoke = called (sight_of shared s) task c.line c.target c.f c.args c.is

@@ -323,10 +323,10 @@ module _ (p : Lowered) (w : World) (old : Store) (others : Acquired) (k : ℕ) (
       abbrev now : ThreadOwners
       now = record { current = with_result c.target first.own ends.variables; callers = first.owners }
 
-      owners_now : after_tasks shared s s.tasks own source.Quiet ends.variables ≡ now
+      owners_now : after_tasks (unit_tree p.unit) w.classes k shared s s.tasks own source.Quiet ends.variables ≡ now
       owners_now =
-          ap (λ (ts : Option (List Task)). after_tasks shared s ts own source.Quiet ends.variables) tasks
-          ∙ ap (λ (e : Effect). after_step s own source.Quiet e ends.variables) returns
+          ap (λ (ts : Option (List Task)). after_tasks (unit_tree p.unit) w.classes k shared s ts own source.Quiet ends.variables) tasks
+          ∙ ap (λ (e : Effect). after_step (unit_tree p.unit) w.classes k shared s own source.Quiet e ends.variables) returns
           ∙ ap (λ (cs : List source.Caller). after_return cs own.callers own ends.variables) first.is
           ∙ ap (λ (os : List Owners). after_return (c ∷ first.below) os own ends.variables) first.are
 

@@ -45,13 +45,13 @@ use Rattle.machine_threads.specs.declared.thread.Thread.{Thread}
 use Rattle.machine_threads.specs.declared.thread.Entering.{Entering}
 use Rattle.machine_threads.specs.declared.thread.PendingCall.{PendingCall}
 use Rattle.machine_scenes.specs.declared.activation.Activation.{Activation}
-use Rattle.semantics_safety.specs.Owners.{Owners, ThreadOwners, after_call, after_invoked, after_return, after_step, after_tasks}
+use Rattle.semantics_safety.specs.Owners.{Owners, ThreadOwners, after_effect as owners_left, after_invoked, after_return, after_step, after_tasks}
 use Rattle.machine_scenes.specs.declared.store.Store.{Store}
 use Rattle.machine_scenes.specs.StoreAgrees.{StoreAgrees, Keeps}
 use Rattle.machine_threads.specs.ThreadAgrees.{CallsAgree, CallsToComeAgree, IsDue, ThreadAgrees, buffers_of}
 use Rattle.semantics.specs.EventViews.{ending_view, event_view}
 use Rattle.machine_steps.specs.Advances.{Advances, GivesUp, LeavesMonitors, calls_after, ending_after, ends_with}
-use Rattle.machine_steps.specs.Executes.{GoesOn, after_any, cells_made, in_use_with, owners_left}
+use Rattle.machine_steps.specs.Executes.{GoesOn, after_any, cells_made, in_use_with}
 use Rattle.machine_threads.specs.Callers.{CallersAgree, acquired_by_callers, beside_callers, owner_at}
 use Rattle.machine_threads.specs.InProgress.{CallStands, WorkAgrees}
 use Rattle.machine_threads.proofs.Reversed.{none_there}
@@ -99,20 +99,19 @@ trapped_owners : (method : Bool) (trap : Trap) (at : ℕ) (own : ThreadOwners) (
 trapped_owners true trap at own left = refl
 trapped_owners false trap at own left = refl
 
--- those after an effect within the call
-left_owners : (s : source.Thread) (own : ThreadOwners) (effect : Effect) (event : source.Event) → StaysWithin effect event → (vs : Variables) → after_step s own event effect vs ≡ record own { current = owners_left effect event (length s.frames) own.current vs }
-left_owners s own (Calls line target f args) source.Quiet away vs = ap (λ (m : Bool). after_invoked m source.Quiet own (after_call target f args (length s.frames) own.current vs)) away
-left_owners s own (Calls line target f args) (source.PrintedNumber z) away vs = printed_owners (calls_method f) z own (after_call target f args (length s.frames) own.current vs)
-left_owners s own (Calls line target f args) (source.Trapped trap at) away vs = trapped_owners (calls_method f) trap at own own.current
-left_owners s own (Returns given) event away vs = absurd away
-left_owners s own other source.Quiet away vs = refl
-left_owners s own other (source.PrintedNumber z) away vs = refl
-left_owners s own other (source.Trapped trap at) away vs = refl
+module _ (unit : SourceUnit) (classes : Classes) (k : ℕ) (shared : Shared) (s : source.Thread) (own : ThreadOwners) where
+  -- those after an effect within the call
+  left_owners : (effect : Effect) (event : source.Event) → StaysWithin effect event → (vs : Variables) → after_step unit classes k shared s own event effect vs ≡ record own { current = owners_left unit classes k shared s effect own.current event vs }
+  left_owners (Calls line target f args) source.Quiet away vs = ap (λ (m : Bool). after_invoked m source.Quiet own (owners_left unit classes k shared s (Calls line target f args) own.current source.Quiet vs)) away
+  left_owners (Calls line target f args) (source.PrintedNumber z) away vs = printed_owners (calls_method f) z own (owners_left unit classes k shared s (Calls line target f args) own.current (source.PrintedNumber z) vs)
+  left_owners (Calls line target f args) (source.Trapped trap at) away vs = trapped_owners (calls_method f) trap at own own.current
+  left_owners (Returns given) event away vs = absurd away
+  left_owners other event away vs = refl
 
--- those after a step within a call
-advanced_owners : (shared : Shared) (s : source.Thread) (own : ThreadOwners) (task : Task) (rest : List Task) → s.tasks ≡ Some (task ∷ rest) → (event : source.Event) → StaysWithin (effect_of (sight_of shared s) task) event → (vs : Variables)
-    → after_tasks shared s s.tasks own event vs ≡ record own { current = owners_left (effect_of (sight_of shared s) task) event (length s.frames) own.current vs }
-advanced_owners shared s own task rest is event away vs = ap (λ (o : Option (List Task)). after_tasks shared s o own event vs) is ∙ left_owners s own (effect_of (sight_of shared s) task) event away vs
+  -- those after a step within a call
+  advanced_owners : (task : Task) (rest : List Task) → s.tasks ≡ Some (task ∷ rest) → (event : source.Event) → StaysWithin (effect_of (sight_of shared s) task) event → (vs : Variables)
+      → after_tasks unit classes k shared s s.tasks own event vs ≡ record own { current = owners_left unit classes k shared s (effect_of (sight_of shared s) task) own.current event vs }
+  advanced_owners task rest is event away vs = ap (λ (o : Option (List Task)). after_tasks unit classes k shared s o own event vs) is ∙ left_owners (effect_of (sight_of shared s) task) event away vs
 
 -- a step that keeps callers and tasks is within the call
 abbrev tasks_left : source.Advance → Option (List Task)
@@ -227,7 +226,7 @@ module _ (p : Lowered) (w : World) (old : Store) (others : Acquired) (k : ℕ) (
       → Advances p w old store others k own shared s (record t { call = Some after; pending = pending }) refused e
   did store refused e task rest is after pending g =
       let effect = effect_of (sight_of shared s) task in
-      let now : Owners = owners_left effect (event_view e) (length s.frames) own.current g.next.variables in
+      let now : Owners = owners_left (unit_tree p.unit) w.classes k shared s effect own.current (event_view e) g.next.variables in
       let Works : Option (List Task) → Type 0 = λ o. WorkAgrees p w.classes store.heap store.elements copier (visible_to now g.next_shared g.next) (Some after) g.next.frames o in
       let away = stays_within (unit_tree p.unit) w.classes (in_use_with rest_of s) k shared g.next_shared s g.next rest refused effect (event_view e) g.steps g.callers (λ b. subst Works b g.work) in
       let none = none_due t.entering s.tasks s.callers (task ∷ rest) h.due is in
@@ -240,7 +239,7 @@ module _ (p : Lowered) (w : World) (old : Store) (others : Acquired) (k : ℕ) (
         keeps_copies = g.keeps_copies;
         agrees =
             subst (λ (now : ThreadOwners). ThreadAgrees p w.classes store.heap store.elements (length (loaded_objects w)) k now g.next_shared (record t { call = Some after; pending = pending }) g.next)
-            (sym (advanced_owners shared s own task rest is (event_view e) away g.next.variables)) (record {
+            (sym (advanced_owners (unit_tree p.unit) w.classes k shared s own task rest is (event_view e) away g.next.variables)) (record {
               calls = subst (CallsToComeAgree p w.classes store.heap (length (loaded_objects w)) t.entering t.calls.items) (sym g.calls)
                   (calls_to_come p w.classes store.heap (length (loaded_objects w)) t.entering t.calls.items s.calls none (calls_of_world p w.classes old.heap (length (loaded_objects w)) t.entering t.calls.items s.calls none h.calls));
               due = still_due t.entering g.next.tasks g.next.callers none (λ b. subst Works b g.work);
@@ -370,9 +369,9 @@ module _ (p : Lowered) (w : World) (old : Store) (others : Acquired) (k : ℕ) (
       let next : Shared = record shared { monitors = monitors_after (ending_of class s.calls) k shared.monitors } in
       let parts = rest_left (ends_with class t.calls.items) k store left monitors in
       let below = none_there p w.classes old.heap old.elements k shared (reverse t.callers.items) own.callers s.callers h.callers alone in
-      let owners_now : after_tasks shared s s.tasks own source.Quiet [] ≡ own =
-      ap (λ (ts : Option (List Task)). after_tasks shared s ts own source.Quiet []) tasks
-      ∙ ap (λ (e : Effect). after_step s own source.Quiet e []) is.1
+      let owners_now : after_tasks (unit_tree p.unit) w.classes k shared s s.tasks own source.Quiet [] ≡ own =
+      ap (λ (ts : Option (List Task)). after_tasks (unit_tree p.unit) w.classes k shared s ts own source.Quiet []) tasks
+      ∙ ap (λ (e : Effect). after_step (unit_tree p.unit) w.classes k shared s own source.Quiet e []) is.1
       ∙ ap (λ (cs : List source.Caller). after_return cs own.callers own []) alone in
       record {
         next_shared = next;

@@ -76,7 +76,7 @@ pub record Advances (p : Lowered) (w : World) (old store : Store) (others : Acqu
   pub keeps : Keeps old.heap shared store.heap next_shared
   pub keeps_copies : KeepsCopies (owner_at k (length s.callers)) old.elements store.elements
   pub agrees : ThreadAgrees p w.classes store.heap store.elements (length (loaded_objects w)) k
-      (after_advance shared s own (source.Advances next_shared next (event_view event))) next_shared t next
+      (after_advance (unit_tree p.unit) w.classes k shared s own (source.Advances next_shared next (event_view event))) next_shared t next
   pub short : refused ≡ true → IsShortOf (cells_made shared (thread_step (unit_tree p.unit) w.classes
       (in_use_with (beside_callers others s) s) k shared s false)) old.heap store.heap
 

@@ -17,7 +17,7 @@ use Rattle.semantics.specs.Task.{Task, Target, Assigned}
 use Rattle.semantics.specs.Checks.{frames_after}
 use Rattle.semantics.specs.Arguments.{Actual, method_given, object_given, variable_given}
 use Rattle.semantics.specs.Method.{MethodId}
-use Rattle.semantics_safety.specs.Owners.{Owners, IsOwn, after_call}
+use Rattle.semantics_safety.specs.Owners.{Owners, IsOwn, after_effect as owners_left}
 use Rattle.semantics_safety.specs.StepSafe.{IsCallable, IsResumable, HoldsNoBuffer, MayMeetView, MayReturn, SetsWhole, came_from}
 use Rattle.semantics_safety.specs.Used.{task_names}
 use Rattle.semantics_typing.specs.Objects.{AreTypedObjects, AreTypedVariables}
@@ -108,12 +108,6 @@ abbrev pub IsHindered : (left cells : ℕ) → (may_refuse : Bool) → StepFault
 IsHindered left cells may_refuse NoRoom = (may_refuse ≡ false) × (left < cells)
 IsHindered left cells may_refuse Memory = cells ≡ 0
 
--- the variables' own references once the first task has had this effect, which leaves these variables; a trap leaves them as they were
-abbrev pub owners_left : Effect → source.Event → (frames : ℕ) → Owners → Variables → Owners
-owners_left (Calls line target f args) (source.Trapped trap at) frames own vs = own
-owners_left (Calls line target f args) event frames own vs = after_call target f args frames own vs
-owners_left other event frames own vs = own
-
 -- The first task had this effect on thread k, with the rest still to do: the thread goes on within its call. Its allocation was
 -- refused only where too few cells were left. The buffers of the other calls, and the copies of other owners, are as they were.
 pub record GoesOn (p : Lowered) (w : World) (old store : Store) (others : Acquired) (k owner : ℕ) (own : Owners)
@@ -127,7 +121,7 @@ pub record GoesOn (p : Lowered) (w : World) (old store : Store) (others : Acquir
   pub keeps : Keeps old.heap shared store.heap next_shared
   pub keeps_copies : KeepsCopies owner old.elements store.elements
   pub work : WorkAgrees p w.classes store.heap store.elements owner (visible_to
-      (owners_left effect (event_view event) (length s.frames) own next.variables) next_shared next)
+      (owners_left (unit_tree p.unit) w.classes k shared s effect own (event_view event) next.variables) next_shared next)
       (Some activation) next.frames next.tasks
   pub pending_agrees : ReferenceAgrees store.heap pending next.pending
   pub views : AreViewed store.heap activation.slots.buffers.items next
