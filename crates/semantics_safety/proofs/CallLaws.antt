@@ -1,9 +1,9 @@
 -- The step of each call of the JNI keeps what holds of its thread, and so does each step within a call.
-use Rattle.std.proofs.Common.{◌≡◌, refl, ℕ, Bool, true, false, List, ◌∷◌, Some, sym, subst}
+use Rattle.std.proofs.Common.{◌≡◌, refl, ℕ, Bool, true, false, List, ◌∷◌, Some, sym, subst, arith}
 use Rattle.class_rules.specs.Class.{Classes}
 use Rattle.syntax.specs.Tree.{SourceUnit}
 use Rattle.jni.specs.declared.function.JniFunction.{JniFunction}
-use Rattle.jni.specs.declared.function.JniFunction.TheVariants.{DeleteLocalRef, PushLocalFrame, PopLocalFrame, GetBuffer, ReleaseBuffer, CallStaticVoidMethod, CallStaticIntMethod, CallStaticObjectMethod}
+use Rattle.jni.specs.declared.function.JniFunction.TheVariants.{DeleteLocalRef, PushLocalFrame, PopLocalFrame, GetBuffer, ReleaseBuffer}
 use Rattle.jni.specs.JniFunction.{calls_method}
 use Rattle.semantics.specs.Arguments.{Actual, actuals}
 use Rattle.semantics.specs.CallEffects.{CallResult}
@@ -11,7 +11,7 @@ use Rattle.semantics.specs.Effect.{Effect, Becomes, Sets, SetsNull, SetsElement,
 use Rattle.semantics.specs.Task.{Task, Target, Operand, Invoke}
 use Rattle.semantics.specs.Thread.{Thread, Shared, BuffersInUse, sight_of}
 use Rattle.semantics.specs.ThreadStep.{after_effect, step_within}
-use Rattle.semantics.proofs.AnswerKinds.{CallKind, EndsStatic, FillsArray, Quiet, call_kind}
+use Rattle.semantics.proofs.AnswerKinds.{CallKind, CallsMethod, EndsLocal, EndsStatic, FillsArray, GetsBuffer, PopsFrame, PushesFrame, Quiet, ReleasesBuffer, call_kind}
 use Rattle.semantics_safety.proofs.OwnerLaws.{CallLands}
 use Rattle.semantics_safety.specs.Owners.{Owners, after_effect as owners_after}
 use Rattle.semantics_safety.specs.Points.{Point}
@@ -30,27 +30,27 @@ use Rattle.semantics_safety.proofs.ReleaseCalls.{release_lands}
 use Rattle.semantics_safety.proofs.StepLaws.{LandsBy, plain_lands}
 
 module _ (unit : SourceUnit) (classes : Classes) (in_use : BuffersInUse) (k : ℕ) (s : Shared) (t : Thread) (line : ℕ) (rest : List Task) (p : Point) {weak : WeakNames} {own : Owners} (stands : Stands weak own s.statics t.variables t.frames p) (whole : Goes weak own s.statics t t.tasks) where
-  -- the step of a call of a plain function
-  plain_function_lands : (f : JniFunction) (kind : CallKind) → call_kind f ≡ kind → IsPlain kind → (target : Target) (operands : List Operand) (args : List Actual) → args ≡ actuals (sight_of s t) f operands → Runs (Invoke line target f operands) (GoesOn rest) p → CallLands unit classes in_use k s t line rest weak own target f args
-  plain_function_lands f Quiet of plain target operands args is runs = call_lands unit classes in_use k s t line f args rest p stands (subst IsPlain (sym of) tt) whole of target operands runs
-  plain_function_lands f EndsStatic of plain target operands args is runs = static_call_lands unit classes in_use k s t line rest p stands whole f target operands args of runs
-  plain_function_lands f FillsArray of plain target operands args is runs = region_call_lands unit classes in_use k s t line rest p stands whole f target operands args is of runs
-  plain_function_lands f kind of plain target operands args is runs = absurd plain
-
-  -- the step of a call, by its function
+  -- the step of a call, by the kind of its function
   pub each_call_lands : (f : JniFunction) (target : Target) (operands : List Operand) (args : List Actual) → args ≡ actuals (sight_of s t) f operands → calls_method f ≡ false → Runs (Invoke line target f operands) (GoesOn rest) p → CallLands unit classes in_use k s t line rest weak own target f args
-  each_call_lands DeleteLocalRef target operands args is plain runs =
-      subst (λ (l : List Actual). CallLands unit classes in_use k s t line rest weak own target DeleteLocalRef l) (sym is) (delete_lands unit classes in_use k s t line rest p stands whole target operands runs)
-  each_call_lands PushLocalFrame target operands args is plain runs = push_lands unit classes in_use k s t line rest p stands whole target operands args runs
-  each_call_lands PopLocalFrame target operands args is plain runs = pop_lands unit classes in_use k s t line rest p stands whole target operands args runs
-  each_call_lands (GetBuffer access) target operands args is plain runs =
-      subst (λ (l : List Actual). CallLands unit classes in_use k s t line rest weak own target (GetBuffer access) l) (sym is) (get_lands unit classes in_use k s t line rest p stands whole access target operands runs)
-  each_call_lands (ReleaseBuffer access) target operands args is plain runs =
-      subst (λ (l : List Actual). CallLands unit classes in_use k s t line rest weak own target (ReleaseBuffer access) l) (sym is) (release_lands unit classes in_use k s t line rest p stands whole access target operands runs)
-  each_call_lands CallStaticVoidMethod target operands args is plain runs = absurd (cc)
-  each_call_lands CallStaticIntMethod target operands args is plain runs = absurd (cc)
-  each_call_lands CallStaticObjectMethod target operands args is plain runs = absurd (cc)
-  each_call_lands f target operands args is plain runs = plain_function_lands f (call_kind f) refl tt target operands args is runs
+  each_call_lands f target operands args is own_call runs = by_kind (call_kind f) refl
+    where
+      -- where it lands as that of a function that the region rules know, with what is looked up
+      known : (g : JniFunction) → f ≡ g → (Runs (Invoke line target g operands) (GoesOn rest) p → CallLands unit classes in_use k s t line rest weak own target g (actuals (sight_of s t) g operands)) → CallLands unit classes in_use k s t line rest weak own target f args
+      known g same lands =
+          subst (λ (l : List Actual). CallLands unit classes in_use k s t line rest weak own target f l) (sym is)
+          (subst (λ (h : JniFunction). CallLands unit classes in_use k s t line rest weak own target h (actuals (sight_of s t) h operands)) (sym same)
+          (lands (subst (λ (h : JniFunction). Runs (Invoke line target h operands) (GoesOn rest) p) same runs)))
+
+      by_kind : (kind : CallKind) → call_kind f ≡ kind → CallLands unit classes in_use k s t line rest weak own target f args
+      by_kind Quiet of = call_lands unit classes in_use k s t line f args rest p stands (subst IsPlain (sym of) tt) whole of target operands runs
+      by_kind EndsStatic of = static_call_lands unit classes in_use k s t line rest p stands whole f target operands args of runs
+      by_kind FillsArray of = region_call_lands unit classes in_use k s t line rest p stands whole f target operands args is of runs
+      by_kind EndsLocal of = known DeleteLocalRef (grind (arith, of)) (delete_lands unit classes in_use k s t line rest p stands whole target operands)
+      by_kind PushesFrame of = known PushLocalFrame (grind (arith, of)) (push_lands unit classes in_use k s t line rest p stands whole target operands _)
+      by_kind PopsFrame of = known PopLocalFrame (grind (arith, of)) (pop_lands unit classes in_use k s t line rest p stands whole target operands _)
+      by_kind (GetsBuffer access) of = known (GetBuffer access) (grind (arith, of)) (get_lands unit classes in_use k s t line rest p stands whole access target operands)
+      by_kind (ReleasesBuffer access) of = known (ReleaseBuffer access) (grind (arith, of)) (release_lands unit classes in_use k s t line rest p stands whole access target operands)
+      by_kind CallsMethod of = absurd (grind (arith, of, own_call))
 
 -- an effect that doesn't return
 abbrev pub IsNoReturn : Effect → Type 0

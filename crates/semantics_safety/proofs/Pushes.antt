@@ -13,20 +13,23 @@ use Rattle.syntax.specs.declared.declared_type.ParameterType.TheVariants.{Jint a
 use Rattle.syntax.specs.declared.unit.ResultType.{ResultType}
 use Rattle.syntax.specs.Tree.{Block, Expr, Function, Parameter, SourceUnit}
 use Rattle.jni.specs.declared.function.JniFunction.{JniFunction}
-use Rattle.jni.specs.declared.function.JniFunction.TheVariants.{CallStaticVoidMethod, CallStaticIntMethod, CallStaticObjectMethod, PushLocalFrame}
+use Rattle.jni.specs.declared.function.JniFunction.TheVariants.{PushLocalFrame}
 use Rattle.jni.specs.JniFunction.{calls_method, parameters_for, prototype}
 use Rattle.jni.specs.declared.kinds.ParameterKind.{ParameterKind}
 use Rattle.jni.specs.declared.kinds.ParameterKind.TheVariants.{ClassObject, MethodID}
 use Rattle.jni.specs.declared.kinds.ResultKind.{ResultKind}
+use Rattle.jni.specs.declared.kinds.ResultKind.TheVariants.{NewLocal, GivesInt, GivesNothing}
+use Rattle.jni.specs.declared.access.Access.{Access}
+use Rattle.region_rules.specs.RegionRules.{is_critical_call}
 use Rattle.jni.proofs.MethodCalls.{own_are_two}
 use Rattle.region_rules.specs.RegionStates as states
-use Rattle.region_rules.specs.RegionStates.{get_of}
+use Rattle.region_rules.specs.RegionStates.{RegionState, get_of}
 use Rattle.semantics.specs.Activation.{class_of_function}
 use Rattle.semantics.specs.Answer.{Answer, effect_of}
 use Rattle.semantics.specs.Arguments.{Actual, ReferenceActual, NumberActual, actuals, look_up, method_argument, method_given, method_in_actual, object_given, passed_value}
 use Rattle.semantics.specs.AnswerTable.{call_effect}
 use Rattle.semantics.specs.CallSight.{ArgumentSight, argument_seen, is_full, sight_of_call}
-use Rattle.semantics.specs.Checks.{all_pass, calls_well, frames_after, go_together, is_int, is_reference_result, is_void, passes}
+use Rattle.semantics.specs.Checks.{all_pass, calls_well, frames_after, go_together, passes}
 use Rattle.semantics.specs.CallStep.{after_call, after_refusal, call_step, calling, checked, target_element, trap_of_call}
 use Rattle.semantics.specs.Load.{call_loads, fit_parameters, fits_parameter, is_callable}
 use Rattle.semantics.specs.Method.{MethodId}
@@ -53,6 +56,9 @@ use Rattle.semantics_safety.proofs.RefusedLaws.{checked_none, method_made}
 use Rattle.type_rules.proofs.CallParameters.{count_is_few}
 
 -- ---- the arguments
+
+method_parameters : (f : JniFunction) (count : ℕ) → calls_method f ≡ true → parameters_for f count ≡ ClassObject ∷ MethodID ∷ drop 2 (parameters_for f count)
+method_parameters f count is = grind (arith, is)
 
 -- a method ID among them was in a variable
 module _ (unit : SourceUnit) (classes : Classes) (sight : Sight) (vs : Variables) (seen : (x : Identifier) → sight.method x ≡ held_method (lookup x vs)) (known : AreCallable unit classes vs) where
@@ -84,10 +90,9 @@ module _ (unit : SourceUnit) (classes : Classes) (sight : Sight) (vs : Variables
   given_callable (o ∷ q ∷ operands) more m h = operand_callable q m h
 
   pub method_callable : (f : JniFunction) → calls_method f ≡ true → (operands : List Operand) (m : MethodId) → method_given (actuals sight f operands) 1 ≡ Some m → IsCallable unit classes m
-  method_callable CallStaticVoidMethod is operands m h = given_callable operands _ m h
-  method_callable CallStaticIntMethod is operands m h = given_callable operands _ m h
-  method_callable CallStaticObjectMethod is operands m h = given_callable operands _ m h
-  method_callable f is operands m h = absurd (cc)
+  method_callable f is operands m h =
+      given_callable operands (drop 2 (parameters_for f (length operands))) m
+      (subst (λ (l : List ParameterKind). method_given (map (look_up sight) (zip l operands)) 1 ≡ Some m) (method_parameters f (length operands) is) h)
 
 zip_is_shorter : (parameters : List ParameterKind) (operands : List Operand) → length (zip parameters operands) ≤ length operands
 zip_is_shorter [] operands = omega arith
@@ -163,10 +168,9 @@ module _ (classes : Classes) (s : Shared) (t : Thread) (args : List Actual) wher
 
   together_passed : (element : ElementType) (f : JniFunction) → calls_method f ≡ true → (m : MethodId) → method_given args 1 ≡ Some m → go_together classes (sight_of_call s t f args) element f ≡ true → all_pass m.function.parameters (map of (drop 2 args)) ≡ true
   unfolding go_together
-  together_passed element CallStaticVoidMethod is m e h = well_passed CallStaticVoidMethod is_void m (subst (λ (o : Option MethodId). calls_well classes (sight_of_call s t CallStaticVoidMethod args) is_void o ≡ true) e h)
-  together_passed element CallStaticIntMethod is m e h = well_passed CallStaticIntMethod is_int m (subst (λ (o : Option MethodId). calls_well classes (sight_of_call s t CallStaticIntMethod args) is_int o ≡ true) e h)
-  together_passed element CallStaticObjectMethod is m e h = well_passed CallStaticObjectMethod is_reference_result m (subst (λ (o : Option MethodId). calls_well classes (sight_of_call s t CallStaticObjectMethod args) is_reference_result o ≡ true) e h)
-  together_passed element f is m e h = absurd (cc)
+  together_passed element f is m e h =
+      let passed : all_pass m.function.parameters (drop 2 (map of args)) ≡ true = grind (arith, is, e, h) in
+      subst (λ (l : List ArgumentSight). all_pass m.function.parameters l ≡ true) (drop-map of 2 args) passed
 
   both_hold : (a b : Bool) → (a && b) ≡ true → (a ≡ true) × (b ≡ true)
   both_hold true b h = (refl, h)
@@ -210,29 +214,28 @@ no_push : (f : JniFunction) → calls_method f ≡ true → f ≡ PushLocalFrame
 no_push f is e = let no : calls_method PushLocalFrame ≡ true = subst (λ (g : JniFunction). calls_method g ≡ true) e is in cc
 
 method_result : (f : JniFunction) → calls_method f ≡ true → IsMethodResult (prototype f).result
-method_result CallStaticVoidMethod is = tt
-method_result CallStaticIntMethod is = tt
-method_result CallStaticObjectMethod is = tt
-method_result f is = absurd (cc)
+method_result f is = by_kind (prototype f).result refl
+  where
+    by_kind : (kind : ResultKind) → (prototype f).result ≡ kind → IsMethodResult kind
+    by_kind NewLocal e = tt
+    by_kind GivesInt e = tt
+    by_kind GivesNothing e = tt
+    by_kind kind e = absurd (grind (arith, is, e))
 
 method_frames : (f : JniFunction) (frames : List Frame) → calls_method f ≡ true → frames_after f frames ≡ frames
-method_frames CallStaticVoidMethod frames is = refl
-method_frames CallStaticIntMethod frames is = refl
-method_frames CallStaticObjectMethod frames is = refl
-method_frames f frames is = absurd (cc)
+method_frames f frames is = grind (arith, is)
 
 not_critical : (p : Point) (f : JniFunction) → calls_method f ≡ true → MeetsViews p f → HasNoView p
-not_critical p CallStaticVoidMethod is meets x a access held critical = absurd (let no : false ≡ true = meets x a access held critical in cc)
-not_critical p CallStaticIntMethod is meets x a access held critical = absurd (let no : false ≡ true = meets x a access held critical in cc)
-not_critical p CallStaticObjectMethod is meets x a access held critical = absurd (let no : false ≡ true = meets x a access held critical in cc)
-not_critical p f is meets x a access held critical = absurd (cc)
+not_critical p f is meets x a access held critical =
+    absurd (let never : is_critical_call f ≡ false = grind (arith, is) in let no : false ≡ true = sym never ∙ meets x a access held critical in cc)
 
 result_here : (p : Point) (f : JniFunction) (target : Target) (operands : List Operand) (k : Point → Type 0) → calls_method f ≡ true
     → ResultGoes target (prototype f).result (get_of (call_seen f operands)) k (at p (states.after_call p.regions (call_seen f operands))) → ResultGoes target (prototype f).result None k p
-result_here p CallStaticVoidMethod target operands k is h = h
-result_here p CallStaticIntMethod target operands k is h = h
-result_here p CallStaticObjectMethod target operands k is h = h
-result_here p f target operands k is h = absurd (cc)
+result_here p f target operands k is h =
+    let none : get_of (call_seen f operands) ≡ None = grind (arith, is) in
+    let same : states.after_call p.regions (call_seen f operands) ≡ p.regions = grind (arith, is) in
+    subst (λ (o : Option (Access × Option Identifier)). ResultGoes target (prototype f).result o k p) none
+    (subst (λ (regions : RegionState). ResultGoes target (prototype f).result (get_of (call_seen f operands)) k (at p regions)) same h)
 
 module _ (classes : Classes) (s : Shared) (t : Thread) (line : ℕ) (f : JniFunction) (args : List Actual) (rest : List Task) (p : Point) {weak : WeakNames} {own : Owners} (stands : Stands weak own s.statics t.variables t.frames p) (is : calls_method f ≡ true) where
   abbrev waiting : Target → Caller
