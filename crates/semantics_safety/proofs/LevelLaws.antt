@@ -1,5 +1,5 @@
 -- A new local reference comes into the frame at which its variable was declared.
-use Rattle.std.proofs.Common.{◌≡◌, ℕ, List, length, Option, Some, refl, sym, ap, ◌∙◌, subst}
+use Rattle.std.proofs.Common.{◌≡◌, ℕ, List, length, Option, Some, sym, ap, ◌∙◌, subst, arith}
 use Rattle.std.specs.Prelude.{drop}
 use Rattle.base.specs.Bytes.{Identifier, lookup}
 use Rattle.jni.specs.declared.access.Access.{Access}
@@ -26,10 +26,7 @@ use Rattle.semantics_safety.proofs.PoppedLaws.{stands_popped}
 use Rattle.semantics_safety.proofs.QuietLaws.{IsFree, free_call}
 
 pub frames_stay : (f : JniFunction) (frames : List Frame) → IsFree f → frames_after f frames ≡ frames
-frames_stay (ReleaseBuffer access) frames h = absurd h
-frames_stay DeleteLocalRef frames h = absurd h
-frames_stay PopLocalFrame frames h = absurd h
-frames_stay f frames h = refl
+frames_stay f frames h = grind (arith, h)
 
 no_local : GivesNothing ≡ NewLocal → ⊥
 no_local e = cc

@@ -1,10 +1,9 @@
 -- Calls that change no variable, no static and no reference of a frame, and give no buffer.
-use Rattle.std.proofs.Common.{◌≡◌, ℕ, ◌≤◌, Bool, true, false, List, [], ◌∷◌, ◌++◌, Some, refl, sym, ap, ◌∙◌, subst, length, if◌then◌else◌, Option, None}
+use Rattle.std.proofs.Common.{◌≡◌, ℕ, ◌≤◌, Bool, true, false, List, [], ◌∷◌, ◌++◌, Some, refl, sym, ap, ◌∙◌, subst, length, if◌then◌else◌, Option, None, arith}
 use Rattle.base.specs.Bytes.{Identifier}
 use Rattle.class_rules.specs.Class.{Classes}
 use Rattle.syntax.specs.Tree.{Argument, SourceUnit}
 use Rattle.jni.specs.declared.function.JniFunction.{JniFunction}
-use Rattle.jni.specs.declared.function.JniFunction.TheVariants.{ReleaseBuffer, DeleteLocalRef, PopLocalFrame}
 use Rattle.jni.specs.JniFunction.{prototype}
 use Rattle.jni.specs.declared.kinds.ResultKind.{ResultKind}
 use Rattle.jni.specs.declared.kinds.ResultKind.TheVariants.{NewLocal}
@@ -64,10 +63,7 @@ plain_ended PopsFrame h = absurd h
 plain_ended kind h = refl
 
 pub free_call : (f : JniFunction) (regions : RegionState) (args : List Argument) → IsFree f → states.after_call regions (Some (f, args)) ≡ regions
-free_call (ReleaseBuffer access) regions args h = absurd h
-free_call DeleteLocalRef regions args h = absurd h
-free_call PopLocalFrame regions args h = absurd h
-free_call f regions args h = refl
+free_call f regions args h = grind (arith, h)
 
 -- a target that isn't a test
 abbrev pub IsNoTest : Target → Type 0

@@ -113,8 +113,7 @@ known_called p taken s k obeys = known_call p taken k (function_called s) (unbro
 -- ---- tests
 
 push_is : (f : JniFunction) → rules.is_push f ≡ true → f ≡ PushLocalFrame
-push_is PushLocalFrame h = refl
-push_is f h = absurd (cc)
+push_is f h = grind (arith, h)
 
 pushed_by : (p : Point) (s : Stmt) (line : ℕ) (target : Target) (c : Call) (on_true on_false : Point → Type 0) → IsCalled p s c → may_be_tested (function_named c.function) ≡ true → on_true (at p (record p.regions { frames = p.regions.frames + 1 })) → on_false p
     → RunsPush (invocation line target c (function_named c.function)) on_true on_false p
@@ -133,8 +132,7 @@ push_gives p taken returns line c then' else' s (inr e) known kept obeys on_true
 -- ---- results
 
 no_push : (f : JniFunction) → not (rules.is_push f) ≡ true → is_push f ≡ false
-no_push PushLocalFrame h = absurd (cc)
-no_push f h = refl
+no_push f h = grind (arith, h)
 
 -- a call whose result goes where it may
 pub call_runs : (p : Point) (s : Stmt) (line : ℕ) (target : Target) (c : Call) (k : Point → Type 0) (call : IsCalled p s c) → not (rules.is_push call.function) ≡ true

@@ -1,11 +1,9 @@
 -- At its point a thread names a weak reference in a call of the functions alone that take one.
-use Rattle.std.proofs.Common.{◌≡◌, ◌≢◌, inl, inr, ℕ, Bool, true, false, List, [], ◌∷◌, length, Option, Some, None, refl, sym, ◌∙◌}
+use Rattle.std.proofs.Common.{◌≡◌, ◌≢◌, inl, inr, ℕ, Bool, true, false, List, [], ◌∷◌, length, Option, Some, None, refl, sym, ◌∙◌, arith}
 use Rattle.std.specs.List.{list_any, AllByRecursion}
 use Rattle.std.proofs.lemmas.Bool.{or_parts}
 use Rattle.base.specs.Bytes.{Identifier, lookup}
-use Rattle.jni.specs.declared.access.Access.TheVariants.{ElementsCopy, ArrayView, CharsCopy, CharsView}
 use Rattle.jni.specs.declared.function.JniFunction.{JniFunction}
-use Rattle.jni.specs.declared.function.JniFunction.TheVariants.{GetBuffer, ReleaseBuffer}
 use Rattle.jni.specs.JniFunction.{prototype, parameters_for}
 use Rattle.jni.specs.declared.kinds.ParameterKind.{ParameterKind}
 use Rattle.jni.specs.declared.kinds.ParameterKind.TheVariants.{FieldID, IntNumber, TextBytes, AnyReference, LocalVariable, StaticVariable, WeakVariable, ArrayVariable, BufferVariable, Mode, IsCopy, MethodID, Passed}
@@ -35,15 +33,7 @@ may_be_weak parameter = false
 
 -- the functions that take a weak reference have such a parameter, and no others
 weak_parameters : (f : JniFunction) → list_any may_be_weak (prototype f).parameters ≡ takes_weak f
-weak_parameters (GetBuffer (ElementsCopy t)) = refl
-weak_parameters (GetBuffer ArrayView) = refl
-weak_parameters (GetBuffer CharsCopy) = refl
-weak_parameters (GetBuffer CharsView) = refl
-weak_parameters (ReleaseBuffer (ElementsCopy t)) = refl
-weak_parameters (ReleaseBuffer ArrayView) = refl
-weak_parameters (ReleaseBuffer CharsCopy) = refl
-weak_parameters (ReleaseBuffer CharsView) = refl
-weak_parameters f = refl
+weak_parameters f = grind arith
 
 no_kind : true ≡ false → ⊥
 no_kind e = cc
