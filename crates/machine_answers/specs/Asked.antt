@@ -33,7 +33,7 @@ use Rattle.machine_scenes.specs.declared.activation.Activation.{Activation}
 use Rattle.machine_scenes.specs.Buffers.{Acquired, HeldBuffers, acquired_by, beside, holding}
 use Rattle.machine_answers.specs.Sights.{element_wanted}
 use Rattle.machine_scenes.specs.StoreAgrees.{HeldAgrees, StoreAgrees}
-use Rattle.machine_scenes.specs.Locals.{FramesAgree, IsKeyOf}
+use Rattle.machine_scenes.specs.Locals.{FramesAgree, IsKeyGiven}
 use Rattle.machine_scenes.specs.Given.{HasArray, HasBuffer, IsGiven, key_at, operand_of}
 use Rattle.machine_scenes.specs.HeapAgrees.{ReferenceAgrees}
 use Rattle.machine_answers.specs.Answers.{Brought, bringing}
@@ -75,12 +75,6 @@ buffers_of store activation owner = holding activation.slots.buffers.items store
 abbrev pub brought_by : SourceUnit → Store → Activation → (k owner : ℕ) → BuffersInUse → Call → List Actual → Brought
 brought_by unit store activation k owner in_use call args =
     bringing unit call.texts call.operands activation.slots.numbers.items (buffers_of store activation owner) k in_use args
-
--- NULL for NULL, or a key of the object of a name, in a frame of this level
-abbrev pub IsKeyGiven : Space → LocalTable → (key : Option ℕ) → Reference → (level : ℕ) → Type 0
-IsKeyGiven space locals None None level = Unit {0}
-IsKeyGiven space locals (Some key) (Some n) level = IsKeyOf space locals key n level
-IsKeyGiven space locals key r level = ⊥
 
 -- a function ends the reference of a static
 abbrev pub deletes_static : JniFunction → Bool

@@ -10,7 +10,7 @@ use Rattle.tables.specs.Locals.{LocalTable}
 use Rattle.tables.specs.References.{address_at}
 use Rattle.machine_scenes.specs.Given.{held_in}
 use Rattle.machine_scenes.specs.HeapAgrees.{ReferenceAgrees}
-use Rattle.machine_scenes.specs.Locals.{IsKeyOf, KeysAgree, address_of}
+use Rattle.machine_scenes.specs.Locals.{IsKeyGiven, IsKeyOf, KeysAgree, address_of}
 
 -- ---- what a slot has
 
@@ -165,17 +165,11 @@ key_nulled space locals keys references owners i h = record {
 
 -- ---- a key and a reference
 
--- NULL for NULL, or a key of the reference, in a frame of this level
-abbrev pub OwnKey : Space → LocalTable → Option ℕ → Reference → ℕ → Type 0
-OwnKey space locals None None level = Unit {0}
-OwnKey space locals (Some key) (Some n) level = IsKeyOf space locals key n level
-OwnKey space locals k q level = ⊥
-
 pub own_key_there : (space : Space) (locals : LocalTable) (keys : List (Option ℕ)) (references : List Reference) (owners : List (Option ℕ)) (i : ℕ) (q : Reference) (level : ℕ) → KeysAgree space locals keys references owners → slice_get references i ≡ Some q
-    → ((n : ℕ) → q ≡ Some n → slice_get owners i ≡ Some (Some level)) → OwnKey space locals (held_in (slice_get keys i)) q level
+    → ((n : ℕ) → q ≡ Some n → slice_get owners i ≡ Some (Some level)) → IsKeyGiven space locals (held_in (slice_get keys i)) q level
 own_key_there space locals keys references owners i q level h at owned = by_key (slice_get keys i) refl (null_there space locals keys references owners i q h at) q refl
   where
-    by_key : (o : Option (Option ℕ)) → slice_get keys i ≡ o → is_none (held_in o) ≡ is_none q → (r : Reference) → q ≡ r → OwnKey space locals (held_in o) r level
+    by_key : (o : Option (Option ℕ)) → slice_get keys i ≡ o → is_none (held_in o) ≡ is_none q → (r : Reference) → q ≡ r → IsKeyGiven space locals (held_in o) r level
     by_key None is null None same = tt
     by_key None is null (Some n) same = absurd (let clash : true ≡ is_none (Some n) = null ∙ ap is_none same in cc)
     by_key (Some None) is null None same = tt

@@ -40,6 +40,12 @@ pub record IsKeyOf (space : Space) (locals : LocalTable) (key n level : ℕ) : T
   pub name : name_at space address ≡ Some n
   pub of_level : level_of locals key ≡ level
 
+-- NULL for NULL, or a key of the object of a name, in a frame of this level
+abbrev pub IsKeyGiven : Space → LocalTable → (key : Option ℕ) → Reference → (level : ℕ) → Type 0
+IsKeyGiven space locals None None level = Unit {0}
+IsKeyGiven space locals (Some key) (Some n) level = IsKeyOf space locals key n level
+IsKeyGiven space locals key r level = ⊥
+
 -- Slot by slot, what keys stand for. Where the reference is the variable's own, at a level, its key is live, and no other such
 -- slot has it; else it may be dead.
 pub record KeysAgree (space : Space) (locals : LocalTable) (keys : List (Option ℕ)) (references : List Reference) (owners : List (Option ℕ)) : Type 0 where

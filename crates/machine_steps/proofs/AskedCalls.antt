@@ -34,9 +34,9 @@ use Rattle.code_meaning.specs.Fits.{HaveOwnSlots}
 use Rattle.code_meaning.specs.Slots.{Visible, visible_to}
 use Rattle.machine_scenes.specs.declared.store.Store.{Store}
 use Rattle.machine_scenes.specs.declared.activation.Activation.{Activation}
-use Rattle.machine_scenes.specs.Locals.{FramesAgree}
+use Rattle.machine_scenes.specs.Locals.{FramesAgree, IsKeyGiven}
 use Rattle.machine_answers.specs.Answered.{TwoCalls}
-use Rattle.machine_answers.specs.Asked.{IsAsked, IsKeyGiven, references_of}
+use Rattle.machine_answers.specs.Asked.{IsAsked, references_of}
 use Rattle.machine_scenes.specs.Statics.{all_held}
 use Rattle.machine_calls.specs.CarriedOut.{IsPossible}
 use Rattle.machine_answers.proofs.TrapsSeen.{is_too_deep, with_depth}
@@ -49,7 +49,7 @@ use Rattle.machine_answers.proofs.CallTraps.{found_as_seen, found_trap as checks
 use Rattle.machine_steps.proofs.Calls.{Ready, fields_count, ready}
 use Rattle.machine_threads.specs.SlotsHold.{slots_of}
 use Rattle.machine_steps.proofs.Effects.{call_cases}
-use Rattle.machine_scenes.proofs.KeyLaws.{OwnKey, keys_count}
+use Rattle.machine_scenes.proofs.KeyLaws.{keys_count}
 use Rattle.machine_steps.proofs.OwnedKeys.{DeletesKey, deletes_key, operands_owned}
 use Rattle.semantics_safety.specs.Owners.{Owners}
 use Rattle.tables.specs.Locals.{LocalTable}
@@ -272,17 +272,11 @@ module _ (p : Lowered) (w : World) (store : Store) (pending : Option ℕ) (call 
   Called effect = CalledAs p w store pending call h.code function others k owner own shared s task rest r effect
 
   -- the key of a reference that is deleted, and the static whose reference ends
-  key_given : (o : Option ℕ) (q : Reference) (level : ℕ) → OwnKey store.heap call.locals o q level → IsKeyGiven store.heap call.locals o q level
-  key_given None None level own = own
-  key_given (Some key) (Some n) level own = own
-  key_given o q level own = absurd own
-
   own_key : (args : List Actual) → DeletesKey p w.classes store.heap store.elements owner call h.code own shared s task rest r function.operands args
       → IsKeyGiven store.heap call.locals (key_at (references_of store call) (operand_of function.operands 0)) (reference_given args 0) (level_of (lookup (variable_given args 0) s.variables))
   own_key args d =
-      key_given _ _ _
-      (subst (λ (o : Operand). OwnKey store.heap call.locals (key_at (references_of store call) o) (reference_given args 0) (level_of (lookup (variable_given args 0) s.variables))) (sym d.is)
-      (subst (λ (x : Identifier). OwnKey store.heap call.locals (held_in (slice_get call.slots.references.items d.slot)) (reference_given args 0) (level_of (lookup x s.variables))) (sym d.variable) d.key))
+      subst (λ (o : Operand). IsKeyGiven store.heap call.locals (key_at (references_of store call) o) (reference_given args 0) (level_of (lookup (variable_given args 0) s.variables))) (sym d.is)
+      (subst (λ (x : Identifier). IsKeyGiven store.heap call.locals (held_in (slice_get call.slots.references.items d.slot)) (reference_given args 0) (level_of (lookup x s.variables))) (sym d.variable) d.key)
 
   called_by : (line : ℕ) (target : Target) (f : JniFunction) (args : List Actual) → CallsFunction h.code r.known call.place call.stack (slots_of call r.meant) (visible_to own shared s) line target f args rest → effect_of (sight_of shared s) task ≡ Calls line target f args → Called (Calls line target f args)
   called_by line target f args c step =

@@ -39,7 +39,8 @@ use Rattle.machine_steps.proofs.Arguments.{HasOwner}
 use Rattle.machine_steps.proofs.Calls.{Ready}
 use Rattle.machine_threads.specs.SlotsHold.{slots_of}
 use Rattle.machine_steps.proofs.Changes.{local_by_kind}
-use Rattle.machine_scenes.proofs.KeyLaws.{OwnKey, own_key_there}
+use Rattle.machine_scenes.proofs.KeyLaws.{own_key_there}
+use Rattle.machine_scenes.specs.Locals.{IsKeyGiven}
 use Rattle.machine_scenes.specs.Given.{held_in, operand_of}
 
 -- ---- only an Invoke calls
@@ -248,7 +249,7 @@ module _ (p : Lowered) (classes : Classes) (space : Space) (copies : List (Optio
     pub variable : variable_given (a ∷ []) 0 ≡ name
     pub at : lookup name r.known ≡ Some (record { ty = Ref; index = slot })
     pub owned : HasOwner r.meant.references r.meant.owners (operand.Local slot)
-    pub key : OwnKey space call.locals (held_in (slice_get keys slot)) (reference_in_actual (Some a)) (level_of (lookup name s.variables))
+    pub key : IsKeyGiven space call.locals (held_in (slice_get keys slot)) (reference_in_actual (Some a)) (level_of (lookup name s.variables))
 
   named_key : (o : InMemory) (a : Actual) → OperandFits LocalVariable o → IsOperand code r.known call.place call.stack (slots_of call r.meant) (visible_to own shared s) o a → IsArgumentOwn own s.variables a → IsNamedKey o a
   named_key (operand.Local i) a fits (x, is, at) owned =
@@ -271,8 +272,8 @@ module _ (p : Lowered) (classes : Classes) (space : Space) (copies : List (Optio
         variable = ap (λ (b : Actual). variable_given (b ∷ []) 0) is;
         at = at;
         owned = owner_of_one (operand.Local i) a (x, is, at) owned;
-        key = subst (λ (q : Reference). OwnKey space call.locals (held_in (slice_get keys i)) q (level_of (lookup x s.variables))) (sym given)
-            (subst (OwnKey space call.locals (held_in (slice_get keys i)) shown.reference) (sym level) (own_key_there space call.locals keys r.meant.references r.meant.owners i shown.reference local.0 r.holds.keys shown.there own_level));
+        key = subst (λ (q : Reference). IsKeyGiven space call.locals (held_in (slice_get keys i)) q (level_of (lookup x s.variables))) (sym given)
+            (subst (IsKeyGiven space call.locals (held_in (slice_get keys i)) shown.reference) (sym level) (own_key_there space call.locals keys r.meant.references r.meant.owners i shown.reference local.0 r.holds.keys shown.there own_level));
       }
   named_key operand.Null a fits h owned = absurd fits
   named_key (operand.Static i) a fits h owned = absurd fits
@@ -294,7 +295,7 @@ module _ (p : Lowered) (classes : Classes) (space : Space) (copies : List (Optio
     pub variable : variable_given args 0 ≡ name
     pub at : lookup name r.known ≡ Some (record { ty = Ref; index = slot })
     pub owned : HasOwner r.meant.references r.meant.owners (operand.Local slot)
-    pub key : OwnKey space call.locals (held_in (slice_get keys slot)) (reference_given args 0) (level_of (lookup name s.variables))
+    pub key : IsKeyGiven space call.locals (held_in (slice_get keys slot)) (reference_given args 0) (level_of (lookup name s.variables))
 
   pub deletes_key : (line : ℕ) (target : Target) (f : JniFunction) (args : List Actual) (operands : List InMemory) → effect_of (sight_of shared s) task ≡ Calls line target f args → AllByRecursion (λ x. IsOwn own x (lookup x s.variables)) (task_names task)
       → AllZip (IsOperand code r.known call.place call.stack (slots_of call r.meant) (visible_to own shared s)) operands args → AllZip OperandFits (LocalVariable ∷ []) operands → DeletesKey operands args
