@@ -139,7 +139,6 @@ pub keeps_others : {classes : Classes} {brought : Brought} {space : Space} {loca
     → CopiesStay a brought.buffers.copies left → KeepsCopies brought.buffers.owner brought.buffers.copies left
 keeps_others {brought = brought} {space = space} left (row.releases it) stay key c has other =
     stay key c has (λ up is.
-    let agrees = subst (λ (y : Buffer). BufferAgrees space brought.buffers.copies brought.buffers.owner y it.holds.buffer) (sym it.held ∙ is) it.holds.agrees in
-    let own = copy_there agrees in
+    let own = copy_there (subst (λ (y : Buffer). BufferAgrees space brought.buffers.copies brought.buffers.owner y it.holds.buffer) (sym it.held ∙ is) it.holds.agrees) in
     other (let both : Some c ≡ Some own.0 = sym has ∙ own.1 in let same : c ≡ own.0 = cc in ap (λ (l : OwnedNumbers). l.owner) same ∙ own.2))
 keeps_others left does stay key c has other = stay key c has tt
