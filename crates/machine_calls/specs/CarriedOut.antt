@@ -41,6 +41,8 @@ use Rattle.machine_scenes.specs.Locals.{FramesAgree, IsKeyOf}
 use Rattle.tables.specs.Locals.{LocalTable}
 use Rattle.machine_scenes.specs.HeapAgrees.{ReferenceAgrees}
 use Rattle.machine_scenes.specs.NewObjects.{texts_in}
+use Rattle.machine_calls.specs.CallState.{CallState}
+use Rattle.machine_calls.specs.declared.carry_out.Calling.{Calling}
 use Rattle.machine_calls.specs.declared.carry_out.Carried.{Carried}
 
 -- the shared state after a call of this effect, or after the same with its allocation refused
@@ -161,6 +163,10 @@ abbrev pub IsNewCopy : (before : List (Option OwnedNumbers)) → Given → Type 
 IsNewCopy before (given.Buffer (buffer.Copy key)) = value_at before key ≡ None
 IsNewCopy before g = Unit {0}
 
+-- no copied list is given
+abbrev pub IsNoCopy : Given → Type 0
+IsNoCopy g = (before : List (Option OwnedNumbers)) → IsNewCopy before g
+
 -- an answer does nothing but to the frames
 abbrev pub is_of_frames : Answer → Bool
 is_of_frames (answer.Ensures more) = true
@@ -246,62 +252,67 @@ brought_to p store activation call k owner others s args =
     bringing (unit_tree p.unit) (texts_in call.texts.items) call.operands.items activation.slots.numbers.items
     (holding activation.slots.buffers.items store.elements owner) k (in_use_of (beside others (acquired_by s))) args
 
--- a call of thread k, of the number that its copies have as their owner's, can be carried out and has this answer
-abbrev pub HasAnswer : World → Store → (pending : Option ℕ) → Activation → Call → (k owner : ℕ) → Answer → Type 0
-HasAnswer w store pending activation call k owner a =
+-- this call can be carried out and has this answer
+abbrev pub HasAnswer : Calling → CallState → Answer → Type 0
+HasAnswer calling before a =
     (p : Lowered) × (args : List Actual) × (others : Acquired) × (shared : Shared) × (s : Thread)
-    × (of_source : SourceAnswer) × IsPossible p w store pending activation.locals others shared s
-    × IsAnswer w.classes (brought_to p store activation call k owner others s args)
-    store.heap activation.locals shared s a call.result of_source
+    × (of_source : SourceAnswer) × IsPossible p calling.world.now before.store before.pending before.activation.locals others shared s
+    × IsAnswer calling.world.now.classes
+    (brought_to p before.store before.activation calling.call.now calling.thread calling.owner others s args)
+    before.store.heap before.activation.locals shared s a calling.call.now.result of_source
 
 -- what carrying it out leaves is what the call does
-abbrev pub CarriesOutAnswer : World → (old store : Store) → (pending left : Option ℕ) → (before after : Activation) → Call
-    → (k owner : ℕ) → Answer → Carried → Type 0
-CarriesOutAnswer w old store pending left before after call k owner a carried =
+abbrev pub CarriesOutAnswer : Calling → (before after : CallState) → Answer → Carried → Type 0
+CarriesOutAnswer calling before after a carried =
     (p : Lowered) (args : List Actual) (others : Acquired) (shared : Shared) (s : Thread)
-    (of_source : SourceAnswer) → IsPossible p w old pending before.locals others shared s
-    → IsAnswer w.classes (brought_to p old before call k owner others s args)
-    old.heap before.locals shared s a call.result of_source
-    → CarriesOut p w old.heap before.locals a call.result others owner shared s
-    (effect_told w.classes (brought_to p old before call k owner others s args) shared s of_source)
-    carried.refused store left after.locals carried.given
+    (of_source : SourceAnswer) → IsPossible p calling.world.now before.store before.pending before.activation.locals others shared s
+    → IsAnswer calling.world.now.classes
+    (brought_to p before.store before.activation calling.call.now calling.thread calling.owner others s args)
+    before.store.heap before.activation.locals shared s a calling.call.now.result of_source
+    → CarriesOut p calling.world.now before.store.heap before.activation.locals a calling.call.now.result others
+    calling.owner shared s (effect_told calling.world.now.classes
+    (brought_to p before.store before.activation calling.call.now calling.thread calling.owner others s args) shared s of_source)
+    carried.refused after.store after.pending after.activation.locals carried.given
 
--- a call of thread k, which has these buffers and this number, has an answer of buffers, and can be carried out
-abbrev pub HasAnswerOfBuffers : World → Store → (pending : Option ℕ) → LocalTable → List Buffer → (k owner : ℕ) → Answer → Type 0
-HasAnswerOfBuffers w store pending locals buffers k owner a =
+-- what such a call brings of buffers is what is in slots, and it is this thread's
+pub record BringsBuffers (calling : Calling) (before : CallState) (others : Acquired) (s : Thread) (brought : Brought) : Type 0 where
+  pub buffers : brought.buffers ≡ holding before.activation.slots.buffers.items before.store.elements calling.owner
+  pub in_use : brought.in_use ≡ in_use_of (beside others (acquired_by s))
+  pub thread : brought.thread ≡ calling.thread
+
+-- a call has an answer of buffers, and can be carried out
+abbrev pub HasAnswerOfBuffers : Calling → CallState → Answer → Type 0
+HasAnswerOfBuffers calling before a =
     (p : Lowered) × (kind : ResultKind) × (brought : Brought) × (others : Acquired) × (shared : Shared) × (s : Thread)
-    × (of_source : SourceAnswer) × IsPossible p w store pending locals others shared s
-    × IsAnswer w.classes brought store.heap locals shared s a kind of_source
-    × (brought.buffers ≡ holding buffers store.elements owner) × (brought.in_use ≡ in_use_of (beside others (acquired_by s)))
-    × (brought.thread ≡ k)
+    × (of_source : SourceAnswer) × IsPossible p calling.world.now before.store before.pending before.activation.locals others shared s
+    × IsAnswer calling.world.now.classes brought before.store.heap before.activation.locals shared s a kind of_source
+    × BringsBuffers calling before others s brought
 
--- what carrying that out leaves is what the call does
-abbrev pub CarriesOutBuffers : World → (old store : Store) → (pending left : Option ℕ) → (before locals : LocalTable)
-    → List Buffer → (k owner : ℕ) → Answer → Carried → Type 0
-CarriesOutBuffers w old store pending left before locals buffers k owner a carried =
+-- what carrying that out leaves, and this being given, is what the call does
+abbrev pub CarriesOutBuffers : Calling → (before after : CallState) → Answer → Given → Type 0
+CarriesOutBuffers calling before after a given =
     (p : Lowered) (kind : ResultKind) (brought : Brought) (others : Acquired) (shared : Shared) (s : Thread)
-    (of_source : SourceAnswer) → IsPossible p w old pending before others shared s
-    → IsAnswer w.classes brought old.heap before shared s a kind of_source
-    → brought.buffers ≡ holding buffers old.elements owner → brought.in_use ≡ in_use_of (beside others (acquired_by s))
-    → brought.thread ≡ k → CarriesOut p w old.heap before a kind others owner shared s (effect_told w.classes brought shared s of_source)
-    carried.refused store left locals carried.given
+    (of_source : SourceAnswer) → IsPossible p calling.world.now before.store before.pending before.activation.locals others shared s
+    → IsAnswer calling.world.now.classes brought before.store.heap before.activation.locals shared s a kind of_source
+    → BringsBuffers calling before others s brought
+    → CarriesOut p calling.world.now before.store.heap before.activation.locals a kind others calling.owner shared s
+    (effect_told calling.world.now.classes brought shared s of_source) false after.store after.pending after.activation.locals given
 
--- a call of thread k has an answer of monitors, and can be carried out
-abbrev pub HasAnswerOfMonitors : World → Store → (pending : Option ℕ) → LocalTable → (k : ℕ) → Answer → Type 0
-HasAnswerOfMonitors w store pending locals k a =
+-- a call has an answer of monitors, and can be carried out
+abbrev pub HasAnswerOfMonitors : Calling → Store → (pending : Option ℕ) → LocalTable → Answer → Type 0
+HasAnswerOfMonitors calling store pending locals a =
     (p : Lowered) × (kind : ResultKind) × (brought : Brought) × (others : Acquired) × (shared : Shared) × (s : Thread)
-    × (of_source : SourceAnswer) × IsPossible p w store pending locals others shared s
-    × IsAnswer w.classes brought store.heap locals shared s a kind of_source × (brought.thread ≡ k)
+    × (of_source : SourceAnswer) × IsPossible p calling.world.now store pending locals others shared s
+    × IsAnswer calling.world.now.classes brought store.heap locals shared s a kind of_source × (brought.thread ≡ calling.thread)
 
--- what carrying that out leaves is what the call does, whatever its number
-abbrev pub CarriesOutMonitors : World → (old store : Store) → (pending left : Option ℕ) → (before locals : LocalTable)
-    → (k : ℕ) → Answer → Carried → Type 0
-CarriesOutMonitors w old store pending left before locals k a carried =
+-- what carrying that out leaves, and this being given, is what the call does, whatever its number
+abbrev pub CarriesOutMonitors : Calling → (old store : Store) → (pending left : Option ℕ) → (before locals : LocalTable) → Answer → Given → Type 0
+CarriesOutMonitors calling old store pending left before locals a given =
     (p : Lowered) (kind : ResultKind) (brought : Brought) (others : Acquired) (owner : ℕ) (shared : Shared) (s : Thread)
-    (of_source : SourceAnswer) → IsPossible p w old pending before others shared s
-    → IsAnswer w.classes brought old.heap before shared s a kind of_source → brought.thread ≡ k
-    → CarriesOut p w old.heap before a kind others owner shared s (effect_told w.classes brought shared s of_source)
-    carried.refused store left locals carried.given
+    (of_source : SourceAnswer) → IsPossible p calling.world.now old pending before others shared s
+    → IsAnswer calling.world.now.classes brought old.heap before shared s a kind of_source → brought.thread ≡ calling.thread
+    → CarriesOut p calling.world.now old.heap before a kind others owner shared s
+    (effect_told calling.world.now.classes brought shared s of_source) false store left locals given
 
 -- a call has an answer of references, and can be carried out
 abbrev pub HasAnswerOfReferences : World → Store → (pending : Option ℕ) → LocalTable → Answer → Type 0
@@ -310,12 +321,12 @@ HasAnswerOfReferences w store pending locals a =
     × (of_source : SourceAnswer) × IsPossible p w store pending locals others shared s
     × IsAnswer w.classes brought store.heap locals shared s a kind of_source
 
--- what carrying that out leaves is what the call does, whichever thread makes it and whatever its number
+-- what carrying that out leaves, and this being given, is what the call does, whichever thread makes it and whatever its number
 abbrev pub CarriesOutReferences : World → (old store : Store) → (pending left : Option ℕ) → (before locals : LocalTable)
-    → Answer → Carried → Type 0
-CarriesOutReferences w old store pending left before locals a carried =
+    → Answer → Given → Type 0
+CarriesOutReferences w old store pending left before locals a given =
     (p : Lowered) (kind : ResultKind) (brought : Brought) (others : Acquired) (owner : ℕ) (shared : Shared) (s : Thread)
     (of_source : SourceAnswer) → IsPossible p w old pending before others shared s
     → IsAnswer w.classes brought old.heap before shared s a kind of_source
     → CarriesOut p w old.heap before a kind others owner shared s (effect_told w.classes brought shared s of_source)
-    carried.refused store left locals carried.given
+    false store left locals given

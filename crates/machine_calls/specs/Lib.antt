@@ -1,3 +1,4 @@
 pub mod Made
 pub mod Barrier
+pub mod CallState
 pub mod CarriedOut

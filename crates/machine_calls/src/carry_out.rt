@@ -1,13 +1,13 @@
 //! What a call does to the store, and which exception is pending then.
 
-ghost use Rattle.std.specs.Prelude.{◌≡◌, ◌+◌, ◌-◌, ◌<◌, ◌≤◌, ◌^◌, ℕ, List, Option, length, nat_le, slice_get, true, false, IfOk, OnOk, OnErr};
+ghost use Rattle.std.specs.Prelude.{◌≡◌, ◌+◌, ◌-◌, ◌<◌, ◌≤◌, ◌^◌, length, nat_le, slice_get, true, false, IfOk, OnOk, OnErr};
 ghost use Rattle.base.specs.Limits.{most_references};
 ghost use Rattle.heap.specs.Heap.{left_of};
-ghost use Rattle.tables.specs.Elements.{OwnedNumbers};
 ghost use Rattle.tables.specs.Locals.{capacities, ensured, popped};
 ghost use Rattle.machine_answers.specs.Answers.{is_carried};
 ghost use Rattle.machine_calls.specs.Barrier.{IsNoted, written_by};
-ghost use Rattle.machine_calls.specs.CarriedOut.{CarriesOutAnswer, CarriesOutBuffers, CarriesOutMonitors, CarriesOutReferences, CopiesStay, HasAnswer, HasAnswerOfBuffers, HasAnswerOfMonitors, HasAnswerOfReferences, IsNewCopy, buffers_after, failed, is_of_buffers, is_of_frames, is_of_monitors, is_of_references, slots_after, takes_memory};
+ghost use Rattle.machine_calls.specs.CallState.{ChangesBuffers, ChangesSlots, IsAsBefore, state_of};
+ghost use Rattle.machine_calls.specs.CarriedOut.{CarriesOutAnswer, CarriesOutBuffers, CarriesOutMonitors, CarriesOutReferences, CopiesStay, HasAnswer, HasAnswerOfBuffers, HasAnswerOfMonitors, HasAnswerOfReferences, IsNewCopy, IsNoCopy, buffers_after, failed, is_of_buffers, is_of_frames, is_of_monitors, is_of_references, slots_after, takes_memory};
 ghost use Rattle.machine_calls.specs.Made.{cells_of};
 ghost use Rattle.machine_scenes.specs.NewObjects.{texts_in};
 ghost use Rattle.machine_answers.specs.declared.answer.Given.TheVariants.{Number};
@@ -32,6 +32,17 @@ use std::alloc::AllocError;
 use tables::{Locals, TableFault};
 use world_values::World;
 
+/// A call that is made.
+#[derive(Clone, Copy)]
+pub struct Calling<'a> {
+    pub world: &'a World,
+    pub call: &'a Call,
+    /// The number of the thread that makes it, from 1.
+    pub thread: u8,
+    /// The owner of what it copies.
+    pub owner: u16,
+}
+
 /// What a call gives, and whether its allocation was refused.
 #[derive(Clone, Copy)]
 pub struct Carried {
@@ -51,51 +62,42 @@ pub fn has_room(classes: &ClassTable, texts: &[Vec<u8>], heap: &Heap, answer: &A
     }
 }
 
-/// Does to the store and to an activation's frames and slots what this call answers, in the thread of this number. What
-/// it copies has this owner. An object or an exception is refused exactly where it has no room in the heap: then the
-/// OutOfMemoryError object is pending, and the call fails. Local arrays are in the number slots.
+/// Does to the store and to an activation's frames and slots what a call answers. An object or an exception is refused
+/// exactly where it has no room in the heap: then the OutOfMemoryError object is pending, and the call fails. Local arrays are
+/// in the number slots.
 ///
 /// An error says that host memory for a frame, a global reference, weak or not, or a copy of elements was refused; then all is as
 /// before.
 #[inline(always)]
 pub fn carry_out(
-    world: &World,
+    calling: Calling<'_>,
     store: &mut Store,
     pending: &mut Option<Addr>,
     activation: &mut Activation,
-    call: &Call,
-    thread: u8,
-    owner: u16,
     answer: Answer,
 ) -> Result<Carried, AllocError>
-    requires possible { HasAnswer world.now store.old pending.old activation.old call.now thread owner answer }
+    requires possible { HasAnswer calling (state_of store.old pending.old activation.old) answer }
     requires few { store.old.births + 2 < 2 ^ 32 }
     requires runs { is_carried answer ≡ true }
-    ensures carried { IfOk result (λ carried. CarriesOutAnswer world.now store.old store.new pending.old pending.new
-        activation.old activation.new call.now thread owner answer carried) }
+    ensures carried { IfOk result (CarriesOutAnswer calling.entry (state_of store.old pending.old activation.old)
+        (state_of store.new pending.new activation.new) answer) }
     ensures barrier { OnOk result (IsNoted (written_by answer) store.old.heap store.new.heap) }
-    ensures slots { IfOk result (λ carried. activation.new.slots.numbers.items
+    ensures numbers { OnOk result (activation.new.slots.numbers.items
         ≡ slots_after store.old.heap answer activation.old.slots.numbers.items) }
-    ensures buffer_slots { IfOk result (λ carried. activation.new.slots.buffers.items
+    ensures buffers { OnOk result (activation.new.slots.buffers.items
         ≡ buffers_after answer activation.old.slots.buffers.items) }
-    ensures stays { IfOk result (λ carried. activation.new ≡ record activation.old {
-      locals = activation.new.locals;
-      slots = record activation.old.slots {
-        numbers = activation.new.slots.numbers;
-        buffers = activation.new.slots.buffers;
-      };
-    }) }
-    ensures copies { IfOk result (λ carried. CopiesStay answer store.old.elements store.new.elements) }
+    ensures stays { OnOk result (ChangesSlots activation.old activation.new) }
+    ensures copies { OnOk result (CopiesStay answer store.old.elements store.new.elements) }
     ensures new_copy { IfOk result (λ carried. IsNewCopy store.old.elements carried.given) }
-    ensures store { OnErr result (store.new ≡ store.old) }
-    ensures pending { OnErr result (pending.new ≡ pending.old) }
-    ensures activation { OnErr result (activation.new ≡ activation.old) }
+    ensures kept { OnErr result (IsAsBefore (state_of store.old pending.old activation.old)
+        (state_of store.new pending.new activation.new)) }
     ensures memory { OnErr result (takes_memory answer ≡ true) }
 {
     // Here the proof takes up what is known of a world.
-    let _ = world.threads();
-    let kind = call.result;
-    let texts: &[Vec<u8>] = &call.texts;
+    let _ = calling.world.threads();
+    let world = calling.world;
+    let kind = calling.call.result;
+    let texts: &[Vec<u8>] = &calling.call.texts;
     match answer {
         Answer::Gives(given) => {
             note_given(&mut store.heap, &given);
@@ -166,120 +168,102 @@ pub fn carry_out(
                 refused: false,
             })
         }
-        _ => carry_out_buffers(
-            world,
-            store,
-            pending,
-            &mut activation.locals,
-            &mut activation.slots.buffers,
-            thread,
-            owner,
-            answer,
-        ),
+        _ => match carry_out_buffers(calling, store, pending, activation, answer) {
+            Ok(given) => Ok(Carried {
+                given,
+                refused: false,
+            }),
+            Err(fault) => Err(fault),
+        },
     }
 }
 
-/// Does what an answer of buffers, of monitors, of references or of frames says, in the thread of this number.
+/// Does what an answer of buffers, of monitors, of references or of frames says, and gives what the call does.
 #[inline(always)]
 fn carry_out_buffers(
-    world: &World,
+    calling: Calling<'_>,
     store: &mut Store,
     pending: &mut Option<Addr>,
-    locals: &mut Locals,
-    buffers: &mut [Buffer],
-    thread: u8,
-    owner: u16,
+    activation: &mut Activation,
     answer: Answer,
-) -> Result<Carried, AllocError>
+) -> Result<Given, AllocError>
     requires of_buffers { is_of_buffers answer ≡ true }
-    requires possible { HasAnswerOfBuffers world.now store.old pending.old locals.old buffers.old thread owner answer }
-    ensures carried { IfOk result (λ carried. CarriesOutBuffers world.now store.old store.new pending.old pending.new
-        locals.old locals.new buffers.old thread owner answer carried) }
+    requires possible { HasAnswerOfBuffers calling (state_of store.old pending.old activation.old) answer }
+    ensures carried { IfOk result (CarriesOutBuffers calling.entry (state_of store.old pending.old activation.old)
+        (state_of store.new pending.new activation.new) answer) }
     ensures barrier { OnOk result (IsNoted (written_by answer) store.old.heap store.new.heap) }
-    ensures slots { IfOk result (λ carried. buffers.new ≡ buffers_after answer buffers.old) }
-    ensures copies { IfOk result (λ carried. CopiesStay answer store.old.elements store.new.elements) }
-    ensures new_copy { IfOk result (λ carried. IsNewCopy store.old.elements carried.given) }
-    ensures store { OnErr result (store.new ≡ store.old) }
-    ensures pending { OnErr result (pending.new ≡ pending.old) }
-    ensures locals { OnErr result (locals.new ≡ locals.old) }
-    ensures buffers { OnErr result (buffers.new ≡ buffers.old) }
+    ensures buffers { OnOk result (activation.new.slots.buffers.items ≡ buffers_after answer activation.old.slots.buffers.items) }
+    ensures stays { ChangesBuffers activation.old activation.new }
+    ensures copies { OnOk result (CopiesStay answer store.old.elements store.new.elements) }
+    ensures new_copy { IfOk result (IsNewCopy store.old.elements) }
+    ensures kept { OnErr result (IsAsBefore (state_of store.old pending.old activation.old)
+        (state_of store.new pending.new activation.new)) }
     ensures memory { OnErr result (takes_memory answer ≡ true) }
 {
     match answer {
         Answer::AcquiresCopy(object) => {
             let alloc = *store.loaded.allocator();
-            let buffer = acquire_copy(alloc, &store.heap, &mut store.elements, owner, object)?;
-            Ok(Carried {
-                given: Given::Buffer(buffer),
-                refused: false,
-            })
+            let buffer = acquire_copy(
+                alloc,
+                &store.heap,
+                &mut store.elements,
+                calling.owner,
+                object,
+            )?;
+            Ok(Given::Buffer(buffer))
         }
         Answer::AcquiresView(object) => {
             let buffer = acquire_view(&mut store.heap, &mut store.views, object);
-            Ok(Carried {
-                given: Given::Buffer(buffer),
-                refused: false,
-            })
+            Ok(Given::Buffer(buffer))
         }
         Answer::Releases(released) => {
             release(
                 &mut store.heap,
                 &mut store.elements,
                 &mut store.views,
-                buffers,
+                &mut activation.slots.buffers,
                 &released,
             );
-            Ok(Carried {
-                given: Given::Nothing,
-                refused: false,
-            })
+            Ok(Given::Nothing)
         }
-        _ => carry_out_monitors(world, store, pending, locals, thread, answer),
+        _ => carry_out_monitors(calling, store, pending, &mut activation.locals, answer),
     }
 }
 
-/// Does what an answer of monitors, of references or of frames says, in the thread of this number.
+/// Does what an answer of monitors, of references or of frames says, and gives what the call does.
 #[inline(always)]
 fn carry_out_monitors(
-    world: &World,
+    calling: Calling<'_>,
     store: &mut Store,
     pending: &mut Option<Addr>,
     locals: &mut Locals,
-    thread: u8,
     answer: Answer,
-) -> Result<Carried, AllocError>
+) -> Result<Given, AllocError>
     requires of_monitors { is_of_monitors answer ≡ true }
-    requires possible { HasAnswerOfMonitors world.now store.old pending.old locals.old thread answer }
-    ensures carried { IfOk result (λ carried. CarriesOutMonitors world.now store.old store.new pending.old pending.new
-        locals.old locals.new thread answer carried) }
+    requires possible { HasAnswerOfMonitors calling store.old pending.old locals.old answer }
+    ensures carried { IfOk result (CarriesOutMonitors calling.entry store.old store.new pending.old pending.new
+        locals.old locals.new answer) }
     ensures barrier { OnOk result (IsNoted (written_by answer) store.old.heap store.new.heap) }
     ensures elements { store.new.elements ≡ store.old.elements }
-    ensures new_copy { IfOk result (λ carried. (copies : List (Option OwnedNumbers)) → IsNewCopy copies carried.given) }
-    ensures store { OnErr result (store.new ≡ store.old) }
-    ensures pending { OnErr result (pending.new ≡ pending.old) }
-    ensures locals { OnErr result (locals.new ≡ locals.old) }
+    ensures no_copy { IfOk result IsNoCopy }
+    ensures kept { OnErr result ((store.new ≡ store.old) × (pending.new ≡ pending.old) × (locals.new ≡ locals.old)) }
     ensures memory { OnErr result (takes_memory answer ≡ true) }
 {
     match answer {
         Answer::Enters(object) => {
-            store.monitors.enter(object, thread)?;
-            Ok(Carried {
-                given: Given::Number(0),
-                refused: false,
-            })
+            store.monitors.enter(object, calling.thread)?;
+            Ok(Given::Number(0))
         }
         Answer::Exits(name) => {
-            store.monitors.exit(name, thread);
-            Ok(Carried {
-                given: Given::Number(0),
-                refused: false,
-            })
+            store.monitors.exit(name, calling.thread);
+            Ok(Given::Number(0))
         }
-        _ => carry_out_references(world, store, pending, locals, answer),
+        _ => carry_out_references(calling.world, store, pending, locals, answer),
     }
 }
 
-/// Does to the references of the store and of a call what an answer of references or of frames says.
+/// Does to the references of the store and of a call what an answer of references or of frames says, and gives what the call
+/// does.
 #[inline(always)]
 fn carry_out_references(
     world: &World,
@@ -287,63 +271,47 @@ fn carry_out_references(
     pending: &mut Option<Addr>,
     locals: &mut Locals,
     answer: Answer,
-) -> Result<Carried, AllocError>
+) -> Result<Given, AllocError>
     requires of_references { is_of_references answer ≡ true }
     requires possible { HasAnswerOfReferences world.now store.old pending.old locals.old answer }
-    ensures carried { IfOk result (λ carried. CarriesOutReferences world.now store.old store.new pending.old pending.new
-        locals.old locals.new answer carried) }
+    ensures carried { IfOk result (CarriesOutReferences world.now store.old store.new pending.old pending.new
+        locals.old locals.new answer) }
     ensures barrier { OnOk result (IsNoted (written_by answer) store.old.heap store.new.heap) }
     ensures elements { store.new.elements ≡ store.old.elements }
-    ensures new_copy { IfOk result (λ carried. (copies : List (Option OwnedNumbers)) → IsNewCopy copies carried.given) }
-    ensures store { OnErr result (store.new ≡ store.old) }
-    ensures pending { OnErr result (pending.new ≡ pending.old) }
-    ensures locals { OnErr result (locals.new ≡ locals.old) }
+    ensures no_copy { IfOk result IsNoCopy }
+    ensures kept { OnErr result ((store.new ≡ store.old) × (pending.new ≡ pending.old) × (locals.new ≡ locals.old)) }
 {
     match answer {
         Answer::Deletes(key) => {
             locals.delete(key).unwrap();
-            Ok(Carried {
-                given: Given::Nothing,
-                refused: false,
-            })
+            Ok(Given::Nothing)
         }
         Answer::MakesGlobal(reference) => {
             let written = reference;
             let held = make_global(&mut store.globals, reference)?;
             note(&mut store.heap, &written);
-            Ok(Carried {
-                given: Given::Global(held),
-                refused: false,
-            })
+            Ok(Given::Global(held))
         }
         Answer::DeletesGlobal(slot) => {
             delete_global(&mut store.statics, &mut store.globals, slot);
-            Ok(Carried {
-                given: Given::Nothing,
-                refused: false,
-            })
+            Ok(Given::Nothing)
         }
         Answer::MakesWeak(reference) => {
             let written = reference;
             let held = make_weak(&mut store.weaks, reference)?;
             note(&mut store.heap, &written);
-            Ok(Carried {
-                given: Given::Global(held),
-                refused: false,
-            })
+            Ok(Given::Global(held))
         }
         Answer::DeletesWeak(slot) => {
             delete_weak(&mut store.statics, &mut store.weaks, slot);
-            Ok(Carried {
-                given: Given::Nothing,
-                refused: false,
-            })
+            Ok(Given::Nothing)
         }
         _ => carry_out_frames(world, store, pending, locals, answer),
     }
 }
 
-/// Does to a call's frames what an answer of frames says. Of the store only a marking that is under way changes.
+/// Does to a call's frames what an answer of frames says, and gives what the call does. Of the store only a marking that is under
+/// way changes.
 #[inline(always)]
 fn carry_out_frames(
     world: &World,
@@ -351,35 +319,27 @@ fn carry_out_frames(
     pending: &mut Option<Addr>,
     locals: &mut Locals,
     answer: Answer,
-) -> Result<Carried, AllocError>
+) -> Result<Given, AllocError>
     requires of_frames { is_of_frames answer ≡ true }
     requires possible { HasAnswerOfReferences world.now store.old pending.old locals.old answer }
-    ensures carried { IfOk result (λ carried. CarriesOutReferences world.now store.old store.new pending.old pending.new
-        locals.old locals.new answer carried) }
+    ensures carried { IfOk result (CarriesOutReferences world.now store.old store.new pending.old pending.new
+        locals.old locals.new answer) }
     ensures barrier { OnOk result (IsNoted (written_by answer) store.old.heap store.new.heap) }
     ensures elements { store.new.elements ≡ store.old.elements }
-    ensures new_copy { IfOk result (λ carried. (copies : List (Option OwnedNumbers)) → IsNewCopy copies carried.given) }
-    ensures store { OnErr result (store.new ≡ store.old) }
-    ensures pending { OnErr result (pending.new ≡ pending.old) }
-    ensures locals { OnErr result (locals.new ≡ locals.old) }
+    ensures no_copy { IfOk result IsNoCopy }
+    ensures kept { OnErr result ((store.new ≡ store.old) × (pending.new ≡ pending.old) × (locals.new ≡ locals.old)) }
 {
     match answer {
         Answer::Ensures(more) => {
             if ensure_room(locals, more) {
-                Ok(Carried {
-                    given: Given::Number(0),
-                    refused: false,
-                })
+                Ok(Given::Number(0))
             } else {
                 Ok(refuse_frames(world, store, pending))
             }
         }
         Answer::Pushes(capacity) => {
             match locals.push(capacity) {
-                Ok(()) => Ok(Carried {
-                    given: Given::Number(0),
-                    refused: false,
-                }),
+                Ok(()) => Ok(Given::Number(0)),
                 Err(TableFault::Full) => Ok(refuse_frames(world, store, pending)),
                 Err(_) => Err(AllocError),
             }
@@ -388,10 +348,7 @@ fn carry_out_frames(
         Answer::Pops(reference) => {
             pop_frame(locals);
             note(&mut store.heap, &reference);
-            Ok(Carried {
-                given: Given::Reference(reference),
-                refused: false,
-            })
+            Ok(Given::Reference(reference))
         }
         _ => unreachable!(),
     }
@@ -432,15 +389,12 @@ fn out_of_memory(world: &World, store: &Store) -> Option<Addr>
 }
 
 /// The current frame gets no more room: -4, which is `JNI_ENOMEM`, is given, and the OutOfMemoryError object is pending.
-fn refuse_frames(world: &World, store: &Store, pending: &mut Option<Addr>) -> Carried
-    ensures carried { result ≡ record { given = Number (2 ^ 32 - 4); refused = false } }
+fn refuse_frames(world: &World, store: &Store, pending: &mut Option<Addr>) -> Given
+    ensures given { result ≡ Number (2 ^ 32 - 4) }
     ensures pending { pending.new ≡ slice_get store.now.loaded.items (length world.now.classes) }
 {
     *pending = out_of_memory(world, store);
-    Carried {
-        given: Given::Number(u32::MAX - 3),
-        refused: false,
-    }
+    Given::Number(u32::MAX - 3)
 }
 
 /// The OutOfMemoryError object is pending, and the call fails.

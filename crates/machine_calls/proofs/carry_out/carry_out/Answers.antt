@@ -1,11 +1,6 @@
-use mathlib.Core.HLevel.{is_prop→PathP}
-use native.Mathlib.Nat.{ℕ_set}
-use native.Mathlib.Bridge.{le_prop}
-use Rattle.std.proofs.Common.{◌≡◌, ℕ, List, ◌+◌, ◌<◌, ◌≤◌, ◌^◌, Option, Some, None, length, true, false, Result, Ok, Err, refl, sym, ap, ◌∙◌, subst, arith}
-use Rattle.std.proofs.lemmas.List.{with_items_is}
+use Rattle.std.proofs.Common.{rules, ◌≡◌, ℕ, List, ◌+◌, ◌<◌, ◌≤◌, ◌^◌, Option, Some, None, length, true, false, refl, sym, ap, ◌∙◌, subst, arith}
 use Rattle.std.specs.Global.{Vec}
-use Rattle.std.specs.Prelude.{slice_get, IfOk, OnErr}
-use Rattle.std.specs.Vec.{with_items}
+use Rattle.std.specs.Prelude.{slice_get}
 use Rattle.class_rules.specs.Class.{Classes}
 use Rattle.class_rules.specs.declared.class_id.ClassId.{ClassId}
 use Rattle.heap.specs.Heap.{Space, left_of}
@@ -21,11 +16,11 @@ use Rattle.machine_answers.specs.declared.answer.Given.{Given}
 use Rattle.machine_answers.specs.declared.answer.Given.TheVariants as given
 use Rattle.machine_calls.specs.declared.carry_out.Carried.{Carried}
 use Rattle.machine_scenes.specs.declared.store.Store.{Store}
-use Rattle.machine_scenes.specs.declared.buffer.Buffer.{Buffer}
+use Rattle.machine_scenes.specs.declared.activation.Activation.{Activation}
 use Rattle.machine_answers.specs.Answers.{effect_told}
 use Rattle.machine_answers.specs.Copies.{space_with}
-use Rattle.machine_scenes.specs.Buffers.{Acquired, holding}
-use Rattle.machine_calls.specs.CarriedOut.{CarriesOut, brought_to, failed}
+use Rattle.machine_scenes.specs.Buffers.{Acquired}
+use Rattle.machine_calls.specs.CarriedOut.{CarriesOut, brought_to, failed, is_of_buffers, slots_after}
 use Rattle.tables.specs.Locals.{LocalTable}
 use Rattle.machine_answers.specs.declared.answer.Answer.TheVariants as answer
 use Rattle.machine_calls.specs.Made.{HasMade, Makes, Raises}
@@ -67,19 +62,19 @@ module _ (p : Lowered) (w : World) (space : Space) (before : LocalTable) (a : An
 pub make-requires-clause-class : goal.make-requires-clause-class
 make-requires-clause-class c =
     let r = c.requires.possible in
-    small c.args.world.now (class_of_new c.in-Makes.new) c.threads.ensures.sound (made (as_answer c.in-Makes.is r.7)).1.makeable.high
+    small c.args.calling.world.now (class_of_new c.in-Makes.new) c.threads.ensures.sound (made (as_answer c.in-Makes.is r.7)).1.makeable.high
 
 -- what a new object is to refer to is there
 pub make-requires-clause-there : goal.make-requires-clause-there
 make-requires-clause-there c =
     let r = c.requires.possible in
     let it = made (as_answer c.in-Makes.is r.7) in
-    refers_there c.args.world.now.classes (texts_in c.args.call.now.texts.items) c.args.store.now.heap c.in-Makes.new it.0 it.1.object
+    refers_there c.args.calling.world.now.classes (texts_in c.args.calling.call.now.texts.items) c.args.store.now.heap c.in-Makes.new it.0 it.1.object
 
 pub make-requires-in-Throws-clause-class : goal.make-requires-in-Throws-clause-class
 make-requires-in-Throws-clause-class c =
     let r = c.requires.possible in
-    small c.args.world.now c.in-Throws.class.number c.threads.ensures.sound (thrown (as_answer c.in-Throws.is r.7)).high
+    small c.args.calling.world.now c.in-Throws.class.number c.threads.ensures.sound (thrown (as_answer c.in-Throws.is r.7)).high
 
 -- the value that is written is there, and so is what it refers to
 pub set-requires-clause-place : goal.set-requires-clause-place
@@ -99,82 +94,82 @@ returns-in-Pends-clause-new_copy c = barriers.no_new_copy c.args.store.now.eleme
 
 pub returns-in-Writes-clause-carried : goal.returns-in-Writes-clause-carried
 returns-in-Writes-clause-carried c p args others shared s of_source h does =
-    let w = c.args.world.now in
-    let kind = c.args.call.now.result in
-    let texts = texts_in c.args.call.now.texts.items in
-    let brought = brought_to p c.args.store.now c.args.activation.now c.args.call.now c.args.thread c.args.owner others s args in
+    let w = c.args.calling.world.now in
+    let kind = c.args.calling.call.now.result in
+    let texts = texts_in c.args.calling.call.now.texts.items in
+    let brought = brought_to p c.args.store.now c.args.activation.now c.args.calling.call.now c.args.calling.thread c.args.calling.owner others s args in
     let old = c.args.store.now in
     let effect = effect_told w.classes brought shared s of_source in
-    carries.by_answer p w old.heap c.args.activation.now.locals kind others c.args.owner shared s of_source brought c.args.answer (answer.Writes c.in-Writes.addr c.in-Writes.place c.in-Writes.value) c.in-Writes.is _ _ _ _ _ (λ writes.
-    subst (λ (space : Space). CarriesOut p w old.heap c.args.activation.now.locals (answer.Writes c.in-Writes.addr c.in-Writes.place c.in-Writes.value) kind others c.args.owner shared s effect false (record old { heap = space }) c.args.pending.now c.args.activation.now.locals given.Nothing) (sym c.set.ensures)
-    (carries.writes p w old c.args.pending.now c.args.activation.now.locals others c.args.owner shared s h brought c.in-Writes.addr c.in-Writes.place c.in-Writes.value writes)) does
+    carries.by_answer p w old.heap c.args.activation.now.locals kind others c.args.calling.owner shared s of_source brought c.args.answer (answer.Writes c.in-Writes.addr c.in-Writes.place c.in-Writes.value) c.in-Writes.is _ _ _ _ _ (λ writes.
+    subst (λ (space : Space). CarriesOut p w old.heap c.args.activation.now.locals (answer.Writes c.in-Writes.addr c.in-Writes.place c.in-Writes.value) kind others c.args.calling.owner shared s effect false (record old { heap = space }) c.args.pending.now c.args.activation.now.locals given.Nothing) (sym c.set.ensures)
+    (carries.writes p w old c.args.pending.now c.args.activation.now.locals others c.args.calling.owner shared s h brought c.in-Writes.addr c.in-Writes.place c.in-Writes.value writes)) does
 
 pub returns-in-Some-clause-carried : goal.returns-in-Some-clause-carried
 returns-in-Some-clause-carried c p args others shared s of_source h does =
-    let w = c.args.world.now in
-    let kind = c.args.call.now.result in
-    let texts = texts_in c.args.call.now.texts.items in
-    let brought = brought_to p c.args.store.now c.args.activation.now c.args.call.now c.args.thread c.args.owner others s args in
+    let w = c.args.calling.world.now in
+    let kind = c.args.calling.call.now.result in
+    let texts = texts_in c.args.calling.call.now.texts.items in
+    let brought = brought_to p c.args.store.now c.args.activation.now c.args.calling.call.now c.args.calling.thread c.args.calling.owner others s args in
     let old = c.args.store.now in
     let effect = effect_told w.classes brought shared s of_source in
     let made = subst (λ (l : List (Vec ℕ)). Makes c.classes.result.now (texts_in l) old c.in-Makes.new c.make.new.store c.make.result) c.deref-texts.ensures.value c.make.ensures in
-    carries.by_answer p w old.heap c.args.activation.now.locals kind others c.args.owner shared s of_source brought c.args.answer (answer.Makes c.in-Makes.new) c.in-Makes.is _ _ _ _ _ (λ makes.
-    carries.makes p w old c.args.pending.now c.args.activation.now.locals others c.args.owner shared s h brought c.make.new.store c.in-Makes.new c.in-Some.addr
+    carries.by_answer p w old.heap c.args.activation.now.locals kind others c.args.calling.owner shared s of_source brought c.args.answer (answer.Makes c.in-Makes.new) c.in-Makes.is _ _ _ _ _ (λ makes.
+    carries.makes p w old c.args.pending.now c.args.activation.now.locals others c.args.calling.owner shared s h brought c.make.new.store c.in-Makes.new c.in-Some.addr
     (has_made w.classes c.classes.result.now texts old c.make.new.store c.in-Makes.new c.in-Some.addr c.make.result c.classes.ensures.classes made c.in-Some.is) makes) does
 
 pub returns-in-None-clause-carried : goal.returns-in-None-clause-carried
 returns-in-None-clause-carried c p args others shared s of_source h does =
-    let w = c.args.world.now in
-    let kind = c.args.call.now.result in
-    let texts = texts_in c.args.call.now.texts.items in
-    let brought = brought_to p c.args.store.now c.args.activation.now c.args.call.now c.args.thread c.args.owner others s args in
+    let w = c.args.calling.world.now in
+    let kind = c.args.calling.call.now.result in
+    let texts = texts_in c.args.calling.call.now.texts.items in
+    let brought = brought_to p c.args.store.now c.args.activation.now c.args.calling.call.now c.args.calling.thread c.args.calling.owner others s args in
     let old = c.args.store.now in
     let effect = effect_told w.classes brought shared s of_source in
     let made = subst (λ (l : List (Vec ℕ)). Makes c.classes.result.now (texts_in l) old c.in-Makes.new c.make.new.store c.make.result) c.deref-texts.ensures.value c.make.ensures in
-    carries.by_answer p w old.heap c.args.activation.now.locals kind others c.args.owner shared s of_source brought c.args.answer (answer.Makes c.in-Makes.new) c.in-Makes.is _ _ _ _ _ (λ makes.
-    refused_in p w old.heap c.args.activation.now.locals (answer.Makes c.in-Makes.new) kind others c.args.owner shared s effect old c.make.new.store c.refuse.new.pending c.args.activation.now.locals c.refuse.result
+    carries.by_answer p w old.heap c.args.activation.now.locals kind others c.args.calling.owner shared s of_source brought c.args.answer (answer.Makes c.in-Makes.new) c.in-Makes.is _ _ _ _ _ (λ makes.
+    refused_in p w old.heap c.args.activation.now.locals (answer.Makes c.in-Makes.new) kind others c.args.calling.owner shared s effect old c.make.new.store c.refuse.new.pending c.args.activation.now.locals c.refuse.result
     (unchanged c.classes.result.now texts old c.make.new.store c.in-Makes.new c.make.result made c.in-None.is) c.refuse.ensures.pending c.refuse.ensures.carried
-    (carries.refuses_object p w old c.args.pending.now c.args.activation.now.locals others c.args.owner shared s h brought c.in-Makes.new makes (short w.classes c.classes.result.now texts old c.make.new.store c.in-Makes.new c.make.result c.classes.ensures.classes made c.in-None.is))) does
+    (carries.refuses_object p w old c.args.pending.now c.args.activation.now.locals others c.args.calling.owner shared s h brought c.in-Makes.new makes (short w.classes c.classes.result.now texts old c.make.new.store c.in-Makes.new c.make.result c.classes.ensures.classes made c.in-None.is))) does
 
 pub returns-in-Some-make-clause-carried : goal.returns-in-Some-make-clause-carried
 returns-in-Some-make-clause-carried c p args others shared s of_source h does =
-    let w = c.args.world.now in
-    let kind = c.args.call.now.result in
-    let texts = texts_in c.args.call.now.texts.items in
-    let brought = brought_to p c.args.store.now c.args.activation.now c.args.call.now c.args.thread c.args.owner others s args in
+    let w = c.args.calling.world.now in
+    let kind = c.args.calling.call.now.result in
+    let texts = texts_in c.args.calling.call.now.texts.items in
+    let brought = brought_to p c.args.store.now c.args.activation.now c.args.calling.call.now c.args.calling.thread c.args.calling.owner others s args in
     let old = c.args.store.now in
     let effect = effect_told w.classes brought shared s of_source in
     let made = subst (λ (l : List (Vec ℕ)). Makes c.classes-in-Throws.result.now (texts_in l) old (Fresh c.in-Throws.class) c.make-in-Throws.new.store c.make-in-Throws.result) c.deref-texts.ensures.value c.make-in-Throws.ensures in
-    carries.by_answer p w old.heap c.args.activation.now.locals kind others c.args.owner shared s of_source brought c.args.answer (answer.Throws c.in-Throws.class) c.in-Throws.is _ _ _ _ _ (λ throws.
-    subst (λ (g : Given). CarriesOut p w old.heap c.args.activation.now.locals (answer.Throws c.in-Throws.class) kind others c.args.owner shared s effect false c.make-in-Throws.new.store (Some c.in-Some-make.addr) c.args.activation.now.locals g) (sym c.failed.ensures)
-    (carries.throws p w old c.args.pending.now c.args.activation.now.locals others c.args.owner shared s h brought c.make-in-Throws.new.store c.in-Throws.class c.in-Some-make.addr
+    carries.by_answer p w old.heap c.args.activation.now.locals kind others c.args.calling.owner shared s of_source brought c.args.answer (answer.Throws c.in-Throws.class) c.in-Throws.is _ _ _ _ _ (λ throws.
+    subst (λ (g : Given). CarriesOut p w old.heap c.args.activation.now.locals (answer.Throws c.in-Throws.class) kind others c.args.calling.owner shared s effect false c.make-in-Throws.new.store (Some c.in-Some-make.addr) c.args.activation.now.locals g) (sym c.failed.ensures)
+    (carries.throws p w old c.args.pending.now c.args.activation.now.locals others c.args.calling.owner shared s h brought c.make-in-Throws.new.store c.in-Throws.class c.in-Some-make.addr
     (has_made w.classes c.classes-in-Throws.result.now texts old c.make-in-Throws.new.store (Fresh c.in-Throws.class) c.in-Some-make.addr c.make-in-Throws.result c.classes-in-Throws.ensures.classes made c.in-Some-make.is) throws)) does
 
 pub returns-in-None-make-clause-carried : goal.returns-in-None-make-clause-carried
 returns-in-None-make-clause-carried c p args others shared s of_source h does =
-    let w = c.args.world.now in
-    let kind = c.args.call.now.result in
-    let texts = texts_in c.args.call.now.texts.items in
-    let brought = brought_to p c.args.store.now c.args.activation.now c.args.call.now c.args.thread c.args.owner others s args in
+    let w = c.args.calling.world.now in
+    let kind = c.args.calling.call.now.result in
+    let texts = texts_in c.args.calling.call.now.texts.items in
+    let brought = brought_to p c.args.store.now c.args.activation.now c.args.calling.call.now c.args.calling.thread c.args.calling.owner others s args in
     let old = c.args.store.now in
     let effect = effect_told w.classes brought shared s of_source in
     let made = subst (λ (l : List (Vec ℕ)). Makes c.classes-in-Throws.result.now (texts_in l) old (Fresh c.in-Throws.class) c.make-in-Throws.new.store c.make-in-Throws.result) c.deref-texts.ensures.value c.make-in-Throws.ensures in
-    carries.by_answer p w old.heap c.args.activation.now.locals kind others c.args.owner shared s of_source brought c.args.answer (answer.Throws c.in-Throws.class) c.in-Throws.is _ _ _ _ _ (λ throws.
-    refused_in p w old.heap c.args.activation.now.locals (answer.Throws c.in-Throws.class) kind others c.args.owner shared s effect old c.make-in-Throws.new.store c.refuse-in-None-make.new.pending c.args.activation.now.locals c.refuse-in-None-make.result
+    carries.by_answer p w old.heap c.args.activation.now.locals kind others c.args.calling.owner shared s of_source brought c.args.answer (answer.Throws c.in-Throws.class) c.in-Throws.is _ _ _ _ _ (λ throws.
+    refused_in p w old.heap c.args.activation.now.locals (answer.Throws c.in-Throws.class) kind others c.args.calling.owner shared s effect old c.make-in-Throws.new.store c.refuse-in-None-make.new.pending c.args.activation.now.locals c.refuse-in-None-make.result
     (unchanged c.classes-in-Throws.result.now texts old c.make-in-Throws.new.store (Fresh c.in-Throws.class) c.make-in-Throws.result made c.in-None-make.is) c.refuse-in-None-make.ensures.pending c.refuse-in-None-make.ensures.carried
-    (carries.refuses_exception p w old c.args.pending.now c.args.activation.now.locals others c.args.owner shared s h brought c.in-Throws.class throws (short w.classes c.classes-in-Throws.result.now texts old c.make-in-Throws.new.store (Fresh c.in-Throws.class) c.make-in-Throws.result c.classes-in-Throws.ensures.classes made c.in-None-make.is))) does
+    (carries.refuses_exception p w old c.args.pending.now c.args.activation.now.locals others c.args.calling.owner shared s h brought c.in-Throws.class throws (short w.classes c.classes-in-Throws.result.now texts old c.make-in-Throws.new.store (Fresh c.in-Throws.class) c.make-in-Throws.result c.classes-in-Throws.ensures.classes made c.in-None-make.is))) does
 
 pub returns-in-Gives-clause-carried : goal.returns-in-Gives-clause-carried
 returns-in-Gives-clause-carried c p args others shared s of_source h does =
-    let w = c.args.world.now in
-    let kind = c.args.call.now.result in
-    let texts = texts_in c.args.call.now.texts.items in
-    let brought = brought_to p c.args.store.now c.args.activation.now c.args.call.now c.args.thread c.args.owner others s args in
+    let w = c.args.calling.world.now in
+    let kind = c.args.calling.call.now.result in
+    let texts = texts_in c.args.calling.call.now.texts.items in
+    let brought = brought_to p c.args.store.now c.args.activation.now c.args.calling.call.now c.args.calling.thread c.args.calling.owner others s args in
     let old = c.args.store.now in
     let effect = effect_told w.classes brought shared s of_source in
-    carries.by_answer p w old.heap c.args.activation.now.locals kind others c.args.owner shared s of_source brought c.args.answer (answer.Gives c.in-Gives.given) c.in-Gives.is _ _ _ _ _ (λ gives.
-    barriers.noted_so p w old.heap c.args.activation.now.locals (answer.Gives c.in-Gives.given) kind others c.args.owner shared s effect old (noted_at (reference_given c.in-Gives.given) old.heap.marking) c.note_given.new.heap c.args.pending.now c.args.activation.now.locals c.in-Gives.given c.note_given.ensures (barriers.stays_at (reference_given c.in-Gives.given) old.heap.marking)
-    (carries.gives p w old c.args.pending.now c.args.activation.now.locals others c.args.owner shared s h brought refl c.in-Gives.given gives)) does
+    carries.by_answer p w old.heap c.args.activation.now.locals kind others c.args.calling.owner shared s of_source brought c.args.answer (answer.Gives c.in-Gives.given) c.in-Gives.is _ _ _ _ _ (λ gives.
+    barriers.noted_so p w old.heap c.args.activation.now.locals (answer.Gives c.in-Gives.given) kind others c.args.calling.owner shared s effect old (noted_at (reference_given c.in-Gives.given) old.heap.marking) c.note_given.new.heap c.args.pending.now c.args.activation.now.locals c.in-Gives.given c.note_given.ensures (barriers.stays_at (reference_given c.in-Gives.given) old.heap.marking)
+    (carries.gives p w old c.args.pending.now c.args.activation.now.locals others c.args.calling.owner shared s h brought refl c.in-Gives.given gives)) does
 
 -- what is given is there
 pub note_given-requires : goal.note_given-requires
@@ -185,37 +180,32 @@ note_given-requires c =
 pub returns-in-Gives-clause-barrier : goal.returns-in-Gives-clause-barrier
 returns-in-Gives-clause-barrier c = barriers.notes_given c.args.store.now.heap c.note_given.new.heap c.args.answer c.in-Gives.given c.in-Gives.is c.note_given.ensures
 
--- what is told of an answer of buffers, of each kind of result
-told_on : {T E : Type 0} (P Q : T → Type 0) (r : Result T E) → ((x : T) → P x → Q x) → IfOk r P → IfOk r Q
-told_on P Q (Ok x) f h = f x h
-told_on P Q (Err e) f h = h
+-- what is done by buffers, monitors, references or frames leaves the number slots
+numbers_same : (space : Space) (a : Answer) (numbers : List ℕ) → is_of_buffers a ≡ true → slots_after space a numbers ≡ numbers
+numbers_same space (answer.CopiesOut region) numbers is = absurd (cc)
+numbers_same space a numbers is = refl
 
-pub returns-in_default-clause-carried : goal.returns-in_default-clause-carried
-returns-in_default-clause-carried c =
-    told_on _ _ c.carry_out_buffers.result (λ carried told p args others shared s of_source h does.
-    told p c.args.call.now.result (brought_to p c.args.store.now c.args.activation.now c.args.call.now c.args.thread c.args.owner others s args) others shared s of_source h does (ap (λ (l : List Buffer). holding l c.args.store.now.elements c.args.owner) (sym c.deref_mut-in_default.ensures.value)) refl refl) c.carry_out_buffers.ensures.carried
+pub returns-in-Ok-clause-carried : goal.returns-in-Ok-clause-carried
+returns-in-Ok-clause-carried c p args others shared s of_source h does =
+    c.in-Ok.ensures.carried p c.args.calling.call.now.result (brought_to p c.args.store.now c.args.activation.now c.args.calling.call.now c.args.calling.thread c.args.calling.owner others s args) others shared s of_source h does
+    (record { buffers = refl; in_use = refl; thread = refl })
 
--- where nothing was done the slots are as they were
-both_on_err : {T E : Type 0} (P Q R : Type 0) (r : Result T E) → (P → Q → R) → OnErr r P → OnErr r Q → OnErr r R
-both_on_err P Q R (Ok x) f h g = tt
-both_on_err P Q R (Err e) f h g = f h g
+pub returns-in-Ok-clause-numbers : goal.returns-in-Ok-clause-numbers
+returns-in-Ok-clause-numbers c =
+    ap (λ (t : Activation). t.slots.numbers.items) c.in-Ok.ensures.stays
+    ∙ sym (numbers_same c.args.store.now.heap c.args.answer c.args.activation.now.slots.numbers.items (search rules))
 
-same_vec : {A : Type 0} (v : Vec A) (l : List A) → l ≡ v.items → length l ≡ v.len → with_items v l ≡ v
-same_vec v l same long =
-    let e : (with_items v l).items ≡ v.items = with_items_is v l long ∙ same in
-    λ i. record v { items = e i; ok = is_prop→PathP (λ j. (v.len ≡ length (e j)) × (v.len ≤ v.cap)) (λ j x y n. (ℕ_set _ _ x.0 y.0 n, le_prop x.1 y.1 n)) (with_items v l).ok v.ok i }
-
-pub returns-in_default-clause-activation : goal.returns-in_default-clause-activation
-returns-in_default-clause-activation c =
-    let activation = c.args.activation.now in
-    both_on_err _ _ _ c.carry_out_buffers.result (λ locals buffers.
-    let slots = same_vec activation.slots.buffers c.carry_out_buffers.new.buffers (buffers ∙ c.deref_mut-in_default.ensures.value) (ap length buffers ∙ c.deref_mut-in_default.ensures.len) in
-    λ i. record activation { slots = record activation.slots { buffers = slots i }; locals = locals i }) c.carry_out_buffers.ensures.locals c.carry_out_buffers.ensures.buffers
+pub returns-in-Ok-clause-stays : goal.returns-in-Ok-clause-stays
+returns-in-Ok-clause-stays c =
+    let old = c.args.activation.now in
+    let new = c.carry_out_buffers.new.activation in
+    let stays = c.in-Ok.ensures.stays in
+    stays ∙ (λ i. record old { locals = new.locals; slots = record old.slots { numbers = sym (ap (λ (t : Activation). t.slots.numbers) stays) i; buffers = new.slots.buffers } })
 
 pub carry_out_buffers-requires-clause-possible : goal.carry_out_buffers-requires-clause-possible
 carry_out_buffers-requires-clause-possible c =
     let r = c.requires.possible in
-    (r.0, c.args.call.now.result, brought_to r.0 c.args.store.now c.args.activation.now c.args.call.now c.args.thread c.args.owner r.2 r.4 r.1, r.2, r.3, r.4, r.5, r.6, r.7, ap (λ (l : List Buffer). holding l c.args.store.now.elements c.args.owner) (sym c.deref_mut-in_default.ensures.value), refl, refl)
+    (r.0, c.args.calling.call.now.result, brought_to r.0 c.args.store.now c.args.activation.now c.args.calling.call.now c.args.calling.thread c.args.calling.owner r.2 r.4 r.1, r.2, r.3, r.4, r.5, r.6, r.7, record { buffers = refl; in_use = refl; thread = refl })
 
 -- a message and an exception were made in the store of the world's classes
 both_made : (classes table : Classes) (texts : List (List ℕ)) (old after : Store) (class : ClassId) (place a : ℕ) (o : Option ℕ) → table ≡ classes → Raises table texts old class place after o → o ≡ Some a → Raises classes texts old class place after (Some a)
@@ -227,50 +217,50 @@ none_made classes table texts old after class place o same made is = subst (λ (
 pub raise-requires-clause-class : goal.raise-requires-clause-class
 raise-requires-clause-class c =
     let r = c.requires.possible in
-    small c.args.world.now c.in-Raises.class.number c.threads.ensures.sound (raised (as_answer c.in-Raises.is r.7)).high
+    small c.args.calling.world.now c.in-Raises.class.number c.threads.ensures.sound (raised (as_answer c.in-Raises.is r.7)).high
 
 pub returns-in-Some-raise-clause-carried : goal.returns-in-Some-raise-clause-carried
 returns-in-Some-raise-clause-carried c p args others shared s of_source h does =
-    let w = c.args.world.now in
-    let kind = c.args.call.now.result in
-    let texts = texts_in c.args.call.now.texts.items in
-    let brought = brought_to p c.args.store.now c.args.activation.now c.args.call.now c.args.thread c.args.owner others s args in
+    let w = c.args.calling.world.now in
+    let kind = c.args.calling.call.now.result in
+    let texts = texts_in c.args.calling.call.now.texts.items in
+    let brought = brought_to p c.args.store.now c.args.activation.now c.args.calling.call.now c.args.calling.thread c.args.calling.owner others s args in
     let old = c.args.store.now in
     let effect = effect_told w.classes brought shared s of_source in
     let raised = subst (λ (l : List (Vec ℕ)). Raises c.classes-in-Raises.result.now (texts_in l) old c.in-Raises.class c.in-Raises.place c.raise.new.store c.raise.result) c.deref-texts.ensures.value c.raise.ensures in
     let class = c.in-Raises.class in
     let place = c.in-Raises.place in
     let made = both_made w.classes c.classes-in-Raises.result.now texts old c.raise.new.store class place c.in-Some-raise.exception c.raise.result c.classes-in-Raises.ensures.classes raised c.in-Some-raise.is in
-    carries.by_answer p w old.heap c.args.activation.now.locals kind others c.args.owner shared s of_source brought c.args.answer (answer.Raises class place) c.in-Raises.is _ _ _ _ _ (λ raises.
-    carries.raises p w old c.args.pending.now c.args.activation.now.locals others c.args.owner shared s h brought class place raises made.0 c.raise.new.store made.1 c.in-Some-raise.exception made.2 made.3) does
+    carries.by_answer p w old.heap c.args.activation.now.locals kind others c.args.calling.owner shared s of_source brought c.args.answer (answer.Raises class place) c.in-Raises.is _ _ _ _ _ (λ raises.
+    carries.raises p w old c.args.pending.now c.args.activation.now.locals others c.args.calling.owner shared s h brought class place raises made.0 c.raise.new.store made.1 c.in-Some-raise.exception made.2 made.3) does
 
 pub returns-in-None-raise-clause-carried : goal.returns-in-None-raise-clause-carried
 returns-in-None-raise-clause-carried c p args others shared s of_source h does =
-    let w = c.args.world.now in
-    let kind = c.args.call.now.result in
-    let texts = texts_in c.args.call.now.texts.items in
-    let brought = brought_to p c.args.store.now c.args.activation.now c.args.call.now c.args.thread c.args.owner others s args in
+    let w = c.args.calling.world.now in
+    let kind = c.args.calling.call.now.result in
+    let texts = texts_in c.args.calling.call.now.texts.items in
+    let brought = brought_to p c.args.store.now c.args.activation.now c.args.calling.call.now c.args.calling.thread c.args.calling.owner others s args in
     let old = c.args.store.now in
     let effect = effect_told w.classes brought shared s of_source in
     let raised = subst (λ (l : List (Vec ℕ)). Raises c.classes-in-Raises.result.now (texts_in l) old c.in-Raises.class c.in-Raises.place c.raise.new.store c.raise.result) c.deref-texts.ensures.value c.raise.ensures in
     let class = c.in-Raises.class in
     let place = c.in-Raises.place in
     let none = none_made w.classes c.classes-in-Raises.result.now texts old c.raise.new.store class place c.raise.result c.classes-in-Raises.ensures.classes raised c.in-None-raise.is in
-    carries.by_answer p w old.heap c.args.activation.now.locals kind others c.args.owner shared s of_source brought c.args.answer (answer.Raises class place) c.in-Raises.is _ _ _ _ _ (λ raises.
-    refused_in p w old.heap c.args.activation.now.locals (answer.Raises class place) kind others c.args.owner shared s effect old c.raise.new.store c.refuse-in-None-raise.new.pending c.args.activation.now.locals c.refuse-in-None-raise.result none.0 c.refuse-in-None-raise.ensures.pending c.refuse-in-None-raise.ensures.carried
-    (carries.refuses_raise p w old c.args.pending.now c.args.activation.now.locals others c.args.owner shared s h brought class place raises none.1)) does
+    carries.by_answer p w old.heap c.args.activation.now.locals kind others c.args.calling.owner shared s of_source brought c.args.answer (answer.Raises class place) c.in-Raises.is _ _ _ _ _ (λ raises.
+    refused_in p w old.heap c.args.activation.now.locals (answer.Raises class place) kind others c.args.calling.owner shared s effect old c.raise.new.store c.refuse-in-None-raise.new.pending c.args.activation.now.locals c.refuse-in-None-raise.result none.0 c.refuse-in-None-raise.ensures.pending c.refuse-in-None-raise.ensures.carried
+    (carries.refuses_raise p w old c.args.pending.now c.args.activation.now.locals others c.args.calling.owner shared s h brought class place raises none.1)) does
 
 pub returns-in-Pends-clause-carried : goal.returns-in-Pends-clause-carried
 returns-in-Pends-clause-carried c p args others shared s of_source h does =
-    let w = c.args.world.now in
-    let kind = c.args.call.now.result in
-    let texts = texts_in c.args.call.now.texts.items in
-    let brought = brought_to p c.args.store.now c.args.activation.now c.args.call.now c.args.thread c.args.owner others s args in
+    let w = c.args.calling.world.now in
+    let kind = c.args.calling.call.now.result in
+    let texts = texts_in c.args.calling.call.now.texts.items in
+    let brought = brought_to p c.args.store.now c.args.activation.now c.args.calling.call.now c.args.calling.thread c.args.calling.owner others s args in
     let old = c.args.store.now in
     let effect = effect_told w.classes brought shared s of_source in
-    carries.by_answer p w old.heap c.args.activation.now.locals kind others c.args.owner shared s of_source brought c.args.answer (answer.Pends c.in-Pends.exception c.in-Pends.given) c.in-Pends.is _ _ _ _ _ (λ pends.
-    barriers.noted_so p w old.heap c.args.activation.now.locals (answer.Pends c.in-Pends.exception c.in-Pends.given) kind others c.args.owner shared s effect old (noted_at (reference_given c.in-Pends.given) (noted_at c.in-Pends.exception old.heap.marking)) c.note_pending.new.heap c.in-Pends.exception c.args.activation.now.locals c.in-Pends.given c.note_pending.ensures (barriers.stays_both c.in-Pends.exception (reference_given c.in-Pends.given) old.heap.marking)
-    (carries.pends p w old c.args.pending.now c.args.activation.now.locals others c.args.owner shared s h brought refl c.in-Pends.exception c.in-Pends.given pends)) does
+    carries.by_answer p w old.heap c.args.activation.now.locals kind others c.args.calling.owner shared s of_source brought c.args.answer (answer.Pends c.in-Pends.exception c.in-Pends.given) c.in-Pends.is _ _ _ _ _ (λ pends.
+    barriers.noted_so p w old.heap c.args.activation.now.locals (answer.Pends c.in-Pends.exception c.in-Pends.given) kind others c.args.calling.owner shared s effect old (noted_at (reference_given c.in-Pends.given) (noted_at c.in-Pends.exception old.heap.marking)) c.note_pending.new.heap c.in-Pends.exception c.args.activation.now.locals c.in-Pends.given c.note_pending.ensures (barriers.stays_both c.in-Pends.exception (reference_given c.in-Pends.given) old.heap.marking)
+    (carries.pends p w old c.args.pending.now c.args.activation.now.locals others c.args.calling.owner shared s h brought refl c.in-Pends.exception c.in-Pends.given pends)) does
 
 -- what is to be pending is there
 pub note_pending-requires-clause-exception : goal.note_pending-requires-clause-exception
@@ -289,24 +279,24 @@ returns-in-Pends-clause-barrier c = barriers.notes_pending c.args.store.now.heap
 
 pub returns-in-CopiesOut-clause-carried : goal.returns-in-CopiesOut-clause-carried
 returns-in-CopiesOut-clause-carried c p args others shared s of_source h does =
-    let w = c.args.world.now in
-    let kind = c.args.call.now.result in
-    let brought = brought_to p c.args.store.now c.args.activation.now c.args.call.now c.args.thread c.args.owner others s args in
+    let w = c.args.calling.world.now in
+    let kind = c.args.calling.call.now.result in
+    let brought = brought_to p c.args.store.now c.args.activation.now c.args.calling.call.now c.args.calling.thread c.args.calling.owner others s args in
     let old = c.args.store.now in
     let effect = effect_told w.classes brought shared s of_source in
-    carries.by_answer p w old.heap c.args.activation.now.locals kind others c.args.owner shared s of_source brought c.args.answer (answer.CopiesOut c.in-CopiesOut.region) c.in-CopiesOut.is _ _ _ _ _ (λ copies.
-    carries.copies_out p w old c.args.pending.now c.args.activation.now.locals others c.args.owner shared s h brought c.in-CopiesOut.region copies) does
+    carries.by_answer p w old.heap c.args.activation.now.locals kind others c.args.calling.owner shared s of_source brought c.args.answer (answer.CopiesOut c.in-CopiesOut.region) c.in-CopiesOut.is _ _ _ _ _ (λ copies.
+    carries.copies_out p w old c.args.pending.now c.args.activation.now.locals others c.args.calling.owner shared s h brought c.in-CopiesOut.region copies) does
 
 pub returns-in-CopiesIn-clause-carried : goal.returns-in-CopiesIn-clause-carried
 returns-in-CopiesIn-clause-carried c p args others shared s of_source h does =
-    let w = c.args.world.now in
-    let kind = c.args.call.now.result in
-    let brought = brought_to p c.args.store.now c.args.activation.now c.args.call.now c.args.thread c.args.owner others s args in
+    let w = c.args.calling.world.now in
+    let kind = c.args.calling.call.now.result in
+    let brought = brought_to p c.args.store.now c.args.activation.now c.args.calling.call.now c.args.calling.thread c.args.calling.owner others s args in
     let old = c.args.store.now in
     let effect = effect_told w.classes brought shared s of_source in
-    carries.by_answer p w old.heap c.args.activation.now.locals kind others c.args.owner shared s of_source brought c.args.answer (answer.CopiesIn c.in-CopiesIn.region) c.in-CopiesIn.is _ _ _ _ _ (λ copies.
-    subst (λ (space : Space). CarriesOut p w old.heap c.args.activation.now.locals (answer.CopiesIn c.in-CopiesIn.region) kind others c.args.owner shared s effect false (record old { heap = space }) c.args.pending.now c.args.activation.now.locals given.Nothing) (ap (space_with old.heap c.in-CopiesIn.region) (sym c.deref.ensures.value) ∙ sym c.copy_in.ensures)
-    (carries.copies_in p w old c.args.pending.now c.args.activation.now.locals others c.args.owner shared s h brought c.in-CopiesIn.region copies)) does
+    carries.by_answer p w old.heap c.args.activation.now.locals kind others c.args.calling.owner shared s of_source brought c.args.answer (answer.CopiesIn c.in-CopiesIn.region) c.in-CopiesIn.is _ _ _ _ _ (λ copies.
+    subst (λ (space : Space). CarriesOut p w old.heap c.args.activation.now.locals (answer.CopiesIn c.in-CopiesIn.region) kind others c.args.calling.owner shared s effect false (record old { heap = space }) c.args.pending.now c.args.activation.now.locals given.Nothing) (ap (space_with old.heap c.in-CopiesIn.region) (sym c.deref.ensures.value) ∙ sym c.copy_in.ensures)
+    (carries.copies_in p w old c.args.pending.now c.args.activation.now.locals others c.args.calling.owner shared s h brought c.in-CopiesIn.region copies)) does
 
 -- what is known of a region that is copied
 pub copy_out-requires : goal.copy_out-requires

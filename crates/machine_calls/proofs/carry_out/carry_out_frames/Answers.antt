@@ -9,7 +9,7 @@ use Rattle.code_meaning.specs.Lowered.{Lowered}
 use Rattle.machine_answers.specs.Answers.{effect_told}
 use Rattle.machine_answers.specs.declared.answer.Answer.{Answer}
 use Rattle.machine_answers.specs.declared.answer.Given.TheVariants as given
-use Rattle.machine_calls.specs.declared.carry_out.Carried.{Carried}
+use Rattle.machine_answers.specs.declared.answer.Given.{Given}
 use Rattle.machine_scenes.specs.declared.store.Store.{Store}
 use Rattle.machine_scenes.specs.Buffers.{Acquired}
 use Rattle.machine_calls.specs.CarriedOut.{CarriesOut}
@@ -27,11 +27,11 @@ use Rattle.machine_calls.proofs.carry_out.carry_out_frames.Goals as goal
 
 module _ (p : Lowered) (w : World) (space : Space) (before : LocalTable) (a : Answer) (kind : ResultKind) (others : Acquired) (owner : ℕ) (shared : Shared) (s : Thread) (effect : CallEffect) where
   -- what was told of frames that can't have the room
-  told_of_frames : (store : Store) (after : Option ℕ) (locals old : LocalTable) (carried : Carried) → locals ≡ old → after ≡ slice_get store.loaded.items (length w.classes)
-      → carried ≡ record { given = given.Number (2 ^ 32 - 4); refused = false }
-      → CarriesOut p w space before a kind others owner shared s effect false store (slice_get store.loaded.items (length w.classes)) old (given.Number (2 ^ 32 - 4)) → CarriesOut p w space before a kind others owner shared s effect carried.refused store after locals carried.given
-  told_of_frames store after locals old carried same is told h =
-      subst (λ (r : Carried). CarriesOut p w space before a kind others owner shared s effect r.refused store after locals r.given) (sym told)
+  told_of_frames : (store : Store) (after : Option ℕ) (locals old : LocalTable) (g : Given) → locals ≡ old → after ≡ slice_get store.loaded.items (length w.classes)
+      → g ≡ given.Number (2 ^ 32 - 4)
+      → CarriesOut p w space before a kind others owner shared s effect false store (slice_get store.loaded.items (length w.classes)) old (given.Number (2 ^ 32 - 4)) → CarriesOut p w space before a kind others owner shared s effect false store after locals g
+  told_of_frames store after locals old g same is told h =
+      subst (λ (x : Given). CarriesOut p w space before a kind others owner shared s effect false store after locals x) (sym told)
       (subst (λ (o : Option ℕ). CarriesOut p w space before a kind others owner shared s effect false store o locals (given.Number (2 ^ 32 - 4))) (sym is)
       (subst (λ (l : LocalTable). CarriesOut p w space before a kind others owner shared s effect false store (slice_get store.loaded.items (length w.classes)) l (given.Number (2 ^ 32 - 4))) (sym same) h))
 
@@ -65,7 +65,7 @@ returns-else-ensure_room-clause-carried c p kind brought others owner shared s o
     let more = c.in-Ensures.more in
     let not_had = c.ensure_room.ensures.refused c.if-ensure_room.false in
     carries.by_answer p w old.heap locals kind others owner shared s of_source brought c.args.answer (answer.Ensures more) c.in-Ensures.is _ _ _ _ _ (λ ensures.
-    told_of_frames p w old.heap locals (answer.Ensures more) kind others owner shared s effect old c.refuse_frames.new.pending c.ensure_room.new.locals locals c.refuse_frames.result not_had.1 c.refuse_frames.ensures.pending c.refuse_frames.ensures.carried
+    told_of_frames p w old.heap locals (answer.Ensures more) kind others owner shared s effect old c.refuse_frames.new.pending c.ensure_room.new.locals locals c.refuse_frames.result not_had.1 c.refuse_frames.ensures.pending c.refuse_frames.ensures.given
     (carries.ensures_not p w old c.args.pending.now locals others owner shared s h brought more ensures not_had.0 not_had.2)) does
 
 pub returns-in-RefusesFrames-clause-carried : goal.returns-in-RefusesFrames-clause-carried
@@ -75,7 +75,7 @@ returns-in-RefusesFrames-clause-carried c p kind brought others owner shared s o
     let effect = effect_told w.classes brought shared s of_source in
     let frames = c.args.locals.now in
     carries.by_answer p w old.heap c.args.locals.now kind others owner shared s of_source brought c.args.answer answer.RefusesFrames c.in-RefusesFrames.is _ _ _ _ _ (λ refuses.
-    told_of_frames p w old.heap c.args.locals.now answer.RefusesFrames kind others owner shared s effect old c.refuse_frames-in-RefusesFrames.new.pending frames frames c.refuse_frames-in-RefusesFrames.result refl c.refuse_frames-in-RefusesFrames.ensures.pending c.refuse_frames-in-RefusesFrames.ensures.carried
+    told_of_frames p w old.heap c.args.locals.now answer.RefusesFrames kind others owner shared s effect old c.refuse_frames-in-RefusesFrames.new.pending frames frames c.refuse_frames-in-RefusesFrames.result refl c.refuse_frames-in-RefusesFrames.ensures.pending c.refuse_frames-in-RefusesFrames.ensures.given
     (carries.refuses_room p w old c.args.pending.now frames others owner shared s h brought refuses)) does
 
 pub returns-in-Ok-clause-carried : goal.returns-in-Ok-clause-carried
@@ -106,7 +106,7 @@ returns-in-Err-Full-clause-carried c p kind brought others owner shared s of_sou
     let capacity = c.in-Pushes.capacity in
     let over : 1024 < capacities (pushed locals capacity) = full_over 1024 (capacities (pushed locals capacity)) c.in-Err-Full.field-0 c.in-Err-Full.field-0-is c.in-Err-Full.ensures.fault in
     carries.by_answer p w old.heap locals kind others owner shared s of_source brought c.args.answer (answer.Pushes capacity) c.in-Pushes.is _ _ _ _ _ (λ pushes.
-    told_of_frames p w old.heap locals (answer.Pushes capacity) kind others owner shared s effect old c.refuse_frames-in-Err-Full.new.pending c.push.new.self locals c.refuse_frames-in-Err-Full.result c.in-Err-Full.ensures.err c.refuse_frames-in-Err-Full.ensures.pending c.refuse_frames-in-Err-Full.ensures.carried
+    told_of_frames p w old.heap locals (answer.Pushes capacity) kind others owner shared s effect old c.refuse_frames-in-Err-Full.new.pending c.push.new.self locals c.refuse_frames-in-Err-Full.result c.in-Err-Full.ensures.err c.refuse_frames-in-Err-Full.ensures.pending c.refuse_frames-in-Err-Full.ensures.given
     (carries.pushes_not p w old c.args.pending.now locals others owner shared s h brought capacity pushes over)) does
 
 pub returns-in-Pops-clause-carried : goal.returns-in-Pops-clause-carried
