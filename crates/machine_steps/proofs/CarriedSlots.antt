@@ -68,7 +68,8 @@ use Rattle.machine_scenes.specs.declared.store.Store.{Store}
 use Rattle.machine_answers.specs.Answers.{Brought, IsAnswer, IsReleased, effect_told, is_carried}
 use Rattle.machine_calls.proofs.AnswerCases.{as_answer, released as releases_so}
 use Rattle.machine_answers.specs.Asked.{scene_of}
-use Rattle.machine_scenes.specs.Buffers.{Acquired, AreViewed, BuffersAgree, gives_up}
+use Rattle.machine_scenes.specs.Buffers as in_slot
+use Rattle.machine_scenes.specs.Buffers.{Acquired, AreViewed, BufferAgrees, BuffersAgree, gives_up}
 use Rattle.machine_calls.specs.CarriedOut.{LeavesCopy, ResultAgrees, buffers_after, result_after, slots_after, variables_left}
 use Rattle.machine_answers.specs.Copies.{overlaid, word_of as word_in, words_of}
 use Rattle.machine_scenes.specs.Given.{operand_of}
@@ -193,20 +194,17 @@ module _ (unit : SourceUnit) (classes : Classes) (store : Store) (k : ℕ) (kind
   plain_told : (g : Given) (c : CallResult) → IsUntold g → IsNoBuffer c → Told g c
   plain_told g c untold plain = inl (record { numbers = untold_numbers g untold; variables = λ x vs. nothing_told x c vs plain })
 
+  told_buffer : {b : HeldBuffer} {c : source_variable.Buffer} → IsBufferResult kind → BufferAgrees store.heap store.elements k b c → Told (given.Buffer b) (BufferResult c)
+  told_buffer f in_slot.null = inl (record { numbers = untold_numbers (given.Buffer held.Null) tt; variables = no_buffer_told })
+  told_buffer f (in_slot.copy found) = inr (f, (true, record { numbers = λ i ns. refl; none = λ ns. refl; variables = λ x vs. refl; unnamed = λ vs. refl }))
+  told_buffer f (in_slot.view named) = inr (f, (false, record { numbers = λ i ns. refl; none = λ ns. refl; variables = λ x vs. refl; unnamed = λ vs. refl }))
+
   what_told : (g : Given) (c : CallResult) → ResultAgrees unit classes store k g kind c → Told g c
   what_told (given.Global s) c h = plain_told (given.Global s) c tt (plain_static kind c h.0)
   what_told (given.Buffer held.Null) NullResult h = plain_told (given.Buffer held.Null) NullResult tt tt
-  what_told (given.Buffer held.Null) (BufferResult NoBuffer) h = inl (record { numbers = untold_numbers (given.Buffer held.Null) tt; variables = no_buffer_told })
-  what_told (given.Buffer held.Null) (BufferResult (Copy n zs)) h = absurd h.1
-  what_told (given.Buffer held.Null) (BufferResult (View n)) h = absurd h.1
   what_told (given.Buffer (held.Copy key)) NullResult h = absurd (let e = h.1 in cc)
-  what_told (given.Buffer (held.Copy key)) (BufferResult NoBuffer) h = absurd h.1
-  what_told (given.Buffer (held.Copy key)) (BufferResult (View n)) h = absurd h.1
-  what_told (given.Buffer (held.Copy key)) (BufferResult (Copy n zs)) h = inr (h.0, (true, record { numbers = λ i ns. refl; none = λ ns. refl; variables = λ x vs. refl; unnamed = λ vs. refl }))
   what_told (given.Buffer (held.View a)) NullResult h = absurd (let e = h.1 in cc)
-  what_told (given.Buffer (held.View a)) (BufferResult NoBuffer) h = absurd h.1
-  what_told (given.Buffer (held.View a)) (BufferResult (Copy n zs)) h = absurd h.1
-  what_told (given.Buffer (held.View a)) (BufferResult (View n)) h = inr (h.0, (false, record { numbers = λ i ns. refl; none = λ ns. refl; variables = λ x vs. refl; unnamed = λ vs. refl }))
+  what_told (given.Buffer b) (BufferResult c) h = told_buffer h.0 h.1
   what_told (given.Buffer b) NoResult h = absurd h.1
   what_told (given.Buffer b) (ScalarResult v) h = absurd h.1
   what_told (given.Buffer b) (ReferenceResult q) h = absurd h.1

@@ -354,7 +354,7 @@ module _ (p : Lowered) (w : World) (store : Store) (others : Acquired) (k owner 
           let buffers = slice_set r.meant.buffers h.slot new in
           let agree : BuffersAgree space copies owner call.slots.buffers.items buffers =
           subst (λ (l : List HeldBuffer). BuffersAgree space copies owner l buffers) (set_same call.slots.buffers.items h.slot (held_as.Copy key) slot_there)
-          (buffers_put space space store.elements copies owner call.slots.buffers.items r.meant.buffers h.slot (held_as.Copy key) new r.holds.buffers (written_here store.elements owner key zs list j number)
+          (buffers_put space space store.elements copies owner call.slots.buffers.items r.meant.buffers h.slot (held_as.Copy key) new r.holds.buffers (in_slot.copy (written_here store.elements owner key zs list j number))
           (λ m g c other there agrees. buffer_stays (λ a name named. named) (λ key' numbers named found. written_elsewhere store.elements owner key zs list j number key' numbers (λ same_key. other (r.holds.buffers.apart m h.slot key (there ∙ ap (λ (y : HeldBuffer). Some y) named ∙ ap (λ (y : ℕ). Some (held_as.Copy y)) same_key) slot_there)) found) agrees)
           (λ m key' other there same_key. other (r.holds.buffers.apart m h.slot key (there ∙ ap (λ (y : HeldBuffer). Some y) (sym same_key)) slot_there))) in
           let shown : Shows code h.names (visible_to own shared next) (record held { buffers = buffers }) =

@@ -33,9 +33,11 @@ level_left (row.pops r agrees) frames key level left = left
 level_left does frames key level left = tt
 
 -- where a reference is deleted, all keys are left but its own
-pub left_but_one : {classes : Classes} {brought : Brought} {space : Space} {locals : LocalTable} {shared : Shared} {s : Thread} {answer : Answer} {kind : ResultKind} {i n : ℕ}
-    → IsAnswer classes brought space locals shared s answer kind (DeletesLocal i n) → (frames key level : ℕ) → ((one : ℕ) → answer ≡ replies.Deletes one → key ≢ one) → IsLeft answer frames key level
-left_but_one (row.deletes {key = one} n variable there) frames key level other = other one refl
+pub left_but_one : {classes : Classes} {brought : Brought} {space : Space} {locals : LocalTable} {shared : Shared} {s : Thread} {answer : Answer} {kind : ResultKind} {of_source : SourceAnswer} {i n : ℕ}
+    → of_source ≡ DeletesLocal i n → IsAnswer classes brought space locals shared s answer kind of_source → (frames key level : ℕ) → ((one : ℕ) → answer ≡ replies.Deletes one → key ≢ one) → IsLeft answer frames key level
+left_but_one is (row.deletes {key = one} n variable there) frames key level other = other one refl
+left_but_one is (row.pops r agrees) frames key level other = absurd (cc)
+left_but_one is does frames key level other = tt
 
 -- ---- owners
 

@@ -96,7 +96,7 @@ module _ (p : Lowered) (w : World) (store : Store) (pending : Option ℕ) (call 
               (owner_lost_with_slot h.code r.known (visible_to own shared s) (slots_of call r.meant) r.shows d.name d.slot (called.own_slots d.name (record { ty = Ref; index = d.slot }) d.at));
           among = λ i level at. (in_others d i level (set_cases r.meant.owners d.slot i None (Some level) at)).1;
           left = λ i key level found at.
-              left_but_one stands (length call.locals.frames) key level
+              left_but_one refl stands (length call.locals.frames) key level
               (λ one is. apart d i key level found (in_others d i level (set_cases r.meant.owners d.slot i None (Some level) at)) one
               (slot_held (slice_get call.slots.references.items d.slot) one (sym (ap (key_at (references_of store call)) d.is) ∙ ends_one e one is)));
         }

@@ -35,6 +35,7 @@ use Rattle.code_meaning.specs.Lowered.{Lowered}
 use Rattle.semantics.specs.declared.event.Event.{Event}
 use Rattle.semantics.specs.declared.event.Event.TheVariants.{Quiet}
 use Rattle.machine_scenes.specs.declared.activation.Activation.{Activation}
+use Rattle.machine_steps.specs.declared.context.StepContext.{StepContext}
 use Rattle.machine_steps.specs.declared.execute.Executed.{Executed}
 use Rattle.machine_steps.specs.declared.execute.Executed.TheVariants.{Did, Refused, Returned}
 use Rattle.machine_steps.specs.declared.execute.Executed.TheVariants as executed
@@ -43,6 +44,7 @@ use Rattle.machine_steps.specs.declared.fault.StepFault.{StepFault}
 use Rattle.machine_steps.specs.declared.fault.StepFault.TheVariants.{NoRoom, Memory}
 use Rattle.machine_scenes.specs.declared.store.Store.{Store}
 use Rattle.machine_scenes.specs.Buffers.{Acquired, AreViewed, KeepsCopies, acquired_by, beside, in_use_of}
+use Rattle.machine_calls.specs.CallState.{CallState}
 use Rattle.machine_calls.specs.CarriedOut.{IsShortOf}
 use Rattle.machine_scenes.specs.HeapAgrees.{ReferenceAgrees}
 use Rattle.machine_threads.specs.Callers.{owner_at}
@@ -154,31 +156,30 @@ Executes p w old store others k owner own shared s rest activation pending effec
     × StoreAgrees p w store shared (beside others (acquired_by s)) × (store ≡ old) × ReferenceAgrees store.heap pending s.pending
 Executes p w old store others k owner own shared s rest activation pending effect executed.Calls = IsCalling w.classes shared s effect
 
--- the store, what is pending and the call in progress are as they were
-abbrev pub IsAsBefore : (old store : Store) → (pending left : Option ℕ) → (activation after : Activation) → Type 0
-IsAsBefore old store pending left activation after = (store ≡ old) × (left ≡ pending) × (after ≡ activation)
-
 -- ---- an instruction for any thread of the source
 
--- the call in progress, whose copies have this owner, stands for the tasks of some thread k of the source
-abbrev pub StandsExecuting : Lowered → World → Store → Activation → (pending : Option ℕ) → (k owner : ℕ) → Type 0
-StandsExecuting p w store activation pending k owner =
+-- the call in progress, whose copies have this owner, stands for the tasks of some thread of the source
+abbrev pub StandsExecuting : StepContext → (owner : ℕ) → CallState → Type 0
+StandsExecuting context owner before =
     (others : Acquired) × (own : Owners) × (shared : Shared) × (s : source.Thread) × (task : Task) × (rest : List Task)
-    × IsExecuting p w store activation pending others k owner own shared s task rest
+    × IsExecuting context.program.now context.world.now before.store before.activation before.pending others context.thread owner own shared
+    s task rest
 
 -- of each thread for which it does, the instruction does the first task
-abbrev pub DoesFirstTask : Lowered → World → (old store : Store) → (activation after : Activation)
-    → (pending left : Option ℕ) → (k owner : ℕ) → Executed → Type 0
-DoesFirstTask p w old store activation after pending left k owner done =
+abbrev pub DoesFirstTask : StepContext → (owner : ℕ) → (before after : CallState) → Executed → Type 0
+DoesFirstTask context owner before after done =
     (others : Acquired) (own : Owners) (shared : Shared) (s : source.Thread) (task : Task) (rest : List Task)
-    → IsExecuting p w old activation pending others k owner own shared s task rest
-    → Executes p w old store others k owner own shared s rest after left (effect_of (sight_of shared s) task) done
+    → IsExecuting context.program.now context.world.now before.store before.activation before.pending others context.thread owner own shared
+    s task rest
+    → Executes context.program.now context.world.now before.store after.store others context.thread owner own shared s rest
+    after.activation after.pending (effect_of (sight_of shared s) task) done
 
 -- or this is why it wasn't done
-abbrev pub IsHinderedExecuting : Lowered → World → Store → Activation → (pending : Option ℕ) → (k owner : ℕ)
-    → (may_refuse : Bool) → StepFault → Type 0
-IsHinderedExecuting p w store activation pending k owner may_refuse fault =
+abbrev pub IsHinderedExecuting : StepContext → (owner : ℕ) → CallState → StepFault → Type 0
+IsHinderedExecuting context owner before fault =
     (others : Acquired) (own : Owners) (shared : Shared) (s : source.Thread) (task : Task) (rest : List Task)
-    → IsExecuting p w store activation pending others k owner own shared s task rest
-    → IsHindered (left_of store.heap) (cells_made shared (after_effect (unit_tree p.unit) w.classes (in_use_with others s) k shared s rest
-    (effect_of (sight_of shared s) task))) may_refuse fault
+    → IsExecuting context.program.now context.world.now before.store before.activation before.pending others context.thread owner own shared
+    s task rest
+    → IsHindered (left_of before.store.heap) (cells_made shared (after_effect (unit_tree context.program.now.unit)
+    context.world.now.classes (in_use_with others s) context.thread shared s rest (effect_of (sight_of shared s) task)))
+    context.may_refuse fault

@@ -1,8 +1,8 @@
 -- Where a call of a function of the JNI is made.
-use Rattle.std.specs.Prelude.{◌≡◌, ℕ, ◌+◌, Bool, true, false, if◌then◌else◌, nat_le, List, ◌∷◌, length, slice_get, ◌⊎◌, Option, Some, None}
+use Rattle.std.specs.Prelude.{◌≡◌, ℕ, ◌+◌, ◌<◌, ◌^◌, Bool, true, false, if◌then◌else◌, nat_le, List, ◌∷◌, length, slice_get, ◌⊎◌, Option, Some, None, Result, Ok, IfOk, IfErr, OnErr}
 use Rattle.base.specs.Limits.{most_activations}
 use Rattle.syntax.specs.Views.{unit_tree}
-use Rattle.code.specs.Call.{call_view}
+use Rattle.code.specs.Call.{IsPrepared, call_view}
 use Rattle.code.specs.Depth.{Listing}
 use Rattle.code.specs.declared.instr.Call.{Call as InMemory}
 use Rattle.code.specs.declared.instr.Instr.TheVariants as instr
@@ -19,6 +19,9 @@ use Rattle.world_values.specs.SoundWorlds.{IsSound}
 use Rattle.semantics_safety.specs.Owners.{Owners}
 use Rattle.code_meaning.specs.Lowered.{Lowered, IsLowered}
 use Rattle.code_meaning.specs.Slots.{SeesBuffers, visible_to}
+use Rattle.machine_calls.specs.CallState.{CallState, IsAsBefore}
+use Rattle.machine_steps.specs.declared.context.CallContext.{CallContext}
+use Rattle.machine_steps.specs.declared.context.StepContext.{StepContext}
 use Rattle.machine_steps.specs.declared.invoke.Invoked.{Invoked}
 use Rattle.machine_steps.specs.declared.invoke.Invoked.TheVariants as invoked
 use Rattle.semantics.specs.declared.event.Event.TheVariants.{Quiet, Trapped}
@@ -70,10 +73,16 @@ pub record IsAnswered (p : Lowered) (w : World) (store : Store) (pending : Optio
   pub free : trap_at p w store pending activation k call ≡ None
   pub works : IsAnswerTo (scene_of (unit_tree p.unit) w.classes store activation k pending) (call_view call) given
 
+-- the same of what goes by this context
+abbrev pub IsAnsweredIn : StepContext → CallState → InMemory → Answer → Type 0
+IsAnsweredIn context before call given =
+    IsAnswered context.program.now context.world.now before.store before.pending before.activation context.thread call given
+
 -- A trap stops a call: a check found it, or it is what the call does.
-abbrev pub IsStopped : Lowered → World → Store → (pending : Option ℕ) → Activation → (k : ℕ) → InMemory → Trap → Type 0
-IsStopped p w store pending activation k call trap = (trap_at p w store pending activation k call ≡ Some trap)
-    ⊎ IsAnswered p w store pending activation k call (answer.Halts trap)
+abbrev pub IsStoppedIn : StepContext → CallState → InMemory → Trap → Type 0
+IsStoppedIn context before call trap =
+    (trap_at context.program.now context.world.now before.store before.pending before.activation context.thread call ≡ Some trap)
+    ⊎ IsAnsweredIn context before call (answer.Halts trap)
 
 -- an answer stops the machine
 abbrev pub is_halt : Answer → Bool
@@ -99,25 +108,50 @@ executed_as line (invoked.Trapped trap) = Did (Trapped trap line)
 -- ---- a call of any thread of the source
 
 -- some thread k of the source is at this call, with copies of this owner
-abbrev pub StandsAtCall : Lowered → World → Store → (pending : Option ℕ) → Activation → InMemory → (k owner : ℕ) → Type 0
-StandsAtCall p w store pending activation call k owner =
-    (others : Acquired) × (own : Owners) × (shared : Shared) × (s : Thread) × (task : Task)
-    × (rest : List Task) × AtCall p w store pending activation call others k owner own shared s task rest
+abbrev pub StandsAtCall : Lowered → World → (k owner : ℕ) → CallState → InMemory → Type 0
+StandsAtCall p w k owner before call =
+    (others : Acquired) × (own : Owners) × (shared : Shared) × (s : Thread) × (task : Task) × (rest : List Task)
+    × AtCall p w before.store before.pending before.activation call others k owner own shared s task rest
+
+-- the same of what goes by this context, with copies of some owner
+abbrev pub IsAtCall : StepContext → CallState → InMemory → Type 0
+IsAtCall context before call = (owner : ℕ) × StandsAtCall context.program.now context.world.now context.thread owner before call
 
 -- of each thread that is, the call does the first task
-abbrev pub DoesCall : Lowered → World → (old store : Store) → (pending left : Option ℕ) → (activation after : Activation) → InMemory
-    → (k owner : ℕ) → Invoked → Type 0
-DoesCall p w old store pending left activation after call k owner done =
+abbrev pub DoesCall : Lowered → World → (k owner : ℕ) → (before after : CallState) → InMemory → Invoked → Type 0
+DoesCall p w k owner before after call done =
     (others : Acquired) (own : Owners) (shared : Shared) (s : Thread) (task : Task) (rest : List Task)
-    → AtCall p w old pending activation call others k owner own shared s task rest
-    → Executes p w old store others k owner own shared s rest after left (effect_of (sight_of shared s) task)
-    (executed_as call.line done)
+    → AtCall p w before.store before.pending before.activation call others k owner own shared s task rest
+    → Executes p w before.store after.store others k owner own shared s rest after.activation after.pending
+    (effect_of (sight_of shared s) task) (executed_as call.line done)
+
+-- so it does that goes by this context
+abbrev pub DoesItsCall : CallContext → (before after : CallState) → Invoked → Type 0
+DoesItsCall context before after done =
+    DoesCall context.step.program.now context.step.world.now context.step.thread context.owner before after context.call.now done
 
 -- or this is why it wasn't done
-abbrev pub IsHinderedAtCall : Lowered → World → Store → (pending : Option ℕ) → Activation → InMemory → (k owner : ℕ) → (may_refuse : Bool)
-    → StepFault → Type 0
-IsHinderedAtCall p w store pending activation call k owner may_refuse fault =
+abbrev pub IsHinderedAtCall : CallContext → CallState → StepFault → Type 0
+IsHinderedAtCall context before fault =
     (others : Acquired) (own : Owners) (shared : Shared) (s : Thread) (task : Task) (rest : List Task)
-    → AtCall p w store pending activation call others k owner own shared s task rest
-    → IsHindered (left_of store.heap) (cells_made shared (after_effect (unit_tree p.unit) w.classes (in_use_with others s) k shared s rest
-    (effect_of (sight_of shared s) task))) may_refuse fault
+    → AtCall context.step.program.now context.step.world.now before.store before.pending before.activation context.call.now others
+    context.step.thread context.owner own shared s task rest
+    → IsHindered (left_of before.store.heap) (cells_made shared (after_effect (unit_tree context.step.program.now.unit)
+    context.step.world.now.classes (in_use_with others s) context.step.thread shared s rest (effect_of (sight_of shared s) task)))
+    context.step.may_refuse fault
+
+-- what is asked of a call: some thread of the source is at it, there is a place behind its instruction, and births are few
+pub record MayCall (context : CallContext) (before : CallState) : Type 0 where
+  pub at_call : StandsAtCall context.step.program.now context.step.world.now context.step.thread context.owner before context.call.now
+  pub place : before.activation.place + 1 < 2 ^ 64
+  pub few : before.store.births + 2 < 2 ^ 32
+  pub prepared : IsPrepared context.call.now
+
+-- What a call came to: it did the first task; it was refused, where that may be; it calls a method, and nothing has changed yet; or it
+-- wasn't done, for this reason, and all is as before.
+pub record Invokes (context : CallContext) (before after : CallState) (result : Result Invoked StepFault) : Type 0 where
+  pub done : IfOk result (DoesItsCall context before after)
+  pub hindered : IfErr result (IsHinderedAtCall context before)
+  pub refuses : result ≡ Ok invoked.Refused → context.step.may_refuse ≡ true
+  pub calls : IfOk result (λ done. done ≡ invoked.Calls → IsAsBefore before after)
+  pub kept : OnErr result (IsAsBefore before after)

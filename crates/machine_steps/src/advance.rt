@@ -16,13 +16,14 @@ ghost use Rattle.machine_steps.specs.Resumed.{HasCalled, Resumes};
 ghost use Rattle.machine_steps.specs.Returned.{given_back};
 
 use crate::buffer_elements::load_element;
+use crate::context::StepContext;
 use crate::enter::enter;
 use crate::execute::{Executed, ReturnValue, execute, run_plain, test_null};
 use crate::fault::StepFault;
 use crate::invoke::call_at_once;
 use crate::monitor::is_of_methods;
 use crate::push::push;
-use crate::receive::{receive, receive_word};
+use crate::receive::{Destination, receive, receive_word};
 use code::code::Code;
 use code::instr::Instr;
 use code_meaning::Program;
@@ -85,20 +86,23 @@ pub fn advance(
     ensures thread { OnErr result (thread.new ≡ thread.old) }
 {
     let owner = owner_at(number, thread.callers.len());
+    let context = StepContext {
+        program,
+        world,
+        thread: number,
+        may_refuse,
+    };
     match &mut thread.call {
         None => {
             enter(program, &store.loaded, thread)?;
             Ok(Advanced::Did(Event::Quiet))
         }
         Some(activation) => match execute(
-            program,
-            world,
+            context,
+            owner,
             store,
             &mut thread.pending,
             activation.get_mut(),
-            number,
-            owner,
-            may_refuse,
         ) {
             Ok(Executed::Did(Event::Quiet)) => Ok(Advanced::Did(Event::Quiet)),
             Ok(Executed::Did(event)) => Ok(Advanced::Did(event)),
@@ -222,14 +226,12 @@ pub(crate) fn resume(
                         }
                         _ => {
                             let given = given_back(thread.pending, call.result, value);
-                            receive(
-                                caller,
-                                &mut store.statics,
-                                call.target,
-                                call.result,
-                                None,
-                                &given,
-                            )
+                            let to = Destination {
+                                target: call.target,
+                                kind: call.result,
+                                told: None,
+                            };
+                            receive(caller, &mut store.statics, to, &given)
                         }
                     }
                 }

@@ -9,6 +9,7 @@ ghost use Rattle.semantics.specs.declared.event.Event.TheVariants.{Quiet};
 ghost use Rattle.semantics_safety.specs.Owners.{ThreadOwners};
 
 use crate::advance::resume;
+use crate::context::StepContext;
 use crate::enter::enter_again;
 use crate::execute::given_by;
 use crate::invoke::method_seen;
@@ -78,15 +79,13 @@ pub fn call_method(
                     if !is_of_methods(call.function) {
                         return false;
                     }
-                    match method_seen(
+                    let context = StepContext {
                         program,
                         world,
-                        store,
-                        thread.pending,
-                        activation,
-                        call,
-                        number,
-                    ) {
+                        thread: number,
+                        may_refuse: false,
+                    };
+                    match method_seen(context, store, thread.pending, activation, call) {
                         Some(method) => match push_method(store, thread, call, method) {
                             Ok(()) => true,
                             Err(_) => false,

@@ -6,7 +6,8 @@ ghost use Rattle.code.specs.Depth.{depth_after};
 ghost use Rattle.code.specs.Effect.{plain_of, truth_word};
 ghost use Rattle.code_meaning.specs.Lowered.{IsLowered};
 ghost use Rattle.machine_answers.specs.Asked.{references_of};
-ghost use Rattle.machine_steps.specs.Executes.{DoesFirstTask, IsAsBefore, IsHinderedExecuting, StandsExecuting};
+ghost use Rattle.machine_calls.specs.CallState.{IsAsBefore, state_of};
+ghost use Rattle.machine_steps.specs.Executes.{DoesFirstTask, IsHinderedExecuting, StandsExecuting};
 ghost use Rattle.machine_steps.specs.Invoked.{executed_as};
 ghost use Rattle.machine_steps.specs.Returned.{given_by, returned_at};
 ghost use Rattle.machine_steps.specs.Moved.{HasMoved, IsReachable, MovesPlainly};
@@ -14,12 +15,12 @@ ghost use Rattle.machine_threads.specs.SlotsHold.{values_in};
 ghost use Rattle.machine_steps.specs.Variables.{is_null, HasSlot, nulled_slots, nulled_statics};
 
 use crate::buffer_elements::{load_element, store_element};
+use crate::context::{CallContext, StepContext};
 use crate::fault::StepFault;
 use crate::invoke::{Invoked, invoke};
 use crate::variable::{is_null, set_null};
 use code::instr::{Instr, NullableVariable, Plain, ReferenceOperand};
 use code::plain::plain;
-use code_meaning::Program;
 use heap::Addr;
 use machine_calls::trap::trap_of;
 use machine_scenes::activation::Activation;
@@ -27,7 +28,6 @@ use machine_scenes::references::{References, local_of};
 use machine_scenes::statics::StaticReference;
 use machine_scenes::store::Store;
 use semantics::Event;
-use world_values::World;
 
 /// What a call returns: nothing, a number, or a reference by its object's address, which is none for NULL.
 #[derive(Clone, Copy)]
@@ -49,36 +49,31 @@ pub enum Executed {
     Calls,
 }
 
-/// One instruction of the call in progress of the thread of this number. What it copies has this owner.
+/// One instruction of the call in progress.
 /// Where what it makes has no room, it is refused if it may be, and else the fault says so.
 #[inline(always)]
 pub fn execute(
-    program: &Program<'_>,
-    world: &World,
+    context: StepContext<'_, '_>,
+    owner: u16,
     store: &mut Store,
     pending: &mut Option<Addr>,
     activation: &mut Activation,
-    thread: u8,
-    owner: u16,
-    may_refuse: bool,
 ) -> Result<Executed, StepFault>
-    requires lowered { IsLowered program.now }
+    requires lowered { IsLowered context.program.now }
     requires few { store.old.births + 2 < 2 ^ 32 }
-    requires stands { StandsExecuting program.now world.now store.old activation.old pending.old thread owner }
-    ensures done { IfOk result (λ done. DoesFirstTask program.now world.now store.old store.new
-        activation.old activation.new pending.old pending.new thread owner done) }
-    ensures hindered { IfErr result (λ fault. IsHinderedExecuting program.now world.now store.old activation.old
-        pending.old thread owner may_refuse fault) }
-    ensures refuses { result ≡ Ok Executed.Refused → may_refuse ≡ true }
-    ensures calls { IfOk result (λ done. done ≡ Executed.Calls → IsAsBefore store.old store.new pending.old pending.new
-        activation.old activation.new) }
-    ensures store { OnErr result (store.new ≡ store.old) }
-    ensures pending { OnErr result (pending.new ≡ pending.old) }
-    ensures activation { OnErr result (activation.new ≡ activation.old) }
+    requires stands { StandsExecuting context owner (state_of store.old pending.old activation.old) }
+    ensures done { IfOk result (DoesFirstTask context.entry owner (state_of store.old pending.old activation.old)
+        (state_of store.new pending.new activation.new)) }
+    ensures hindered { IfErr result (IsHinderedExecuting context.entry owner (state_of store.old pending.old activation.old)) }
+    ensures refuses { result ≡ Ok Executed.Refused → context.entry.may_refuse ≡ true }
+    ensures calls { IfOk result (λ done. done ≡ Executed.Calls
+        → IsAsBefore (state_of store.old pending.old activation.old) (state_of store.new pending.new activation.new)) }
+    ensures kept { OnErr result (IsAsBefore (state_of store.old pending.old activation.old)
+        (state_of store.new pending.new activation.new)) }
 {
     // The proof reads off this call that no object has as many elements as a `jint` can say.
     let _ = store.heap.cells();
-    let code = program.code_at(activation.function);
+    let code = context.program.code_at(activation.function);
     let instr = code.instr_at(activation.place);
     match instr {
         Instr::TestNull { variable, equal } => {
@@ -104,9 +99,12 @@ pub fn execute(
         }
         Instr::Call(boxed) => {
             let call = boxed.call();
-            match invoke(
-                program, world, store, pending, activation, call, thread, owner, may_refuse,
-            ) {
+            let at_call = CallContext {
+                step: context,
+                call,
+                owner,
+            };
+            match invoke(at_call, store, pending, activation) {
                 Ok(Invoked::Done) => Ok(Executed::Did(Event::Quiet)),
                 Ok(invoked) => Ok(outcome_of(call.line, invoked)),
                 Err(fault) => Err(fault),

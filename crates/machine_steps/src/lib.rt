@@ -5,6 +5,7 @@
 pub mod advance;
 mod buffer_elements;
 pub mod change;
+pub mod context;
 mod enter;
 pub mod execute;
 pub mod fault;

@@ -17,32 +17,38 @@ use machine_scenes::handle::{Handle, MethodHandle};
 use machine_scenes::statics::StaticReference;
 use tables::{Local, Locals};
 
-/// Puts what a function of this kind of result gives into its target, and goes on after the instruction.
-/// A new local reference is put into the current frame too. Before, the flag in the slot `told`, if there is one, tells
-/// a buffer that is a copy from a view (JNI Specification, chapter 4, "Get<PrimitiveType>ArrayElements Routines"). It
-/// takes no host memory.
+/// Where what a function gives goes.
+#[derive(Clone, Copy)]
+pub struct Destination {
+    pub target: Target,
+    /// The function's kind of result: a new local reference is put into the current frame too.
+    pub kind: ResultKind,
+    /// The slot of the flag, if there is one, that tells a buffer that is a copy from a view (JNI Specification, chapter 4,
+    /// "Get<PrimitiveType>ArrayElements Routines").
+    pub told: Option<u32>,
+}
+
+/// Puts what a function gives where it goes, and goes on after the instruction. The flag is put into its slot before. It takes no host memory.
 #[inline(always)]
 pub fn receive(
     activation: &mut Activation,
     statics: &mut [StaticReference],
-    target: Target,
-    kind: ResultKind,
-    told: Option<u32>,
+    to: Destination,
     given: &Given,
 )
     requires place { activation.old.place + 1 < 2 ^ 64 }
-    requires target { HasTarget target activation.old }
-    requires told { HasTold told (length activation.old.slots.numbers.items) }
-    requires static_target { HasStatic target (length statics.old) }
-    requires room { HasRoom kind activation.old.locals }
-    ensures activation { Receives target kind told given.now activation.old activation.new }
-    ensures statics { statics.new ≡ statics_with target given.now statics.old }
+    requires target { HasTarget to.target activation.old }
+    requires told { HasTold to.told (length activation.old.slots.numbers.items) }
+    requires static_target { HasStatic to.target (length statics.old) }
+    requires room { HasRoom to.kind activation.old.locals }
+    ensures activation { Receives to.target to.kind to.told given.now activation.old activation.new }
+    ensures statics { statics.new ≡ statics_with to.target given.now statics.old }
 {
     activation.stack.clear();
     activation.place += 1;
-    let key = make_local(&mut activation.locals, kind, given);
-    tell_copy(&mut activation.slots.numbers, told, given);
-    match target {
+    let key = make_local(&mut activation.locals, to.kind, given);
+    tell_copy(&mut activation.slots.numbers, to.told, given);
+    match to.target {
         Target::Dropped => {}
         Target::Number(slot) => put_number(&mut activation.slots.numbers, slot, given),
         Target::Local(slot) => activation.slots.references[slot as usize] = key,

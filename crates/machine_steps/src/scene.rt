@@ -6,30 +6,28 @@ ghost use Rattle.machine_answers.specs.Asked.{scene_of};
 ghost use Rattle.machine_scenes.specs.Scenes.{scene_view};
 ghost use Rattle.syntax.specs.Views.{unit_tree};
 
-use code_meaning::Program;
+use crate::context::StepContext;
 use heap::Addr;
 use machine_scenes::activation::Activation;
 use machine_scenes::references::References;
 use machine_scenes::scene::Scene;
 use machine_scenes::store::Store;
-use world_values::World;
 
-/// What a call of the thread of this number sees.
+/// What a call of a thread sees.
 #[inline(always)]
-pub(crate) fn scene_of<'a>(
-    program: &'a Program<'_>,
-    world: &'a World,
-    store: &'a Store,
+pub(crate) fn scene_of<'s>(
+    context: StepContext<'s, '_>,
+    store: &'s Store,
     pending: Option<Addr>,
-    activation: &'a Activation,
-    thread: u8,
-) -> Scene<'a>
-    ensures scene { scene_view result ≡ scene_of (unit_tree program.now.unit) world.now.classes store.now activation.now thread pending }
-    ensures sound { IsSound world.now }
+    activation: &'s Activation,
+) -> Scene<'s>
+    ensures scene { scene_view result ≡ scene_of (unit_tree context.entry.program.now.unit) context.entry.world.now.classes
+        store.now activation.now context.entry.thread pending }
+    ensures sound { IsSound context.entry.world.now }
 {
     Scene {
-        items: program.items(),
-        classes: world.classes(),
+        items: context.program.items(),
+        classes: context.world.classes(),
         heap: &store.heap,
         loaded: &store.loaded,
         references: References::new(
@@ -44,6 +42,6 @@ pub(crate) fn scene_of<'a>(
         stack: &activation.stack,
         pending,
         monitors: &store.monitors,
-        thread,
+        thread: context.thread,
     }
 }

@@ -20,6 +20,7 @@ ghost use Rattle.machine_threads.specs.ThreadAgrees.{ThreadAgrees};
 ghost use Rattle.machine_steps.specs.Waiting.{MayWait, is_busy};
 ghost use Rattle.machine_steps.specs.Advances.{Stands};
 
+use crate::context::StepContext;
 use crate::scene::scene_of;
 use code::instr::{Call, Instr};
 use code_meaning::Program;
@@ -70,15 +71,13 @@ pub fn waits(
                     let call = boxed.call();
                     match call.function {
                         JniFunction::MonitorEnter => {
-                            waits_to_enter(
+                            let context = StepContext {
                                 program,
                                 world,
-                                store,
-                                thread.pending,
-                                activation,
-                                call,
-                                number,
-                            )
+                                thread: number,
+                                may_refuse: false,
+                            };
+                            waits_to_enter(context, store, thread.pending, activation, call)
                         }
                         _ => false,
                     }
@@ -89,33 +88,36 @@ pub fn waits(
     }
 }
 
-/// Whether a call of `MonitorEnter` waits, in the thread of this number.
+/// Whether a call of `MonitorEnter` waits.
 /// It is checked only where another thread owns the monitor.
 #[inline(never)]
 fn waits_to_enter(
-    program: &Program<'_>,
-    world: &World,
+    context: StepContext<'_, '_>,
     store: &Store,
     pending: Option<Addr>,
     activation: &Activation,
     call: &Call,
-    thread: u8,
 ) -> bool
     requires may_wait { (others : Acquired) × (owner : ℕ) × (own : Owners) × (shared : Shared) × (s : SourceThread)
         × (task : Task) × (rest : List Task)
-        × MayWait program.now world.now store.now pending activation.now call.now others thread owner own shared s task rest }
+        × MayWait context.program.now context.world.now store.now pending activation.now call.now others context.thread owner own
+        shared s task rest }
     requires enters { call.now.function ≡ MonitorEnter }
     requires prepared { IsPrepared call.now }
     ensures { (others : Acquired) (owner : ℕ) (own : Owners) (shared : Shared) (s : SourceThread)
         (task : Task) (rest : List Task)
-        → MayWait program.now world.now store.now pending activation.now call.now others thread owner own shared s task rest
-        → result ≡ waits_with world.now.classes thread shared s (effect_of (sight_of shared s) task) }
+        → MayWait context.entry.program.now context.entry.world.now store.now pending activation.now call.now others context.entry.thread owner own
+        shared s task rest
+        → result ≡ waits_with context.entry.world.now.classes context.entry.thread shared s (effect_of (sight_of shared s) task) }
 {
-    let scene = scene_of(program, world, store, pending, activation, thread);
+    let scene = scene_of(context, store, pending, activation);
     match argument(&scene, call, 0) {
         Some(addr) => {
-            is_busy(store.monitors.entering(store.heap.birth_of(addr), thread))
-                && check(&scene, &activation.locals, call).is_none()
+            is_busy(
+                store
+                    .monitors
+                    .entering(store.heap.birth_of(addr), context.thread),
+            ) && check(&scene, &activation.locals, call).is_none()
         }
         None => false,
     }

@@ -1,4 +1,4 @@
-use Rattle.std.proofs.Common.{◌≡◌, ℕ, zero, suc, ◌<◌, true, false, List, ◌++◌, Option, Some, length, map, reverse, sym, ap, ◌∙◌, subst, refl, arith}
+use Rattle.std.proofs.Common.{◌≡◌, ℕ, ◌<◌, true, false, List, Option, Some, length, map, reverse, sym, ap, ◌∙◌, subst, refl, arith}
 use Rattle.std.specs.Prelude.{◌==◌}
 use Rattle.std.proofs.lemmas.Bool.Decides.{Decides-eqb}
 use Rattle.std.proofs.lemmas.List.{nil_from_length}
@@ -23,7 +23,9 @@ use Rattle.machine_scenes.specs.declared.store.Store.{Store}
 use Rattle.machine_threads.specs.Callers.{beside_callers, owner_at}
 use Rattle.machine_threads.specs.ThreadAgrees.{ThreadAgrees}
 use Rattle.machine_threads.specs.declared.thread.Thread.{Thread}
+use Rattle.machine_calls.specs.CallState.{state_of}
 use Rattle.machine_steps.specs.Advances.{Advances, StandsReady}
+use Rattle.machine_steps.specs.declared.context.StepContext.{StepContext}
 use Rattle.machine_steps.specs.Executes.{DoesFirstTask, IsCalling, IsExecuting, IsHindered, IsSteady, Executes, cells_made, in_use_with}
 use Rattle.machine_steps.specs.Resumed.{HasCalled, Resumes}
 use Rattle.machine_steps.specs.Returned.{ReturnAgrees}
@@ -108,6 +110,10 @@ returns-in_ok-enter-in-None-clause-advances c others own shared s shares h stead
     let next = subst (λ (l : List ℕ). Enters c.args.program.now l c.args.thread.now c.enter.new.thread) c.deref.ensures.value e.calls in
     enters c.args.program.now c.args.world.now c.args.store.now others c.args.number own shared c.args.thread.now c.enter.new.thread s c.requires.lowered shares h c.in-None.is next e.entering e.callers e.pending e.ending
 
+-- what the step goes by
+abbrev context_of : After-owner_at-owner → StepContext
+context_of c = record { program = c.args.program; world = c.args.world; thread = c.args.number; may_refuse = c.args.may_refuse }
+
 -- whatever thread of the source it stands for
 module _ (c : After-owner_at-owner) (others : Acquired) (own : ThreadOwners) (shared : Shared) (s : source.Thread) (shares : StoreAgrees c.args.program.now c.args.world.now c.args.store.now shared (beside (beside_callers others s) (acquired_by s)))
     (h : ThreadAgrees c.args.program.now c.args.world.now.classes c.args.store.now.heap c.args.store.now.elements (length (loaded_objects c.args.world.now)) c.args.number own shared c.args.thread.now s) (steady : IsSteady (unit_tree c.args.program.now.unit) c.args.world.now.classes own.current shared s) (activation : Activation) (is : c.args.thread.now.call ≡ Some activation) where
@@ -136,7 +142,7 @@ module _ (c : After-owner_at-owner) (others : Acquired) (own : ThreadOwners) (sh
   stands_as free = subst (λ (n : ℕ). IsExecuting p w old activation c.args.thread.now.pending rest_of k n own.current shared s it.task it.rest) (sym owner_same) (executes p w old rest_of k own shared c.args.thread.now s activation shares h is steady free)
 
   -- what was executed
-  does : (store : Store) (after : Activation) (left : Option ℕ) (done x : Executed) → waits w.classes k shared s ≡ false → DoesFirstTask p w old store activation after c.args.thread.now.pending left k c.owner_at-owner.result done → done ≡ x
+  does : (store : Store) (after : Activation) (left : Option ℕ) (done x : Executed) → waits w.classes k shared s ≡ false → DoesFirstTask (context_of c) c.owner_at-owner.result (state_of old c.args.thread.now.pending activation) (state_of store left after) done → done ≡ x
       → Executes p w old store rest_of k (owner_at k (length s.callers)) own.current shared s it.rest after left (effect_of (sight_of shared s) it.task) x
   does store after left done x free told same =
       subst (λ (y : Executed). Executes p w old store rest_of k (owner_at k (length s.callers)) own.current shared s it.rest after left (effect_of (sight_of shared s) it.task) y) same
@@ -168,7 +174,7 @@ module _ (c : After-owner_at-owner) (activation : Activation) (is : c.args.threa
   abbrev a : StandsReady c.args.program.now c.args.world.now c.args.number c.args.store.now c.args.thread.now
   a = c.requires.agrees
 
-  returns_there : (store : Store) (after : Activation) (left : Option ℕ) (done : Executed) (v : ReturnValue) → DoesFirstTask c.args.program.now c.args.world.now c.args.store.now store activation after c.args.thread.now.pending left c.args.number c.owner_at-owner.result done → done ≡ Returned v
+  returns_there : (store : Store) (after : Activation) (left : Option ℕ) (done : Executed) (v : ReturnValue) → DoesFirstTask (context_of c) c.owner_at-owner.result (state_of c.args.store.now c.args.thread.now.pending activation) (state_of store left after) done → done ≡ Returned v
       → Executes c.args.program.now c.args.world.now c.args.store.now store (beside_callers a.0 a.3) c.args.number (owner_at c.args.number (length a.3.callers)) a.1.current a.2 a.3 (it c a.0 a.1 a.2 a.3 a.4 a.5 a.7 activation is).rest after left (effect_of (sight_of a.2 a.3) (it c a.0 a.1 a.2 a.3 a.4 a.5 a.7 activation is).task) (Returned v)
   returns_there store after left done v told same = does c a.0 a.1 a.2 a.3 a.4 a.5 a.7 activation is store after left done (Returned v) a.8 told same
 
@@ -177,7 +183,7 @@ module _ (c : After-owner_at-owner) (activation : Activation) (is : c.args.threa
   abbrev b : StandsReady c.args.program.now c.args.world.now c.args.number c.args.store.now c.args.thread.now
   b = c.requires.agrees
 
-  calls_there : (store : Store) (after : Activation) (left : Option ℕ) (done : Executed) → DoesFirstTask c.args.program.now c.args.world.now c.args.store.now store activation after c.args.thread.now.pending left c.args.number c.owner_at-owner.result done → done ≡ executed.Calls
+  calls_there : (store : Store) (after : Activation) (left : Option ℕ) (done : Executed) → DoesFirstTask (context_of c) c.owner_at-owner.result (state_of c.args.store.now c.args.thread.now.pending activation) (state_of store left after) done → done ≡ executed.Calls
       → IsCalling c.args.world.now.classes b.2 b.3 (effect_of (sight_of b.2 b.3) (it c b.0 b.1 b.2 b.3 b.4 b.5 b.7 activation is).task)
   calls_there store after left done told same = does c b.0 b.1 b.2 b.3 b.4 b.5 b.7 activation is store after left done executed.Calls b.8 told same
 

@@ -12,6 +12,7 @@ use Rattle.machine_scenes.specs.Buffers.{Acquired}
 use Rattle.machine_scenes.specs.declared.store.Store.{Store}
 use Rattle.machine_threads.specs.ThreadAgrees.{ThreadAgrees}
 use Rattle.machine_threads.specs.declared.thread.Thread.{Thread}
+use Rattle.machine_calls.specs.CallState.{state_of}
 use Rattle.machine_steps.specs.Advances.{Advances, StandsWithin, within}
 use Rattle.machine_steps.specs.Invoked.{AtCall, DoesCall, StandsAtCall}
 use Rattle.machine_steps.specs.declared.invoke.Invoked.TheVariants as invoked
@@ -331,7 +332,7 @@ module _ (c : After-call-call) (others : Acquired) (own : ThreadOwners) (shared 
   owner_same : c.args.owner ≡ copier
   owner_same = owner_there p w store k own shared t s c.args.owner hw.in_code.stands.1 hw.owner_is
 
-  at_call_here : Free → StandsAtCall p w store c.args.pending.now call c.call-call.result.now k c.args.owner
+  at_call_here : Free → StandsAtCall p w k c.args.owner (state_of store c.args.pending.now call) c.call-call.result.now
   at_call_here free = (
     rest_of,
     own.current,
@@ -344,11 +345,11 @@ module _ (c : After-call-call) (others : Acquired) (own : ThreadOwners) (shared 
   )
 
   -- the step that it takes
-  steps : (later : Store) (after : Activation) (left : Option ℕ) → DoesCall p w store later c.args.pending.now left call after c.call-call.result.now k c.args.owner invoked.Done → Free → Advances p w store later others k own shared s (within after left t) false event.Quiet
+  steps : (later : Store) (after : Activation) (left : Option ℕ) → DoesCall p w k c.args.owner (state_of store c.args.pending.now call) (state_of later left after) c.call-call.result.now invoked.Done → Free → Advances p w store later others k own shared s (within after left t) false event.Quiet
   steps later after left done free =
       let does =
-      subst (λ (n : ℕ). DoesCall p w store later t.pending left call after c.call-call.result.now k n invoked.Done) owner_same
-      (subst (λ (o : Option ℕ). DoesCall p w store later o left call after c.call-call.result.now k c.args.owner invoked.Done) (sym hw.pending_is) done) in
+      subst (λ (n : ℕ). DoesCall p w k n (state_of store t.pending call) (state_of later left after) c.call-call.result.now invoked.Done) owner_same
+      (subst (λ (o : Option ℕ). DoesCall p w k c.args.owner (state_of store o call) (state_of later left after) c.call-call.result.now invoked.Done) (sym hw.pending_is) done) in
       did p w store others k own shared t s hw.in_code.stands.1 later false event.Quiet it.task it.rest it.is after left
       (does rest_of own.current shared s it.task it.rest (at_it free))
 

@@ -1,4 +1,4 @@
-use Rattle.std.proofs.Common.{◌≡◌, ℕ, zero, suc, ◌<◌, ◌≤◌, false, List, [], ◌∷◌, ◌++◌, length, Option, Some, refl, sym, ap, ◌∙◌, subst, arith, ◌⊎◌, ⊎_elim}
+use Rattle.std.proofs.Common.{◌≡◌, ◌<◌, ◌≤◌, List, [], ◌∷◌, ◌++◌, length, sym, ap, ◌∙◌, subst, arith, ◌⊎◌, ⊎_elim}
 use Rattle.code.specs.declared.instr.Instr.{Instr}
 use Rattle.code.specs.declared.instr.Instr.TheVariants as instr
 use Rattle.code.specs.declared.instr.ReferenceOperand.{ReferenceOperand}
@@ -15,7 +15,6 @@ use Rattle.machine_steps.specs.Returned.{given_by}
 use Rattle.machine_steps.specs.declared.execute.ReturnValue.{ReturnValue}
 use Rattle.machine_scenes.specs.declared.store.Store.{Store}
 use Rattle.semantics.specs.declared.event.Event.TheVariants.{Quiet}
-use Rattle.std.specs.Prelude.{◌==◌}
 use Rattle.base.proofs.Numbers.{positive}
 use Rattle.machine_steps.proofs.CallsThere.{running, last_of}
 use Rattle.machine_steps.proofs.change.return_to_caller.Goals as goal

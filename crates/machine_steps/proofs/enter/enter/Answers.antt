@@ -1,7 +1,3 @@
-use Rattle.std.proofs.Common.{◌≡◌, ℕ, List, Option, Some, None, refl, sym}
-use Rattle.machine_threads.specs.declared.thread.Entering.{Entering}
-use Rattle.machine_threads.specs.declared.thread.PendingCall.{PendingCall}
-use Rattle.machine_steps.specs.Pushed.{IsNext}
 use Rattle.machine_steps.proofs.CallsThere.{of_caller}
 use Rattle.machine_steps.proofs.enter.enter.Goals as goal
 

@@ -1,5 +1,4 @@
-use Rattle.std.proofs.Common.{◌≡◌, Option, Some, refl, sym, ◌∙◌}
-use Rattle.machine_threads.specs.declared.thread.Entering.{Entering}
+use Rattle.std.proofs.Common.{sym, ◌∙◌}
 use Rattle.machine_steps.proofs.CallsThere.{of_caller}
 use Rattle.machine_steps.proofs.enter.enter_again.Goals as goal
 

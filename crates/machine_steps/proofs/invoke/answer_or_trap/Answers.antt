@@ -2,7 +2,6 @@ use Rattle.code_meaning.specs.Lowered.{Lowered}
 use Rattle.syntax.specs.Views.{unit_tree}
 use Rattle.std.specs.Prelude.{IfOk, IfErr}
 use Rattle.std.proofs.Common.{inl, inr, Result, Ok, Err, ◌≡◌, ℕ, Option, None, sym, ap, ◌∙◌, subst, rules}
-use Rattle.std.specs.Option.{option_map}
 use Rattle.semantics.specs.World.{World}
 use Rattle.code.specs.Call.{call_view}
 use Rattle.code.specs.declared.instr.Call.{Call}
@@ -36,18 +35,18 @@ pub check-requires : goal.check-requires
 check-requires c =
     let at = c.requires.at_call in
     let a = at.1 in
-    let is = all_there c.args.program.now c.args.world.now c.args.store.now c.args.pending c.args.activation.now c.args.call.now a.0 c.args.thread at.0 a.1 a.2 a.3 a.4 a.5 a.6 c.args.store.now.monitors (scene_view c.scene_of-scene.result) c.scene_of-scene.ensures.scene in
+    let is = all_there c.args.context.program.now c.args.context.world.now c.args.store.now c.args.pending c.args.activation.now c.args.call.now a.0 c.args.context.thread at.0 a.1 a.2 a.3 a.4 a.5 a.6 c.args.store.now.monitors (scene_view c.scene_of-scene.result) c.scene_of-scene.ensures.scene in
     record { prepared = c.requires.prepared; pending = is.pending; objects = is.objects; handles = is.handles; method = is.method }
 
 pub returns-in-Some-clause-trap : goal.returns-in-Some-clause-trap
-returns-in-Some-clause-trap c = inl (told c.args.program.now c.args.world.now c.args.store.now c.args.pending c.args.activation.now c.args.thread c.args.call.now (scene_view c.scene_of-scene.result) c.scene_of-scene.ensures.scene c.check.result _ c.check.ensures c.in-Some.is)
+returns-in-Some-clause-trap c = inl (told c.args.context.program.now c.args.context.world.now c.args.store.now c.args.pending c.args.activation.now c.args.context.thread c.args.call.now (scene_view c.scene_of-scene.result) c.scene_of-scene.ensures.scene c.check.result _ c.check.ensures c.in-Some.is)
 
 pub work_out-requires : goal.work_out-requires
 work_out-requires c =
     let at = c.requires.at_call in
     let a = at.1 in
-    let is = all_there c.args.program.now c.args.world.now c.args.store.now c.args.pending c.args.activation.now c.args.call.now a.0 c.args.thread at.0 a.1 a.2 a.3 a.4 a.5 a.6 c.args.store.now.monitors (scene_view c.scene_of-scene.result) c.scene_of-scene.ensures.scene in
-    let passed = passed_seen c.args.program.now c.args.world.now c.args.store.now c.args.pending c.args.activation.now c.args.call.now a.0 c.args.thread at.0 a.1 a.2 a.3 a.4 a.5 a.6 c.args.store.now.monitors (scene_view c.scene_of-scene.result) c.scene_of-scene.ensures.scene in
+    let is = all_there c.args.context.program.now c.args.context.world.now c.args.store.now c.args.pending c.args.activation.now c.args.call.now a.0 c.args.context.thread at.0 a.1 a.2 a.3 a.4 a.5 a.6 c.args.store.now.monitors (scene_view c.scene_of-scene.result) c.scene_of-scene.ensures.scene in
+    let passed = passed_seen c.args.context.program.now c.args.context.world.now c.args.store.now c.args.pending c.args.activation.now c.args.call.now a.0 c.args.context.thread at.0 a.1 a.2 a.3 a.4 a.5 a.6 c.args.store.now.monitors (scene_view c.scene_of-scene.result) c.scene_of-scene.ensures.scene in
     record { grown = search rules; loaded = is.loaded; objects = is.objects; handles = is.handles; passed = passed (sym c.check.ensures ∙ c.in-None.is) }
 
 -- what was worked out is handed on
@@ -65,8 +64,8 @@ returns-in-None-clause-answer c =
     (λ (answer : Answer) (is : answer ≡ c.work_out.result).
     record {
       sound = c.scene_of-scene.ensures.sound;
-      free = told c.args.program.now c.args.world.now c.args.store.now c.args.pending c.args.activation.now c.args.thread c.args.call.now (scene_view c.scene_of-scene.result) c.scene_of-scene.ensures.scene c.check.result None c.check.ensures c.in-None.is;
-      works = worked c.args.program.now c.args.world.now c.args.store.now c.args.pending c.args.activation.now c.args.thread c.args.call.now (scene_view c.scene_of-scene.result) c.scene_of-scene.ensures.scene c.work_out.result answer is c.work_out.ensures;
+      free = told c.args.context.program.now c.args.context.world.now c.args.store.now c.args.pending c.args.activation.now c.args.context.thread c.args.call.now (scene_view c.scene_of-scene.result) c.scene_of-scene.ensures.scene c.check.result None c.check.ensures c.in-None.is;
+      works = worked c.args.context.program.now c.args.context.world.now c.args.store.now c.args.pending c.args.activation.now c.args.context.thread c.args.call.now (scene_view c.scene_of-scene.result) c.scene_of-scene.ensures.scene c.work_out.result answer is c.work_out.ensures;
     })
     c.running.ensures.answer
 
@@ -76,7 +75,7 @@ returns-in-None-clause-trap c =
     (λ (trap : Trap) (is : c.work_out.result ≡ answer.Halts trap).
     inr (record {
       sound = c.scene_of-scene.ensures.sound;
-      free = told c.args.program.now c.args.world.now c.args.store.now c.args.pending c.args.activation.now c.args.thread c.args.call.now (scene_view c.scene_of-scene.result) c.scene_of-scene.ensures.scene c.check.result None c.check.ensures c.in-None.is;
-      works = worked c.args.program.now c.args.world.now c.args.store.now c.args.pending c.args.activation.now c.args.thread c.args.call.now (scene_view c.scene_of-scene.result) c.scene_of-scene.ensures.scene c.work_out.result (answer.Halts trap) (sym is) c.work_out.ensures;
+      free = told c.args.context.program.now c.args.context.world.now c.args.store.now c.args.pending c.args.activation.now c.args.context.thread c.args.call.now (scene_view c.scene_of-scene.result) c.scene_of-scene.ensures.scene c.check.result None c.check.ensures c.in-None.is;
+      works = worked c.args.context.program.now c.args.context.world.now c.args.store.now c.args.pending c.args.activation.now c.args.context.thread c.args.call.now (scene_view c.scene_of-scene.result) c.scene_of-scene.ensures.scene c.work_out.result (answer.Halts trap) (sym is) c.work_out.ensures;
     }))
     c.running.ensures.trap

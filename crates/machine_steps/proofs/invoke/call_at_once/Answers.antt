@@ -3,8 +3,10 @@ use Rattle.machine_steps.proofs.invoke.call_at_once.Goals as goal
 pub change_at_once-requires-clause-at_call : goal.change_at_once-requires-clause-at_call
 change_at_once-requires-clause-at_call c = (c.args.owner, c.requires.at_call (c.could_wait.ensures c.if-could_wait.false))
 
-pub call_seen-requires-clause-at_call : goal.call_seen-requires-clause-at_call
-call_seen-requires-clause-at_call c = c.requires.at_call (c.could_wait.ensures c.if-could_wait.false)
+pub call_seen-requires : goal.call_seen-requires
+call_seen-requires c = record {
+  may = record { at_call = c.requires.at_call (c.could_wait.ensures c.if-could_wait.false); place = c.requires.place; few = c.requires.few; prepared = c.requires.prepared };
+}
 
 pub returns-then-is_of_monitors-clause-free : goal.returns-then-is_of_monitors-clause-free
 returns-then-is_of_monitors-clause-free c is = c.could_wait.ensures c.if-could_wait.false

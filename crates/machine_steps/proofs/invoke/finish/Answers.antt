@@ -75,17 +75,17 @@ numbers_long space answer numbers = refl
 
 pub carry_out-requires-clause-possible : goal.carry_out-requires-clause-possible
 carry_out-requires-clause-possible c =
-    let a = c.requires.at_call in
-    let w = c.args.world.now in
-    let kind = c.args.call.now.result in (
-      c.args.program.now,
-      args c.args.program.now w c.args.store.now c.args.pending.now c.args.activation.now c.args.call.now a.0 c.args.thread c.args.owner a.1 a.2 a.3 a.4 a.5 a.6 c.args.answer c.requires.answered (no_call c.args.answer c.requires.runs) kind c.requires.prepared.result,
+    let a = c.requires.may.at_call in
+    let w = c.args.context.step.world.now in
+    let kind = c.args.context.call.now.result in (
+      c.args.context.step.program.now,
+      args c.args.context.step.program.now w c.args.store.now c.args.pending.now c.args.activation.now c.args.context.call.now a.0 c.args.context.step.thread c.args.context.owner a.1 a.2 a.3 a.4 a.5 a.6 c.args.answer c.requires.answered (no_call c.args.answer c.requires.runs) kind c.requires.may.prepared.result,
       a.0,
       a.2,
       a.3,
-      told c.args.program.now w c.args.store.now c.args.pending.now c.args.activation.now c.args.call.now a.0 c.args.thread c.args.owner a.1 a.2 a.3 a.4 a.5 a.6 c.args.answer c.requires.answered (no_call c.args.answer c.requires.runs),
-      can_carry c.args.program.now w c.args.store.now c.args.pending.now c.args.activation.now c.args.call.now a.0 c.args.thread c.args.owner a.1 a.2 a.3 a.4 a.5 a.6 c.args.answer c.requires.answered (no_call c.args.answer c.requires.runs) kind c.requires.prepared.result,
-      answered c.args.program.now w c.args.store.now c.args.pending.now c.args.activation.now c.args.call.now a.0 c.args.thread c.args.owner a.1 a.2 a.3 a.4 a.5 a.6 c.args.answer c.requires.answered (no_call c.args.answer c.requires.runs) kind c.requires.prepared.result,
+      told c.args.context.step.program.now w c.args.store.now c.args.pending.now c.args.activation.now c.args.context.call.now a.0 c.args.context.step.thread c.args.context.owner a.1 a.2 a.3 a.4 a.5 a.6 c.args.answer c.requires.answered (no_call c.args.answer c.requires.runs),
+      can_carry c.args.context.step.program.now w c.args.store.now c.args.pending.now c.args.activation.now c.args.context.call.now a.0 c.args.context.step.thread c.args.context.owner a.1 a.2 a.3 a.4 a.5 a.6 c.args.answer c.requires.answered (no_call c.args.answer c.requires.runs) kind c.requires.may.prepared.result,
+      answered c.args.context.step.program.now w c.args.store.now c.args.pending.now c.args.activation.now c.args.context.call.now a.0 c.args.context.step.thread c.args.context.owner a.1 a.2 a.3 a.4 a.5 a.6 c.args.answer c.requires.answered (no_call c.args.answer c.requires.runs) kind c.requires.may.prepared.result,
     )
 
 target_left : (target : Target) (numbers references fields buffers numbers' references' fields' buffers' : ℕ) → numbers' ≡ numbers → references' ≡ references → fields' ≡ fields → buffers' ≡ buffers
@@ -95,45 +95,45 @@ target_left target numbers references fields buffers numbers' references' fields
 
 pub receive-requires-clause-target : goal.receive-requires-clause-target
 receive-requires-clause-target c =
-    let a = c.requires.at_call in
+    let a = c.requires.may.at_call in
     let activation = c.args.activation.now in
     let told = c.in-Ok.ensures in
-    target_left c.args.call.now.target (length activation.slots.numbers.items) (length activation.slots.references.items) (length activation.slots.fields.items) (length activation.slots.buffers.items) _ _ _ _
-    (ap length told.slots ∙ numbers_long c.args.store.now.heap c.args.answer activation.slots.numbers.items)
+    target_left c.args.context.call.now.target (length activation.slots.numbers.items) (length activation.slots.references.items) (length activation.slots.fields.items) (length activation.slots.buffers.items) _ _ _ _
+    (ap length told.numbers ∙ numbers_long c.args.store.now.heap c.args.answer activation.slots.numbers.items)
     (ap (λ (t : Activation). length t.slots.references.items) told.stays)
     (ap (λ (t : Activation). length t.slots.fields.items) told.stays)
-    (ap length told.buffer_slots ∙ buffers_long c.args.answer activation.slots.buffers.items)
-    (has_target c.args.program.now c.args.world.now c.args.store.now c.args.pending.now activation c.args.call.now a.0 c.args.thread c.args.owner a.1 a.2 a.3 a.4 a.5 a.6)
+    (ap length told.buffers ∙ buffers_long c.args.answer activation.slots.buffers.items)
+    (has_target c.args.context.step.program.now c.args.context.step.world.now c.args.store.now c.args.pending.now activation c.args.context.call.now a.0 c.args.context.step.thread c.args.context.owner a.1 a.2 a.3 a.4 a.5 a.6)
 
 pub receive-requires-clause-told : goal.receive-requires-clause-told
 receive-requires-clause-told c =
-    let a = c.requires.at_call in
+    let a = c.requires.may.at_call in
     let activation = c.args.activation.now in
     subst (λ (o : Option ℕ). HasTold o (length c.carry_out.new.activation.slots.numbers.items)) (sym c.told_slot.ensures)
-    (subst (HasTold (told_slot (slice_get c.args.call.now.operands.items 1)))
-    (sym (ap length c.in-Ok.ensures.slots ∙ numbers_long c.args.store.now.heap c.args.answer activation.slots.numbers.items))
-    (has_told c.args.program.now c.args.world.now c.args.store.now c.args.pending.now activation c.args.call.now a.0 c.args.thread c.args.owner a.1 a.2 a.3 a.4 a.5 a.6))
+    (subst (HasTold (told_slot (slice_get c.args.context.call.now.operands.items 1)))
+    (sym (ap length c.in-Ok.ensures.numbers ∙ numbers_long c.args.store.now.heap c.args.answer activation.slots.numbers.items))
+    (has_told c.args.context.step.program.now c.args.context.step.world.now c.args.store.now c.args.pending.now activation c.args.context.call.now a.0 c.args.context.step.thread c.args.context.owner a.1 a.2 a.3 a.4 a.5 a.6))
 
 pub receive-requires-clause-static_target : goal.receive-requires-clause-static_target
 receive-requires-clause-static_target c =
-    let a = c.requires.at_call in
-    let w = c.args.world.now in
-    let kind = c.args.call.now.result in
-    let same = c.requires.prepared.result in
-    static_there c.args.program.now w c.args.store.now c.args.pending.now c.args.activation.now c.args.call.now a.0 c.args.thread c.args.owner a.1 a.2 a.3 a.4 a.5 a.6 c.args.answer c.requires.answered (no_call c.args.answer c.requires.runs) kind same c.in-Ok.carried.refused c.carry_out.new.store c.carry_out.new.pending c.carry_out.new.activation.locals c.in-Ok.carried.given
-    (c.in-Ok.ensures.carried c.args.program.now (args c.args.program.now w c.args.store.now c.args.pending.now c.args.activation.now c.args.call.now a.0 c.args.thread c.args.owner a.1 a.2 a.3 a.4 a.5 a.6 c.args.answer c.requires.answered (no_call c.args.answer c.requires.runs) kind same) a.0 a.2 a.3 _ (can_carry c.args.program.now w c.args.store.now c.args.pending.now c.args.activation.now c.args.call.now a.0 c.args.thread c.args.owner a.1 a.2 a.3 a.4 a.5 a.6 c.args.answer c.requires.answered (no_call c.args.answer c.requires.runs) kind same)
-    (answered c.args.program.now w c.args.store.now c.args.pending.now c.args.activation.now c.args.call.now a.0 c.args.thread c.args.owner a.1 a.2 a.3 a.4 a.5 a.6 c.args.answer c.requires.answered (no_call c.args.answer c.requires.runs) kind same))
+    let a = c.requires.may.at_call in
+    let w = c.args.context.step.world.now in
+    let kind = c.args.context.call.now.result in
+    let same = c.requires.may.prepared.result in
+    static_there c.args.context.step.program.now w c.args.store.now c.args.pending.now c.args.activation.now c.args.context.call.now a.0 c.args.context.step.thread c.args.context.owner a.1 a.2 a.3 a.4 a.5 a.6 c.args.answer c.requires.answered (no_call c.args.answer c.requires.runs) kind same c.in-Ok.carried.refused c.carry_out.new.store c.carry_out.new.pending c.carry_out.new.activation.locals c.in-Ok.carried.given
+    (c.in-Ok.ensures.carried c.args.context.step.program.now (args c.args.context.step.program.now w c.args.store.now c.args.pending.now c.args.activation.now c.args.context.call.now a.0 c.args.context.step.thread c.args.context.owner a.1 a.2 a.3 a.4 a.5 a.6 c.args.answer c.requires.answered (no_call c.args.answer c.requires.runs) kind same) a.0 a.2 a.3 _ (can_carry c.args.context.step.program.now w c.args.store.now c.args.pending.now c.args.activation.now c.args.context.call.now a.0 c.args.context.step.thread c.args.context.owner a.1 a.2 a.3 a.4 a.5 a.6 c.args.answer c.requires.answered (no_call c.args.answer c.requires.runs) kind same)
+    (answered c.args.context.step.program.now w c.args.store.now c.args.pending.now c.args.activation.now c.args.context.call.now a.0 c.args.context.step.thread c.args.context.owner a.1 a.2 a.3 a.4 a.5 a.6 c.args.answer c.requires.answered (no_call c.args.answer c.requires.runs) kind same))
     c.deref_mut.result.now c.deref_mut.ensures.value
 
 pub receive-requires-clause-room : goal.receive-requires-clause-room
 receive-requires-clause-room c =
-    let a = c.requires.at_call in
-    let w = c.args.world.now in
-    let kind = c.args.call.now.result in
-    let same = c.requires.prepared.result in
-    room_there c.args.program.now w c.args.store.now c.args.pending.now c.args.activation.now c.args.call.now a.0 c.args.thread c.args.owner a.1 a.2 a.3 a.4 a.5 a.6 c.args.answer c.requires.answered (no_call c.args.answer c.requires.runs) kind same c.in-Ok.carried.refused c.carry_out.new.store c.carry_out.new.pending c.carry_out.new.activation.locals c.in-Ok.carried.given
-    (c.in-Ok.ensures.carried c.args.program.now (args c.args.program.now w c.args.store.now c.args.pending.now c.args.activation.now c.args.call.now a.0 c.args.thread c.args.owner a.1 a.2 a.3 a.4 a.5 a.6 c.args.answer c.requires.answered (no_call c.args.answer c.requires.runs) kind same) a.0 a.2 a.3 _ (can_carry c.args.program.now w c.args.store.now c.args.pending.now c.args.activation.now c.args.call.now a.0 c.args.thread c.args.owner a.1 a.2 a.3 a.4 a.5 a.6 c.args.answer c.requires.answered (no_call c.args.answer c.requires.runs) kind same)
-    (answered c.args.program.now w c.args.store.now c.args.pending.now c.args.activation.now c.args.call.now a.0 c.args.thread c.args.owner a.1 a.2 a.3 a.4 a.5 a.6 c.args.answer c.requires.answered (no_call c.args.answer c.requires.runs) kind same))
+    let a = c.requires.may.at_call in
+    let w = c.args.context.step.world.now in
+    let kind = c.args.context.call.now.result in
+    let same = c.requires.may.prepared.result in
+    room_there c.args.context.step.program.now w c.args.store.now c.args.pending.now c.args.activation.now c.args.context.call.now a.0 c.args.context.step.thread c.args.context.owner a.1 a.2 a.3 a.4 a.5 a.6 c.args.answer c.requires.answered (no_call c.args.answer c.requires.runs) kind same c.in-Ok.carried.refused c.carry_out.new.store c.carry_out.new.pending c.carry_out.new.activation.locals c.in-Ok.carried.given
+    (c.in-Ok.ensures.carried c.args.context.step.program.now (args c.args.context.step.program.now w c.args.store.now c.args.pending.now c.args.activation.now c.args.context.call.now a.0 c.args.context.step.thread c.args.context.owner a.1 a.2 a.3 a.4 a.5 a.6 c.args.answer c.requires.answered (no_call c.args.answer c.requires.runs) kind same) a.0 a.2 a.3 _ (can_carry c.args.context.step.program.now w c.args.store.now c.args.pending.now c.args.activation.now c.args.context.call.now a.0 c.args.context.step.thread c.args.context.owner a.1 a.2 a.3 a.4 a.5 a.6 c.args.answer c.requires.answered (no_call c.args.answer c.requires.runs) kind same)
+    (answered c.args.context.step.program.now w c.args.store.now c.args.pending.now c.args.activation.now c.args.context.call.now a.0 c.args.context.step.thread c.args.context.owner a.1 a.2 a.3 a.4 a.5 a.6 c.args.answer c.requires.answered (no_call c.args.answer c.requires.runs) kind same))
 
 -- it was refused
 was_refused : (refused : Bool) (x : Invoked) → x ≡ done_or_refused refused → x ≡ invoked.Refused → refused ≡ true
@@ -142,17 +142,17 @@ was_refused false x told is = absurd (let clash : invoked.Done ≡ invoked.Refus
 
 pub returns-in-Ok-clause-refused : goal.returns-in-Ok-clause-refused
 returns-in-Ok-clause-refused c is =
-    let a = c.requires.at_call in
-    let w = c.args.world.now in
+    let a = c.requires.may.at_call in
+    let w = c.args.context.step.world.now in
     let store = c.args.store.now in
-    let kind = c.args.call.now.result in
-    let same = c.requires.prepared.result in
-    let does = effect c.args.program.now w store c.args.pending.now c.args.activation.now c.args.call.now a.0 c.args.thread c.args.owner a.1 a.2 a.3 a.4 a.5 a.6 c.args.answer c.requires.answered (no_call c.args.answer c.requires.runs) in
-    let answer = answered c.args.program.now w store c.args.pending.now c.args.activation.now c.args.call.now a.0 c.args.thread c.args.owner a.1 a.2 a.3 a.4 a.5 a.6 c.args.answer c.requires.answered (no_call c.args.answer c.requires.runs) kind same in
-    let carried = c.in-Ok.ensures.carried c.args.program.now (args c.args.program.now w store c.args.pending.now c.args.activation.now c.args.call.now a.0 c.args.thread c.args.owner a.1 a.2 a.3 a.4 a.5 a.6 c.args.answer c.requires.answered (no_call c.args.answer c.requires.runs) kind same) a.0 a.2 a.3 _ (can_carry c.args.program.now w store c.args.pending.now c.args.activation.now c.args.call.now a.0 c.args.thread c.args.owner a.1 a.2 a.3 a.4 a.5 a.6 c.args.answer c.requires.answered (no_call c.args.answer c.requires.runs) kind same) answer in
+    let kind = c.args.context.call.now.result in
+    let same = c.requires.may.prepared.result in
+    let does = effect c.args.context.step.program.now w store c.args.pending.now c.args.activation.now c.args.context.call.now a.0 c.args.context.step.thread c.args.context.owner a.1 a.2 a.3 a.4 a.5 a.6 c.args.answer c.requires.answered (no_call c.args.answer c.requires.runs) in
+    let answer = answered c.args.context.step.program.now w store c.args.pending.now c.args.activation.now c.args.context.call.now a.0 c.args.context.step.thread c.args.context.owner a.1 a.2 a.3 a.4 a.5 a.6 c.args.answer c.requires.answered (no_call c.args.answer c.requires.runs) kind same in
+    let carried = c.in-Ok.ensures.carried c.args.context.step.program.now (args c.args.context.step.program.now w store c.args.pending.now c.args.activation.now c.args.context.call.now a.0 c.args.context.step.thread c.args.context.owner a.1 a.2 a.3 a.4 a.5 a.6 c.args.answer c.requires.answered (no_call c.args.answer c.requires.runs) kind same) a.0 a.2 a.3 _ (can_carry c.args.context.step.program.now w store c.args.pending.now c.args.activation.now c.args.context.call.now a.0 c.args.context.step.thread c.args.context.owner a.1 a.2 a.3 a.4 a.5 a.6 c.args.answer c.requires.answered (no_call c.args.answer c.requires.runs) kind same) answer in
     let refused = was_refused c.in-Ok.carried.refused c.done_or_refused.result c.done_or_refused.ensures (cc (is)) in
     let short = subst (λ (b : Bool). GoesByRoom b (sizes (made_by w.classes does)) store.heap c.carry_out.new.store.heap) refused carried.room in
-    omega (arith, short.0, cells_made w.classes (brings c.args.program.now w store c.args.pending.now c.args.activation.now c.args.call.now a.0 c.args.thread c.args.owner a.1 a.2 a.3 a.4 a.5 a.6 c.args.answer c.requires.answered (no_call c.args.answer c.requires.runs)) store.heap c.args.activation.now.locals a.2 a.3 answer)
+    omega (arith, short.0, cells_made w.classes (brings c.args.context.step.program.now w store c.args.pending.now c.args.activation.now c.args.context.call.now a.0 c.args.context.step.thread c.args.context.owner a.1 a.2 a.3 a.4 a.5 a.6 c.args.answer c.requires.answered (no_call c.args.answer c.requires.runs)) store.heap c.args.activation.now.locals a.2 a.3 answer)
 
 -- what a call came to, by whether its allocation was refused
 executes : (p : Lowered) (w : World) (old store : Store) (others : Acquired) (k owner : ℕ) (own : Owners) (shared : Shared) (s : Thread) (rest : List Task) (call : Activation) (pending : Option ℕ) (e : Effect) (line : ℕ) (refused : Bool)
@@ -160,26 +160,18 @@ executes : (p : Lowered) (w : World) (old store : Store) (others : Acquired) (k 
 executes p w old store others k owner own shared s rest call pending e line true h = h
 executes p w old store others k owner own shared s rest call pending e line false h = h
 
--- what isn't stopped calls no method
-never_calls : (refused : Bool) → done_or_refused refused ≡ invoked.Calls → ⊥
-never_calls true is = cc
-never_calls false is = cc
-
-pub returns-in-Ok-clause-calls : goal.returns-in-Ok-clause-calls
-returns-in-Ok-clause-calls c is = absurd (never_calls c.in-Ok.carried.refused (sym c.done_or_refused.ensures ∙ is))
-
 pub returns-in-Ok-clause-done : goal.returns-in-Ok-clause-done
 returns-in-Ok-clause-done c others own shared s task rest h =
-    let p = c.args.program.now in
-    let w = c.args.world.now in
+    let p = c.args.context.step.program.now in
+    let w = c.args.context.step.world.now in
     let store = c.args.store.now in
     let pending = c.args.pending.now in
     let activation = c.args.activation.now in
-    let call = c.args.call.now in
-    let k = c.args.thread in
-    let owner = c.args.owner in
+    let call = c.args.context.call.now in
+    let k = c.args.context.step.thread in
+    let owner = c.args.context.owner in
     let kind = call.result in
-    let same = c.requires.prepared.result in
+    let same = c.requires.may.prepared.result in
     let refused = c.in-Ok.carried.refused in
     let g = c.in-Ok.carried.given in
     let is = kind_is p w store pending activation call others k owner own shared s task rest h c.args.answer c.requires.answered (no_call c.args.answer c.requires.runs) kind same in
@@ -198,7 +190,7 @@ returns-in-Ok-clause-done c others own shared s task rest h =
     refused c.carry_out.new.store c.carry_out.new.pending c.carry_out.new.activation.locals g
     (carried_as p w store pending activation call others k owner own shared s task rest h c.args.answer c.requires.answered (no_call c.args.answer c.requires.runs) kind same refused c.carry_out.new.store c.carry_out.new.pending c.carry_out.new.activation.locals g carried)
     c.frames.ensures.stacked c.in-Ok.ensures.copies c.in-Ok.ensures.new_copy
-    left.slots.numbers left.slots.buffers c.in-Ok.ensures.slots c.in-Ok.ensures.buffer_slots c.receive.new.activation after
+    left.slots.numbers left.slots.buffers c.in-Ok.ensures.numbers c.in-Ok.ensures.buffers c.receive.new.activation after
     (subst (λ (x : ResultKind). Receives call.target x (told_slot (slice_get (call_view call).operands 1)) g (record activation { locals = left.locals; slots = record activation.slots { numbers = left.slots.numbers; buffers = left.slots.buffers } }) c.receive.new.activation) is
     (subst (λ (t : Activation). Receives call.target kind (told_slot (slice_get (call_view call).operands 1)) g t c.receive.new.activation) c.in-Ok.ensures.stays
     (subst (λ (o : Option ℕ). Receives call.target kind o g left c.receive.new.activation) c.told_slot.ensures c.receive.ensures.activation)))

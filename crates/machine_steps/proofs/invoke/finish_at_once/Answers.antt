@@ -1,4 +1,5 @@
 use Rattle.std.proofs.Common.{◌≡◌, Bool, true, false, Ok, ap, arith, subst}
+use Rattle.machine_calls.specs.CallState.{state_of}
 use Rattle.machine_steps.specs.Invoked.{DoesCall, done_or_refused}
 use Rattle.machine_steps.specs.declared.invoke.Invoked.{Invoked}
 use Rattle.machine_steps.specs.declared.invoke.Invoked.TheVariants as invoked
@@ -17,4 +18,4 @@ unreachable-requires c =
 
 pub returns-in-Done-clause-done : goal.returns-in-Done-clause-done
 returns-in-Done-clause-done c = λ is.
-    subst (λ (x : Invoked). DoesCall c.args.program.now c.args.world.now c.args.store.now c.finish.new.store c.args.pending.now c.finish.new.pending c.args.activation.now c.finish.new.activation c.args.call.now c.args.thread c.args.owner x) c.in-Done.is c.in-Ok.ensures.done
+    subst (λ (x : Invoked). DoesCall c.args.context.step.program.now c.args.context.step.world.now c.args.context.step.thread c.args.context.owner (state_of c.args.store.now c.args.pending.now c.args.activation.now) (state_of c.finish.new.store c.finish.new.pending c.finish.new.activation) c.args.context.call.now x) c.in-Done.is c.in-Ok.ensures.done

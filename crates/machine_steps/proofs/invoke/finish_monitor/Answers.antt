@@ -13,17 +13,19 @@ use Rattle.machine_steps.proofs.invoke.finish_monitor.Goals as goal
 pub receive_number-requires-clause-target : goal.receive_number-requires-clause-target
 receive_number-requires-clause-target c =
     let at = c.requires.at_call in
-    let a = at.4 in
-    has_target at.0 at.1 c.args.store.now at.2 c.args.activation.now c.args.call.now a.0 c.args.thread at.3 a.1 a.2 a.3 a.4 a.5 a.6
+    let a = at.2 in
+    has_target c.args.context.program.now c.args.context.world.now c.args.store.now at.0 c.args.activation.now c.args.call.now a.0 c.args.context.thread at.1 a.1 a.2 a.3 a.4 a.5 a.6
 
 pub returns-clause-done : goal.returns-clause-done
-returns-clause-done c is p w pending owner told_if others own shared s task rest h =
+returns-clause-done c is pending owner told_if others own shared s task rest h =
+    let p = c.args.context.program.now in
+    let w = c.args.context.world.now in
     let done = c.if-not-change_monitor.false in
     let told = told_if (c.change_monitor.ensures.may done) in
     let store = c.args.store.now in
     let activation = c.args.activation.now in
     let call = c.args.call.now in
-    let k = c.args.thread in
+    let k = c.args.context.thread in
     let a = c.args.answer in
     let changes = c.requires.changes in
     let plain = no_call a (monitors.goes_on a changes) in

@@ -9,12 +9,12 @@ pub method_at_once-requires : goal.method_at_once-requires
 method_at_once-requires c =
     let at = c.requires.at_call in
     let a = at.1 in
-    record { objects = (all_there c.args.program.now c.args.world.now c.args.store.now c.args.pending c.args.activation.now c.args.call.now a.0 c.args.thread at.0 a.1 a.2 a.3 a.4 a.5 a.6 c.args.store.now.monitors (scene_view c.scene_of-scene.result) c.scene_of-scene.ensures.scene).objects }
+    record { objects = (all_there c.args.context.program.now c.args.context.world.now c.args.store.now c.args.pending c.args.activation.now c.args.call.now a.0 c.args.context.thread at.0 a.1 a.2 a.3 a.4 a.5 a.6 c.args.store.now.monitors (scene_view c.scene_of-scene.result) c.scene_of-scene.ensures.scene).objects }
 
 pub returns-clause-answered : goal.returns-clause-answered
 returns-clause-answered c =
     let at = c.requires.at_call in
     let a = at.1 in
-    seen_with_room c.args.program.now c.args.world.now c.args.store.now c.args.pending c.args.activation.now c.args.thread c.args.call.now (scene_view c.scene_of-scene.result) c.scene_of-scene.ensures.scene c.scene_of-scene.ensures.sound
-    (as_seen c.args.program.now c.args.world.now c.args.store.now c.args.pending c.args.activation.now c.args.call.now a.0 c.args.thread at.0 a.1 a.2 a.3 a.4 a.5 a.6 c.args.store.now.monitors (scene_view c.scene_of-scene.result) c.scene_of-scene.ensures.scene)
+    seen_with_room c.args.context.program.now c.args.context.world.now c.args.store.now c.args.pending c.args.activation.now c.args.context.thread c.args.call.now (scene_view c.scene_of-scene.result) c.scene_of-scene.ensures.scene c.scene_of-scene.ensures.sound
+    (as_seen c.args.context.program.now c.args.context.world.now c.args.store.now c.args.pending c.args.activation.now c.args.call.now a.0 c.args.context.thread at.0 a.1 a.2 a.3 a.4 a.5 a.6 c.args.store.now.monitors (scene_view c.scene_of-scene.result) c.scene_of-scene.ensures.scene)
     (λ (x : MethodHandle). answer.Calls) c.method_at_once.result c.method_at_once.ensures.free c.method_at_once.ensures.works

@@ -25,26 +25,26 @@ pub answer_at_once-requires : goal.answer_at_once-requires
 answer_at_once-requires c =
     let at = c.requires.at_call in
     let a = at.1 in
-    record { function = c.requires.function; objects = (all_there c.args.program.now c.args.world.now c.args.store.now c.args.pending c.args.activation.now c.args.call.now a.0 c.args.thread at.0 a.1 a.2 a.3 a.4 a.5 a.6 c.args.store.now.monitors (scene_of (unit_tree c.args.program.now.unit) c.args.world.now.classes c.args.store.now c.args.activation.now c.args.thread c.args.pending) refl).objects }
+    record { function = c.requires.function; objects = (all_there c.args.context.program.now c.args.context.world.now c.args.store.now c.args.pending c.args.activation.now c.args.call.now a.0 c.args.context.thread at.0 a.1 a.2 a.3 a.4 a.5 a.6 c.args.store.now.monitors (scene_of (unit_tree c.args.context.program.now.unit) c.args.context.world.now.classes c.args.store.now c.args.activation.now c.args.context.thread c.args.pending) refl).objects }
 
 pub returns-clause-answer : goal.returns-clause-answer
 returns-clause-answer c =
     let at = c.requires.at_call in
     let a = at.1 in
     let call = c.args.call.now in
-    let w = c.args.world.now in
-    let scene = scene_of (unit_tree c.args.program.now.unit) w.classes c.args.store.now c.args.activation.now c.args.thread c.args.pending in
+    let w = c.args.context.world.now in
+    let scene = scene_of (unit_tree c.args.context.program.now.unit) w.classes c.args.store.now c.args.activation.now c.args.context.thread c.args.pending in
     known
-    (λ (x : Answer). (unit : SourceUnit) (classes : Classes) (room : Bool) (wanted : ElementType) → trap_found (scene_of unit classes c.args.store.now c.args.activation.now c.args.thread c.args.pending) room wanted call.function call.operands.items ≡ None)
-    (λ (x : Answer). MayChange c.args.thread x c.args.store.now.monitors → (unit : SourceUnit) (classes : Classes) → IsAnswerTo (scene_of unit classes c.args.store.now c.args.activation.now c.args.thread c.args.pending) (call_view call) x)
+    (λ (x : Answer). (unit : SourceUnit) (classes : Classes) (room : Bool) (wanted : ElementType) → trap_found (scene_of unit classes c.args.store.now c.args.activation.now c.args.context.thread c.args.pending) room wanted call.function call.operands.items ≡ None)
+    (λ (x : Answer). MayChange c.args.context.thread x c.args.store.now.monitors → (unit : SourceUnit) (classes : Classes) → IsAnswerTo (scene_of unit classes c.args.store.now c.args.activation.now c.args.context.thread c.args.pending) (call_view call) x)
     _ c.answer_at_once.result
     (λ (x : Answer) free works owns.
     record {
       sound = c.classes.ensures.sound;
       free =
-          sym (as_seen c.args.program.now w c.args.store.now c.args.pending c.args.activation.now call a.0 c.args.thread at.0 a.1 a.2 a.3 a.4 a.5 a.6 c.args.store.now.monitors scene refl)
-          ∙ free (unit_tree c.args.program.now.unit) w.classes (has_room (locals_after call.function c.args.activation.now.locals)) (element_wanted call.target);
-      works = works owns (unit_tree c.args.program.now.unit) w.classes;
+          sym (as_seen c.args.context.program.now w c.args.store.now c.args.pending c.args.activation.now call a.0 c.args.context.thread at.0 a.1 a.2 a.3 a.4 a.5 a.6 c.args.store.now.monitors scene refl)
+          ∙ free (unit_tree c.args.context.program.now.unit) w.classes (has_room (locals_after call.function c.args.activation.now.locals)) (element_wanted call.target);
+      works = works owns (unit_tree c.args.context.program.now.unit) w.classes;
     })
     c.answer_at_once.ensures.free
     c.answer_at_once.ensures.works

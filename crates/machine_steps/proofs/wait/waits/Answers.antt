@@ -1,5 +1,4 @@
-use Rattle.std.proofs.Common.{◌≡◌, ◌≤◌, List, length, Option, Some, sym, ap, ◌∙◌, arith}
-use Rattle.machine_scenes.specs.declared.activation.Activation.{Activation}
+use Rattle.std.proofs.Common.{◌≡◌, ◌≤◌, List, length, Option, sym, ap, ◌∙◌, arith}
 use Rattle.code.specs.Call.{Call, call_view}
 use Rattle.code.specs.declared.instr.Instr.TheVariants as instr
 use Rattle.semantics.specs.CallStep.{waits_with}
