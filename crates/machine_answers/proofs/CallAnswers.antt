@@ -1,6 +1,6 @@
 -- What the machine works out of calls is what the source's calls do: a row for each function.
 use Rattle.std.proofs.Common.{◌≡◌, ℕ, ℤ, pos, ◌<◌, ◌≤◌, true, false, not, List, [], ◌∷◌, length, Option, Some, None, slice_get, refl, sym, ap, ◌∙◌, subst, arith}
-use Rattle.std.specs.Prelude.{◌==◌, IfSome, unwrap_or}
+use Rattle.std.specs.Prelude.{◌==◌, unwrap_or}
 use Rattle.std.specs.Option.{option_map_or}
 use Rattle.std.proofs.lemmas.Bool.{and_parts}
 use Rattle.base.specs.declared.element.ElementType.{ElementType}
@@ -22,28 +22,20 @@ use Rattle.jni.specs.declared.kinds.ParameterKind.TheVariants.{ClassObject, Fiel
 use Rattle.jni.specs.declared.kinds.ResultKind.TheVariants.{GivesNothing}
 use Rattle.semantics.specs.AnswerTable as table
 use Rattle.semantics.specs.AnswerTable.{call_answer}
-use Rattle.semantics.specs.Arguments.{Actual, name_or_zero}
+use Rattle.semantics.specs.Arguments.{name_or_zero}
 use Rattle.semantics.specs.Method.{find_method}
 use Rattle.semantics.specs.Object.{Number}
-use Rattle.semantics.specs.Task.{Target}
-use Rattle.semantics.specs.Thread.{Shared, Thread}
-use Rattle.semantics.specs.World.{World}
-use Rattle.world_values.specs.SoundWorlds.{IsSound}
 use Rattle.world_values.proofs.LoadedWorlds.{class_within}
-use Rattle.code_meaning.specs.Lowered.{Lowered}
-use Rattle.machine_scenes.specs.Buffers.{Acquired}
 use Rattle.machine_scenes.specs.Given.{class_of_given, field_at, field_there, fits_there, key_at, name_there, operand_of}
 use Rattle.machine_scenes.specs.NewObjects.{IsMakeable}
 use Rattle.machine_scenes.specs.Scenes.{Scene}
 use Rattle.machine_scenes.specs.Statics.{static_at}
 use Rattle.machine_scenes.specs.declared.new_object.New.TheVariants.{Fresh}
-use Rattle.machine_scenes.specs.declared.store.Store.{Store}
-use Rattle.machine_scenes.specs.declared.activation.Activation.{Activation}
 use Rattle.machine_answers.specs.declared.answer.Answer.{Answer}
 use Rattle.machine_answers.specs.declared.answer.Answer.TheVariants.{Calls, Gives, Makes, Raises, Deletes}
 use Rattle.machine_answers.specs.declared.answer.Given.TheVariants as given
 use Rattle.machine_answers.specs.Answers as row
-use Rattle.machine_answers.specs.Sights.{class_object_seen, deleted_seen, name_seen, trap_seen}
+use Rattle.machine_answers.specs.Sights.{class_object_seen, deleted_seen, name_seen}
 use Rattle.machine_answers.specs.WorkedOut.{IsFoundField, IsFoundMethod, address_in, class_object, deletes, deletes_global, deletes_weak, element_there, frame_for, held_reference, index_there, new_array, room_for, stores_there, value_there, word_in, writes_there}
 use Rattle.machine_answers.proofs.WorkedOut as worked
 use Rattle.machine_answers.proofs.WorkedOut.{IsWorkedOut}
@@ -52,9 +44,9 @@ use Rattle.machine_answers.proofs.CallTraps.{has_passed, same_pending}
 use Rattle.machine_answers.proofs.LongTables.{class_is_no_throwable, class_is_plain}
 use Rattle.machine_answers.proofs.SightParts.{name_is}
 use Rattle.machine_answers.proofs.TrapsSeen.{fits_one}
-use Rattle.machine_answers.specs.Answered.{IsAnswerTo, TwoCalls, Asked, Passes, Does, unit, scene}
+use Rattle.machine_answers.specs.Answered.{IsAnswerTo, TwoCalls, Asked, Passes, unit, scene}
 use Rattle.machine_answers.proofs.TwoCalls.{Works, at, built_in_class, class_given, fields, method_error, object_given_at, references, table_of}
-use Rattle.machine_answers.proofs.KindAnswers.{Stands, array_made, back, class_agrees, class_found, class_of_first, counted, does, element_read, element_written, ensured, field_found, first_name, global_deleted, held_agrees, holder, index_is, local_deleted, method_found, named, of_call, number_read, own_key, pending_named, place_is, pushed, reference_read, same_names, sight, stands, static_named, stored, there, top_number, weak_deleted, written}
+use Rattle.machine_answers.proofs.KindAnswers.{Stands, array_made, back, class_agrees, class_found, class_of_first, counted, does, element_read, element_written, ensured, field_found, first_name, global_deleted, held_agrees, holder, index_is, local_deleted, method_found, named, number_read, own_key, pending_named, place_is, pushed, reference_read, same_names, sight, stands, static_named, stored, there, top_number, weak_deleted, written}
 use Rattle.machine_answers.proofs.RegionAnswers.{numbers_are, region_given, region_read, region_written}
 use Rattle.machine_answers.proofs.BufferAnswers.{answers_get_buffer, answers_release}
 use Rattle.machine_answers.proofs.MethodAnswers.{method_called}
@@ -253,10 +245,7 @@ key_deleted (Some k) answer is key same = let e : Deletes k ≡ Deletes key = sy
 
 -- a function that calls a method does so
 method_called_so : (scene : Scene) (call : Call) (f : JniFunction) (answer : Answer) → calls_method f ≡ true → IsWorkedOut scene call f answer → answer ≡ Calls
-method_called_so scene call CallStaticVoidMethod answer calls is = is
-method_called_so scene call CallStaticIntMethod answer calls is = is
-method_called_so scene call CallStaticObjectMethod answer calls is = is
-method_called_so scene call f answer calls is = absurd (cc)
+method_called_so scene call f answer calls is = grind (arith, calls, is)
 
 -- what is worked out is the answer to a call
 pub answers : (sees : Scene) (call : Call) (answer : Answer) → IsWorkedOut sees call call.function answer → IsAnswerTo sees call answer

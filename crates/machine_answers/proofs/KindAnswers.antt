@@ -48,7 +48,6 @@ use Rattle.machine_scenes.specs.Given.{IsGiven, ReferenceIsThere, class_of_given
 use Rattle.machine_scenes.specs.HeapAgrees.{HeapAgrees, ReferenceAgrees, ValueAgrees}
 use Rattle.machine_scenes.specs.Locals.{IsKeyGiven}
 use Rattle.machine_scenes.specs.NewObjects.{IsMakeable}
-use Rattle.machine_scenes.specs.Scenes.{Scene}
 use Rattle.machine_scenes.specs.Statics.{static_at}
 use Rattle.machine_scenes.specs.StoreAgrees.{StoreAgrees}
 use Rattle.machine_scenes.proofs.BlocksOfNames.{name_within}
@@ -59,7 +58,7 @@ use Rattle.machine_answers.specs.declared.answer.Answer.TheVariants as replies
 use Rattle.machine_answers.specs.declared.answer.Given.TheVariants as given
 use Rattle.machine_answers.specs.Answers.{GivenAgrees, IsAnswer}
 use Rattle.machine_answers.specs.Answers as row
-use Rattle.machine_answers.specs.Asked.{deletes_static, scene_of}
+use Rattle.machine_answers.specs.Asked.{deletes_static}
 use Rattle.machine_answers.specs.Checked.{may_be_null, some_missing}
 use Rattle.machine_answers.specs.Sights.{call_seen, class_object_seen, held_seen, name_seen, number_at, object_seen, values_seen, words_of}
 use Rattle.machine_answers.specs.WorkedOut.{IsFoundField, IsFoundMethod, address_in, class_object, count_there, deletes, deletes_held, deletes_held_weakly, element_there, found_class, frame_for, held_reference, index_there, new_array, place_there, room_for, stack_number, stores_there, top_word, value_there, word_in, writes_there}

@@ -1,5 +1,5 @@
 -- What a call of a method passes is what the source's call does.
-use Rattle.std.proofs.Common.{inl, inr, ◌≡◌, ℕ, zero, suc, ◌-◌, true, List, [], ◌∷◌, ◌++◌, drop, length, map, replicate, Option, Some, None, refl, sym, ap, ◌∙◌, subst}
+use Rattle.std.proofs.Common.{inl, inr, ◌≡◌, ℕ, zero, suc, ◌-◌, true, List, [], ◌∷◌, ◌++◌, drop, length, map, replicate, Option, Some, None, refl, sym, ap, ◌∙◌, subst, arith}
 use Rattle.std.specs.Prelude.{reverse}
 use Rattle.std.proofs.lemmas.List.{reverse-append}
 use Rattle.std.specs.List.{AllZip}
@@ -10,7 +10,6 @@ use Rattle.code.specs.declared.instr.Operand.TheVariants as operand
 use Rattle.heap.specs.Heap.{Space}
 use Rattle.heap.specs.declared.value.Value.{Value}
 use Rattle.jni.specs.declared.function.JniFunction.{JniFunction}
-use Rattle.jni.specs.declared.function.JniFunction.TheVariants.{CallStaticVoidMethod, CallStaticIntMethod, CallStaticObjectMethod}
 use Rattle.jni.specs.JniFunction.{calls_method, parameters_for}
 use Rattle.jni.specs.declared.kinds.ParameterKind.{ParameterKind}
 use Rattle.jni.specs.declared.kinds.ParameterKind.TheVariants.{ClassObject, MethodID, Passed}
@@ -103,10 +102,7 @@ module _ (unit : SourceUnit) (classes : Classes) (space : Space) (references : R
 
 -- the parameters of a function that calls a method
 pub method_parameters : (f : JniFunction) (n : ℕ) → calls_method f ≡ true → parameters_for f n ≡ ClassObject ∷ MethodID ∷ replicate (n - 2) Passed
-method_parameters CallStaticVoidMethod n is = refl
-method_parameters CallStaticIntMethod n is = refl
-method_parameters CallStaticObjectMethod n is = refl
-method_parameters f n is = absurd (cc)
+method_parameters f n is = grind (arith, is)
 
 module _ (both : TwoCalls) where
   open both use {w, store, activation, call, args}

@@ -9,17 +9,15 @@ use Rattle.syntax.specs.declared.declared_type.ParameterType.{ParameterType}
 use Rattle.syntax.specs.declared.declared_type.ParameterType.TheVariants.{Jint as IntParameter, Reference as ReferenceParameter}
 use Rattle.syntax.specs.declared.unit.ResultType.{ResultType}
 use Rattle.syntax.specs.Tree.{Function, Parameter}
-use Rattle.class_rules.specs.BuiltIns.{has_own_making, throwable_class}
-use Rattle.class_rules.specs.Class.{Classes, FieldType, NumberField, ReferenceField, assignable, class_kind, is_plain}
+use Rattle.class_rules.specs.Class.{Classes, FieldType, NumberField, ReferenceField, assignable}
 use Rattle.class_rules.specs.Fields.{FieldId}
 use Rattle.class_queries.specs.Kinds.{class_misfits}
 use Rattle.code.specs.Call.{Call}
 use Rattle.code.specs.declared.instr.Operand.{Operand}
 use Rattle.code.specs.declared.instr.Operand.TheVariants as operand
 use Rattle.heap.specs.Heap.{Block, Space, block_at}
-use Rattle.jni.specs.declared.access.Access.TheVariants.{ElementsCopy, ArrayView, CharsCopy, CharsView}
 use Rattle.jni.specs.declared.function.JniFunction.{JniFunction}
-use Rattle.jni.specs.declared.function.JniFunction.TheVariants.{AllocObject, CallStaticIntMethod, CallStaticObjectMethod, CallStaticVoidMethod, GetBuffer, GetStaticField, GetStaticObjectField, NewObjectArray, PopLocalFrame, SetObjectField, SetStaticField, SetStaticObjectField, ThrowNew}
+use Rattle.jni.specs.declared.function.JniFunction.TheVariants.{CallStaticIntMethod, CallStaticObjectMethod, CallStaticVoidMethod, PopLocalFrame}
 use Rattle.jni.specs.JniFunction.{calls_method, is_allowed_pending, parameters_for, prototype}
 use Rattle.jni.specs.declared.kinds.ParameterKind.{ParameterKind}
 use Rattle.jni.specs.declared.kinds.ParameterKind.TheVariants.{Nullable, AnyReference, LocalVariable, StaticVariable, WeakVariable, Passed, ClassObject, NumberArray, AnyArray, ObjectArray, StringObject, MethodID}
@@ -29,7 +27,6 @@ use Rattle.semantics.specs.Arguments.{name_or_zero}
 use Rattle.semantics.specs.CallSight.{ArgumentSight, CallSight, name_of_first}
 use Rattle.semantics.specs.Checks.{is_int, is_reference_result, is_void, first_trap}
 use Rattle.semantics.specs.Checks as source
-use Rattle.semantics.specs.Heap.{holds_number, holds_reference}
 use Rattle.semantics.specs.Method.{MethodId}
 use Rattle.semantics.specs.Thread.{Monitor}
 use Rattle.semantics.specs.Variable.{StaticReference}
@@ -361,28 +358,15 @@ module _ (scene : Scene) (locals : LocalTable) (callers : ℕ) (call : Call) (pe
 
   pub together_seen : (f : JniFunction) → call.function ≡ f → fit_together scene.unit scene.classes scene.space scene.references scene.fields operands (element_wanted call.target) f ≡ source.go_together scene.classes sight (element_wanted call.target) f
   unfolding source.go_together
-  together_seen AllocObject of = ap (λ n. not (has_own_making scene.classes n)) (name_at_place 0)
-  together_seen SetObjectField of = ap (λ b. (not asked.is_static && assignable scene.classes sight.first.object.class asked.class) && b) (fits_field_seen asked.field.type)
-  together_seen (GetStaticField T) of = ap (λ n. (asked.is_static && assignable scene.classes n asked.class) && holds_number T asked.field.type) (name_at_place 0)
-  together_seen (SetStaticField T) of = ap (λ n. (asked.is_static && assignable scene.classes n asked.class) && holds_number T asked.field.type) (name_at_place 0)
-  together_seen GetStaticObjectField of = ap (λ n. (asked.is_static && assignable scene.classes n asked.class) && holds_reference asked.field.type) (name_at_place 0)
-  together_seen SetStaticObjectField of =
-      let name = name_at_place 0 in
-      let fit = fits_field_seen asked.field.type in
-      λ i. (asked.is_static && assignable scene.classes (name i) asked.class) && fit i
-  together_seen NewObjectArray of =
-      let name = name_at_place 1 in
-      let fit = ap (fits_there scene.classes scene.space (operand_at scene.references (operand_of operands 2))) name ∙ fits_one scene (operand_at scene.references (operand_of operands 2)) (name_or_zero (seen 1).reference) (reference_there 2) in
-      λ i. is_plain (class_kind scene.classes (name i)) && fit i
-  together_seen (GetBuffer (ElementsCopy T)) of = refl
-  together_seen (GetBuffer ArrayView) of = refl
-  together_seen (GetBuffer CharsCopy) of = refl
-  together_seen (GetBuffer CharsView) of = refl
-  together_seen ThrowNew of = ap (λ n. assignable scene.classes n throwable_class) (name_at_place 0)
   together_seen CallStaticVoidMethod of = called_seen (ap (λ f. parameters_for f (length operands)) of) CallStaticVoidMethod is_void (λ r. refl) _ method
   together_seen CallStaticIntMethod of = called_seen (ap (λ f. parameters_for f (length operands)) of) CallStaticIntMethod is_int (λ r. refl) _ method
   together_seen CallStaticObjectMethod of = called_seen (ap (λ f. parameters_for f (length operands)) of) CallStaticObjectMethod is_reference_result (λ r. refl) _ method
-  together_seen f of = refl
+  together_seen f of =
+      let first = name_at_place 0 in
+      let second = name_at_place 1 in
+      let field = fits_field_seen asked.field.type in
+      let third = fits_one scene (operand_at scene.references (operand_of operands 2)) (name_or_zero (seen 1).reference) (reference_there 2) in
+      grind (arith, first, second, field, third)
 
   -- ---- all of them
 

@@ -1,43 +1,31 @@
 -- A call of the machine and the source's call that it stands for: what is known of its arguments once it has passed its checks.
-use Rattle.std.proofs.Common.{◌≡◌, ℕ, zero, suc, ◌<◌, ◌≤◌, false, List, ◌∷◌, length, Option, Some, None, refl, sym, ap, ◌∙◌, subst, arith, ◌++◌}
+use Rattle.std.proofs.Common.{◌≡◌, ℕ, zero, suc, ◌<◌, ◌≤◌, false, List, ◌∷◌, length, Option, Some, refl, sym, ap, ◌∙◌, subst, arith, ◌++◌}
 use Rattle.std.specs.List.{AllZip}
 use Rattle.std.specs.Option.{option_map_or}
-use Rattle.syntax.specs.Tree.{SourceUnit}
-use Rattle.syntax.specs.Views.{unit_tree}
 use Rattle.class_rules.specs.BuiltIns.{class_class, no_such_method_error}
 use Rattle.class_rules.specs.Grown.{HasMethodError}
-use Rattle.code.specs.Call.{Call}
 use Rattle.heap.specs.Heap.{name_at}
 use Rattle.jni.specs.declared.function.JniFunction.{JniFunction}
-use Rattle.jni.specs.JniFunction.{parameters_for, prototype}
+use Rattle.jni.specs.JniFunction.{parameters_for}
 use Rattle.jni.specs.declared.kinds.ParameterKind.{ParameterKind}
 use Rattle.jni.specs.declared.kinds.ParameterKind.TheVariants.{ClassObject}
-use Rattle.semantics.specs.Arguments.{Actual, reference_given, object_given, name_or_zero}
-use Rattle.semantics.specs.AnswerTable.{call_answer}
-use Rattle.semantics.specs.CallSight.{sight_of_call}
+use Rattle.semantics.specs.Arguments.{reference_given, object_given, name_or_zero}
 use Rattle.semantics.specs.Heap.{class_of, object_at}
 use Rattle.semantics.specs.Object.{Object, Reference}
-use Rattle.semantics.specs.Task.{Target}
-use Rattle.semantics.specs.Thread.{Shared, Thread, BuffersInUse}
-use Rattle.semantics.specs.World.{World, loaded_objects}
-use Rattle.world_values.specs.SoundWorlds.{IsSound}
+use Rattle.semantics.specs.World.{loaded_objects}
 use Rattle.semantics_typing.proofs.TableKinds.{grown_long}
 use Rattle.code_meaning.specs.Does.{OperandFits}
 use Rattle.code_meaning.specs.Fits.{IsReferenceKind}
-use Rattle.code_meaning.specs.Lowered.{Lowered}
 use Rattle.machine_scenes.specs.declared.handle.Handle.{Handle}
-use Rattle.machine_scenes.specs.Buffers.{Acquired, acquired_by, beside, in_use_of}
+use Rattle.machine_scenes.specs.Buffers.{Acquired, acquired_by, beside}
 use Rattle.machine_answers.specs.declared.answer.Answer.{Answer}
-use Rattle.machine_scenes.specs.declared.store.Store.{Store}
-use Rattle.machine_scenes.specs.declared.activation.Activation.{Activation}
-use Rattle.machine_answers.specs.Answers.{Brought, IsAnswer}
 use Rattle.machine_scenes.specs.NewObjects.{IsMakeable}
-use Rattle.machine_answers.specs.Asked.{IsAsked, brought_by, references_of, scene_of}
+use Rattle.machine_answers.specs.Asked.{references_of}
 use Rattle.machine_scenes.specs.Statics.{References}
 use Rattle.machine_answers.specs.Checked.{some_misfit, some_missing, may_be_null}
 use Rattle.machine_scenes.specs.Given.{operand_at, operand_of, class_there}
 use Rattle.machine_scenes.specs.HeapAgrees.{ReferenceAgrees}
-use Rattle.machine_answers.specs.Sights.{name_seen, trap_seen}
+use Rattle.machine_answers.specs.Sights.{name_seen}
 use Rattle.machine_answers.specs.WorkedOut.{class_object}
 use Rattle.machine_answers.proofs.WorkedOut.{IsWorkedOut}
 use Rattle.machine_answers.proofs.CallChecks.{class_is, reference_at_place}

@@ -1,5 +1,5 @@
 -- Arguments of which nothing is asked pass.
-use Rattle.std.proofs.Common.{◌≡◌, ℕ, Bool, true, false, not, ◌&&◌, ◌||◌, List, [], ◌∷◌, ◌++◌, Option, Some, None, refl, ap, ◌∙◌}
+use Rattle.std.proofs.Common.{◌≡◌, ℕ, Bool, true, false, not, ◌&&◌, ◌||◌, List, [], ◌∷◌, ◌++◌, Option, Some, None, refl, ap, ◌∙◌, arith}
 use Rattle.std.specs.List.{list_all, list_any}
 use Rattle.std.proofs.lemmas.Bool.{and_parts, not-false, or_parts}
 use Rattle.base.specs.declared.element.ElementType.{ElementType}
@@ -9,9 +9,7 @@ use Rattle.code.specs.Call.{asks, is_static, takes_any}
 use Rattle.code.specs.declared.instr.Operand.{Operand}
 use Rattle.code.specs.declared.instr.Operand.TheVariants as operand
 use Rattle.heap.specs.Heap.{Space}
-use Rattle.jni.specs.declared.access.Access.TheVariants.{ArrayView}
 use Rattle.jni.specs.declared.function.JniFunction.{JniFunction}
-use Rattle.jni.specs.declared.function.JniFunction.TheVariants.{GetBuffer, AllocObject, GetField, SetField, GetStaticField, SetStaticField, GetObjectField, SetObjectField, GetStaticObjectField, SetStaticObjectField, NewObjectArray, Throw, ThrowNew, CallStaticVoidMethod, CallStaticIntMethod, CallStaticObjectMethod}
 use Rattle.jni.specs.JniFunction.{prototype}
 use Rattle.jni.specs.declared.kinds.ParameterKind.{ParameterKind}
 use Rattle.jni.specs.declared.kinds.ParameterKind.TheVariants.{Nullable, LocalVariable}
@@ -63,23 +61,7 @@ module _ (references : References) where
 
 -- a function that asks something of its arguments together asks something of each
 together : (unit : SourceUnit) (classes : Classes) (space : Space) (references : References) (fields : List (Option Handle)) (operands : List Operand) (wanted : ElementType) (f : JniFunction) → list_all takes_any (prototype f).parameters ≡ true → fit_together unit classes space references fields operands wanted f ≡ true
-together unit classes space references fields operands wanted AllocObject h = absurd (cc)
-together unit classes space references fields operands wanted (GetField t) h = absurd (cc)
-together unit classes space references fields operands wanted (SetField t) h = absurd (cc)
-together unit classes space references fields operands wanted GetObjectField h = absurd (cc)
-together unit classes space references fields operands wanted SetObjectField h = absurd (cc)
-together unit classes space references fields operands wanted (GetStaticField t) h = absurd (cc)
-together unit classes space references fields operands wanted (SetStaticField t) h = absurd (cc)
-together unit classes space references fields operands wanted GetStaticObjectField h = absurd (cc)
-together unit classes space references fields operands wanted SetStaticObjectField h = absurd (cc)
-together unit classes space references fields operands wanted NewObjectArray h = absurd (cc)
-together unit classes space references fields operands wanted (GetBuffer ArrayView) h = absurd (cc)
-together unit classes space references fields operands wanted Throw h = absurd (cc)
-together unit classes space references fields operands wanted ThrowNew h = absurd (cc)
-together unit classes space references fields operands wanted CallStaticVoidMethod h = absurd (cc)
-together unit classes space references fields operands wanted CallStaticIntMethod h = absurd (cc)
-together unit classes space references fields operands wanted CallStaticObjectMethod h = absurd (cc)
-together unit classes space references fields operands wanted f h = refl
+together unit classes space references fields operands wanted f h = grind (arith, h)
 
 -- three tests that don't hold
 passed : (a b c : Bool) (x y z : Trap) (rest : List (Bool × Trap)) → a ≡ false → b ≡ false → c ≡ false → first_trap ((a, x) ∷ (b, y) ∷ (c, z) ∷ rest) ≡ first_trap rest

@@ -1,5 +1,5 @@
 -- A call of a function with the arguments that the source's call has.
-use Rattle.std.specs.Prelude.{◌≡◌, ◌≢◌, ℕ, Bool, false, true, List, [], length, Option, Some, None}
+use Rattle.std.specs.Prelude.{◌≡◌, ◌≢◌, ℕ, Bool, false, true, List, [], length, Option, Some}
 use Rattle.std.specs.List.{AllZip}
 use Rattle.base.specs.Bytes.{Identifier, lookup}
 use Rattle.syntax.specs.Tree.{SourceUnit}
@@ -18,7 +18,6 @@ use Rattle.semantics.specs.Arguments.{Actual, object_given, reference_given, var
 use Rattle.semantics.specs.CallEffects.{level_of}
 use Rattle.semantics.specs.CallStep.{target_element, waits_with}
 use Rattle.semantics.specs.Effect.{Calls}
-use Rattle.semantics.specs.Object.{Reference}
 use Rattle.semantics.specs.Task.{Target}
 use Rattle.semantics.specs.Thread.{BuffersInUse, Shared, Thread, objects_viewed}
 use Rattle.semantics.specs.Variable.{StaticReference}
@@ -39,7 +38,6 @@ use Rattle.machine_scenes.specs.HeapAgrees.{ReferenceAgrees}
 use Rattle.machine_answers.specs.Answers.{Brought, bringing}
 use Rattle.machine_scenes.specs.Scenes.{Scene}
 use Rattle.machine_scenes.specs.Statics.{References, all_held, static_at}
-use Rattle.tables.specs.Locals.{LocalTable}
 
 -- the references that the operands of a call name
 abbrev pub references_of : Store → Activation → References
