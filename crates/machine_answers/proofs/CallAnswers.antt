@@ -1,5 +1,5 @@
 -- What the machine works out of calls is what the source's calls do: a row for each function.
-use Rattle.std.proofs.Common.{◌≡◌, ℕ, ℤ, pos, ◌<◌, ◌≤◌, true, false, not, List, [], ◌∷◌, length, Option, Some, None, slice_get, refl, sym, ap, ◌∙◌, subst, arith}
+use Rattle.std.proofs.Common.{◌≡◌, ℕ, pos, ◌<◌, ◌≤◌, true, false, not, List, [], ◌∷◌, length, Option, Some, None, slice_get, refl, sym, ap, ◌∙◌, subst, arith, Bool}
 use Rattle.std.specs.Prelude.{◌==◌, unwrap_or}
 use Rattle.std.specs.Option.{option_map_or}
 use Rattle.std.proofs.lemmas.Bool.{and_parts}
@@ -21,7 +21,7 @@ use Rattle.jni.specs.JniFunction.{calls_method, prototype}
 use Rattle.jni.specs.declared.kinds.ParameterKind.TheVariants.{ClassObject, FieldID, IntNumber, NonNull, Nullable, NumberArray, ObjectArray, StringObject, TextBytes}
 use Rattle.jni.specs.declared.kinds.ResultKind.TheVariants.{GivesNothing}
 use Rattle.semantics.specs.AnswerTable as table
-use Rattle.semantics.specs.AnswerTable.{call_answer}
+use Rattle.semantics.specs.AnswerTable.{call_answer, index_within}
 use Rattle.semantics.specs.Arguments.{name_or_zero}
 use Rattle.semantics.specs.Method.{find_method}
 use Rattle.semantics.specs.Object.{Number}
@@ -35,8 +35,8 @@ use Rattle.machine_answers.specs.declared.answer.Answer.{Answer}
 use Rattle.machine_answers.specs.declared.answer.Answer.TheVariants.{Calls, Gives, Makes, Raises, Deletes}
 use Rattle.machine_answers.specs.declared.answer.Given.TheVariants as given
 use Rattle.machine_answers.specs.Answers as row
-use Rattle.machine_answers.specs.Sights.{class_object_seen, deleted_seen, name_seen}
-use Rattle.machine_answers.specs.WorkedOut.{IsFoundField, IsFoundMethod, address_in, class_object, deletes, deletes_global, deletes_weak, element_there, frame_for, held_reference, index_there, new_array, room_for, stores_there, value_there, word_in, writes_there}
+use Rattle.machine_answers.specs.Sights.{class_object_seen, deleted_seen, name_seen, number_at, values_seen}
+use Rattle.machine_answers.specs.WorkedOut.{IsFoundField, IsFoundMethod, address_in, class_object, deletes, deletes_global, deletes_weak, held_reference, new_array, stores_there, value_there, word_in, writes_there}
 use Rattle.machine_answers.proofs.WorkedOut as worked
 use Rattle.machine_answers.proofs.WorkedOut.{IsWorkedOut}
 use Rattle.machine_answers.proofs.CallOperands.{own_making, super_known}
@@ -46,7 +46,7 @@ use Rattle.machine_answers.proofs.SightParts.{name_is}
 use Rattle.machine_answers.proofs.TrapsSeen.{fits_one}
 use Rattle.machine_answers.specs.Answered.{IsAnswerTo, TwoCalls, Asked, Passes, unit, scene}
 use Rattle.machine_answers.proofs.TwoCalls.{Works, at, built_in_class, class_given, fields, method_error, object_given_at, references, table_of}
-use Rattle.machine_answers.proofs.KindAnswers.{Stands, array_made, back, class_agrees, class_found, class_of_first, counted, does, element_read, element_written, ensured, field_found, first_name, global_deleted, held_agrees, holder, index_is, local_deleted, method_found, named, number_read, own_key, pending_named, place_is, pushed, reference_read, same_names, sight, stands, static_named, stored, there, top_number, weak_deleted, written}
+use Rattle.machine_answers.proofs.KindAnswers.{Stands, array_made, back, class_agrees, class_found, class_of_first, counted, does, element_read, element_written, ensured, field_found, first_name, global_deleted, held_agrees, holder, local_deleted, method_found, named, number_read, own_key, pending_named, place_is, pushed, reference_read, same_names, sight, stands, static_named, stored, there, weak_deleted, written}
 use Rattle.machine_answers.proofs.RegionAnswers.{numbers_are, region_given, region_read, region_written}
 use Rattle.machine_answers.proofs.BufferAnswers.{answers_get_buffer, answers_release}
 use Rattle.machine_answers.proofs.MethodAnswers.{method_called}
@@ -144,8 +144,8 @@ module _ (both : TwoCalls) where
   seen IsSameObject h free answer is =
       stands both (is ∙ (λ i. Gives (given.Number (truth_word (name 0 i == name 1 i)))))
       (row.gives (row.flag (ap truth_word (same_names both (at both 0) (at both 1) _ _ h.store_agrees.heap (named both IsSameObject h 0) (named both IsSameObject h 1)))))
-  seen EnsureLocalCapacity h free answer is = stands both (is ∙ ap room_for (top_number both activation.stack)) (ensured both _)
-  seen PushLocalFrame h free answer is = stands both (is ∙ ap frame_for (top_number both activation.stack)) (pushed both _)
+  seen EnsureLocalCapacity h free answer is = stands both is (ensured both _)
+  seen PushLocalFrame h free answer is = stands both is (pushed both _)
   seen PopLocalFrame h free answer is = stands both is (row.pops _ (named both PopLocalFrame h 0))
   seen GetFieldID h free answer is =
       field_found both _ answer (subst (λ (c : ℕ). IsFoundField w.classes (find_field w.classes c (text 0) (text 1)) answer) (name 0) is)
@@ -194,20 +194,19 @@ module _ (both : TwoCalls) where
   seen GetArrayLength h free answer is = stands both is (row.gives (counted both h.store_agrees (at both 0)))
   seen GetStringLength h free answer is = stands both is (row.gives (counted both h.store_agrees (at both 0)))
   seen (NewArray T) h free answer is =
-      stands both (is ∙ ap (λ (z : ℤ). new_array (number_array T) z (cell.Number 0)) (top_number both activation.stack))
+      stands both is
       (array_made both (number_array T) (cell.Number 0) (Number (pos 0)) (makes_numbers T) (record { sfits = omega arith }, refl) _)
   seen NewObjectArray h free answer is =
       let class = makes_references h free in
-      stands both (is ∙ (λ i. new_array (class.1 i) (top_number both activation.stack i) (held_reference (at both 2))))
+      stands both (is ∙ ap (λ (c : ℕ). new_array c (number_at activation.stack 0) (held_reference (at both 2))) class.1)
       (array_made both array_class _ _ class.0 (held_agrees both (at both 2) _ (named both NewObjectArray h 2)) _)
   seen GetObjectArrayElement h free answer is =
-      stands both (is ∙ ap (element_there store.heap (at both 0)) (ap (index_there store.heap (at both 0)) (top_number both activation.stack) ∙ index_is both (at both 0) _))
+      stands both is
       (element_read both (at both 0) _ (named both GetObjectArrayElement h 0) h.store_agrees _)
   seen SetObjectArrayElement h free answer is =
       let first = object_given_at both SetObjectArrayElement [] ObjectArray (IntNumber ∷ Nullable ∷ []) tt refl refl h free in
       let fits = fits_one (scene both) (at both 2) (element_class (class_kind w.classes (class_of_given store.heap (at both 0)))) (there both SetObjectArrayElement h 2) in
-      let index = ap (index_there store.heap (at both 0)) (top_number both activation.stack) ∙ index_is both (at both 0) _ in
-      stands both (is ∙ (λ i. stores_there store.heap (at both 0) (fits i) (index i) (held_reference (at both 2))))
+      stands both (is ∙ ap (λ (b : Bool). stores_there store.heap (at both 0) b (index_within (length (values_seen store.heap (at both 0))) (number_at activation.stack 0)) (held_reference (at both 2))) fits)
       (element_written both (at both 0) first.address _ _ _ first.at (first_name both first) (held_agrees both (at both 2) _ (named both SetObjectArrayElement h 2)) h.store_agrees _ _)
   seen NewStringUTF h free answer is =
       stands both is (row.makes (record { object = refl; makeable = built_in_class both string_class (omega arith) (omega arith) }))

@@ -2,6 +2,7 @@
 use Rattle.std.proofs.Common.{inl, inr, ◌≡◌, ℕ, zero, suc, ◌+◌, ◌-◌, ◌<◌, ◌≤◌, ◌^◌, Bool, true, false, not, List, [], ◌∷◌, ◌++◌, length, Option, Some, None, is_none, slice_get, refl, sym, ap, ◌∙◌, subst, arith, eqb, ⊎_elim, ℤ}
 use Rattle.std.specs.Prelude.{◌⊎◌, ◌||◌, ◌==◌, FitsSigned, ◌&&◌}
 use Rattle.std.specs.Int.{w32}
+use Rattle.std.proofs.lemmas.List.{length-map}
 use Rattle.std.specs.List.{AllZip, list_any}
 use Rattle.std.specs.Option.{option_map_or}
 use Rattle.std.proofs.lemmas.Bool.Decides.{eqb_tells}
@@ -13,7 +14,7 @@ use Rattle.class_rules.proofs.GrownTables.{IsOrdered}
 use Rattle.classes.specs.declared.class.FieldHandle.{FieldHandle}
 use Rattle.code.specs.declared.instr.Operand.{Operand}
 use Rattle.code.specs.declared.instr.Operand.TheVariants as operand
-use Rattle.heap.specs.Heap.{Space, IsLaidOut, name_at}
+use Rattle.heap.specs.Heap.{Space, IsLaidOut, name_at, values_at}
 use Rattle.jni.specs.declared.kinds.ParameterKind.{ParameterKind}
 use Rattle.jni.specs.declared.kinds.ParameterKind.TheVariants.{Passed, ClassObject, FieldID, IntNumber, NumberArray}
 use Rattle.semantics.specs.Arguments.{Actual, ReferenceActual, FieldActual, MethodActual, TextActual, VariableActual, ModeActual, NothingActual, reference_given, NumberActual}
@@ -26,11 +27,11 @@ use Rattle.machine_scenes.specs.Statics.{References, held_address, holds_deleted
 use Rattle.machine_scenes.specs.declared.references.Held.{Held}
 use Rattle.machine_scenes.specs.declared.references.Held.TheVariants as held
 use Rattle.class_queries.specs.Kinds.{class_misfits}
-use Rattle.machine_answers.specs.Sights.{gives_deleted, gives_null}
+use Rattle.machine_answers.specs.Sights.{gives_deleted, gives_null, values_seen, value_seen}
 use Rattle.machine_answers.specs.Checked.{misfits, some_misfit, some_missing, may_be_null}
 use Rattle.machine_scenes.specs.Given.{operand_at, operand_of, class_there, IsGiven, field_at}
 use Rattle.machine_scenes.specs.HeapAgrees.{ReferenceAgrees, IsTable}
-use Rattle.machine_answers.specs.WorkedOut.{count_there, class_object}
+use Rattle.machine_answers.specs.WorkedOut.{class_object}
 use Rattle.machine_answers.proofs.CallChecks.{reference_at_place}
 use Rattle.machine_answers.proofs.FewValues.{few_values}
 use Rattle.machine_scenes.proofs.Handles.{class_known}
@@ -38,9 +39,9 @@ use Rattle.machine_scenes.proofs.Handles.{class_known}
 -- ---- what is there
 
 -- an object has fewer values than there are `jint`s
-pub few_there : (space : Space) (o : Option ℕ) → IsLaidOut space → space.cells ≤ 1048576 → count_there space o < 2 ^ 31
+pub few_there : (space : Space) (o : Option ℕ) → IsLaidOut space → space.cells ≤ 1048576 → length (values_seen space o) < 2 ^ 31
 few_there space None laid_out limit = omega arith
-few_there space (Some a) laid_out limit = few_values space a laid_out limit
+few_there space (Some a) laid_out limit = let few = few_values space a laid_out limit in let same = length-map (values_at space a) (value_seen space) in omega (arith, few, same)
 
 -- ---- class objects
 

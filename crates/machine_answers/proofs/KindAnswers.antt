@@ -1,6 +1,6 @@
 -- What stands in memory for each kind of answer, by what a call sees.
-use Rattle.std.proofs.Common.{◌≡◌, ℕ, ℤ, zero, suc, pos, negsuc, ◌-◌, ◌<◌, ◌≤◌, Bool, true, false, List, [], ◌∷◌, drop, length, Option, Some, None, slice_get, refl, sym, ap, ◌∙◌, subst, arith}
-use Rattle.std.specs.Prelude.{◌==◌, FitsSigned, if◌then◌else◌, nat_lt, unwrap_or}
+use Rattle.std.proofs.Common.{◌≡◌, ℕ, ℤ, zero, suc, pos, negsuc, ◌-◌, ◌<◌, ◌≤◌, Bool, true, false, List, ◌∷◌, drop, length, Option, Some, None, slice_get, refl, sym, ap, ◌∙◌, subst, arith}
+use Rattle.std.specs.Prelude.{◌==◌, FitsSigned, unwrap_or}
 use Rattle.std.specs.Int.{w32, cast_signed, cast_unsigned}
 use Rattle.std.specs.List.{AllZip}
 use Rattle.std.specs.Option.{option_map_or}
@@ -61,7 +61,7 @@ use Rattle.machine_answers.specs.Answers as row
 use Rattle.machine_answers.specs.Asked.{deletes_static}
 use Rattle.machine_answers.specs.Checked.{may_be_null, some_missing}
 use Rattle.machine_answers.specs.Sights.{call_seen, class_object_seen, held_seen, name_seen, number_at, object_seen, values_seen, words_of}
-use Rattle.machine_answers.specs.WorkedOut.{IsFoundField, IsFoundMethod, address_in, class_object, count_there, deletes, deletes_held, deletes_held_weakly, element_there, found_class, frame_for, held_reference, index_there, new_array, place_there, room_for, stack_number, stores_there, top_word, value_there, word_in, writes_there}
+use Rattle.machine_answers.specs.WorkedOut.{IsFoundField, IsFoundMethod, address_in, class_object, deletes, deletes_held, deletes_held_weakly, element_there, found_class, frame_for, held_reference, new_array, place_there, room_for, stores_there, value_there, word_in, writes_there}
 use Rattle.machine_answers.proofs.CallOperands.{GivenObject, few_there, is_number, second_field}
 use Rattle.machine_answers.proofs.CallTraps.{handles_there, none_lacking, objects_there}
 use Rattle.machine_answers.proofs.FieldValues.{reference_there, word_there, writes}
@@ -122,11 +122,6 @@ module _ (both : TwoCalls) where
   pub first_name : (g : GivenObject (unit both) w.classes store.heap (references both) (fields both) call.operands args 0) → name_at store.heap g.address ≡ Some (name_or_zero (name_seen store.heap (at both 0)))
   first_name g = g.named ∙ ap (λ (n : ℕ). Some n) (sym (ap (λ (o : Option ℕ). name_or_zero (name_seen store.heap o)) g.at ∙ ap name_or_zero g.named))
 
-  -- the number on top of the stack
-  pub top_number : (stack : List ℕ) → stack_number stack ≡ number_at stack 0
-  top_number [] = refl
-  top_number (word ∷ stack) = refl
-
   record IsOnTop : Type 0 where
     number : ℤ
     fits : FitsSigned w32 number
@@ -153,16 +148,12 @@ module _ (both : TwoCalls) where
 
   -- a cell of a type holds it
   pub stored : (f : JniFunction) (i : ℕ) (T : ElementType) → slice_get (parameters_for f (length args)) i ≡ Some IntNumber → words_of (drop (suc i) (parameters_for f (length args))) (drop (suc i) call.operands) ≡ 0 → Asked both f
-      → ValueAgrees store.heap (cell.Number (element_word (element_of T) (top_word activation.stack))) (Number (convert T (number_at activation.stack 0)))
+      → ValueAgrees store.heap (cell.Number (element_word (element_of T) (unwrap_or (slice_get activation.stack 0) 0))) (Number (convert T (number_at activation.stack 0)))
   stored f i T is last h =
       let top = on_top f i is last h in
-      let word : top_word activation.stack ≡ word_of (Int top.number) = first_word activation.stack ∙ ap (λ (o : Option ℕ). unwrap_or o 0) top.there in
+      let word : unwrap_or (slice_get activation.stack 0) 0 ≡ word_of (Int top.number) = ap (λ (o : Option ℕ). unwrap_or o 0) top.there in
       let number : number_at activation.stack 0 ≡ top.number = ap (λ (o : Option ℕ). cast_signed w32 (unwrap_or o 0)) top.there ∙ to_z-of_z {w = w32} top.fits in
       (convert_fits T (number_at activation.stack 0), ap (element_word (element_of T)) word ∙ element_words T top.number top.fits ∙ ap (λ (z : ℤ). cast_unsigned w32 (convert T z)) (sym number))
-    where
-      first_word : (stack : List ℕ) → top_word stack ≡ unwrap_or (slice_get stack 0) 0
-      first_word [] = refl
-      first_word (word ∷ stack) = refl
 
   -- how a cell holds the reference of an argument
   pub held_agrees : (o : Option ℕ) (q : Reference) → ReferenceAgrees store.heap o q → ValueAgrees store.heap (held_reference o) (Refers q)
@@ -192,15 +183,12 @@ module _ (both : TwoCalls) where
   reference_read o q h agree i = absurd h
 
   -- how many values an object has
-  pub count_seen : (o : Option ℕ) → count_there store.heap o ≡ length (values_seen store.heap o)
-  count_seen None = refl
-  count_seen (Some a) = sym (length-map (values_at store.heap a) _)
+  pub count_seen : (a : ℕ) → length (values_at store.heap a) ≡ length (values_seen store.heap (Some a))
+  count_seen a = sym (length-map (values_at store.heap a) _)
 
   pub counted : StoreAgrees p w store shared (all both) → (o : Option ℕ)
-      → GivenAgrees (unit both) w.classes store.heap GivesInt (given.Number (count_there store.heap o)) (ScalarResult (Int (pos (length (values_seen store.heap o)))))
-  counted agree o =
-      let few = few_there store.heap o agree.laid_out (omega (arith, sound.cells, agree.cells)) in
-      row.int (count_seen o) (subst (λ (l : ℕ). FitsSigned w32 (pos l)) (count_seen o) (record { sfits = few }))
+      → GivenAgrees (unit both) w.classes store.heap GivesInt (given.Number (length (values_seen store.heap o))) (ScalarResult (Int (pos (length (values_seen store.heap o)))))
+  counted agree o = row.int refl (record { sfits = few_there store.heap o agree.laid_out (omega (arith, sound.cells, agree.cells)) })
 
   -- the class object of a class of the table
   abbrev pub InTable : ℕ → Type 0
@@ -308,13 +296,6 @@ module _ (both : TwoCalls) where
   pub array_made : (class : ℕ) (v : Value) (u : ObjectValue) → IsMakeable w.classes class → ValueAgrees store.heap v u → (z : ℤ) → Stands (new_array class z v) NewLocal (table.new_array class z u)
   array_made class v u makeable agree (pos n) = row.makes (record { object = (u, agree, refl); makeable = makeable })
   array_made class v u makeable agree (negsuc n) = raised negative_array_size (omega arith) (omega arith)
-
-  -- an index of an array
-  pub index_is : (o : Option ℕ) (z : ℤ) → index_there store.heap o z ≡ index_within (length (values_seen store.heap o)) z
-  index_is None (pos i) = let none : nat_lt i 0 ≡ false = grind (arith, nat_tests) in ap (λ (b : Bool). if b then Some i else None) (sym none)
-  index_is (Some a) (pos i) = ap (λ (l : ℕ). if nat_lt i l then Some i else None) (count_seen (Some a))
-  index_is None (negsuc i) = refl
-  index_is (Some a) (negsuc i) = refl
 
   pub element_read : (o : Option ℕ) (q : Reference) → ReferenceAgrees store.heap o q → StoreAgrees p w store shared (all both) → (index : Option ℕ) → Stands (element_there store.heap o index) NewLocal (table.element_given (values_seen store.heap o) index)
   element_read o q h agree None = raised array_index_out_of_bounds (omega arith) (omega arith)

@@ -36,12 +36,12 @@ use Rattle.machine_answers.specs.Answers.{AreWordsOf}
 use Rattle.machine_answers.specs.Answers as row
 use Rattle.machine_answers.specs.Checked.{may_be_null, some_misfit}
 use Rattle.machine_answers.specs.Copies.{words_from}
-use Rattle.machine_answers.specs.Sights.{name_seen, number_at, values_seen}
-use Rattle.machine_answers.specs.WorkedOut.{array_in, copies_in, copies_out, next_number, region_in, stack_number}
+use Rattle.machine_answers.specs.Sights.{name_seen, number_at, values_seen, array_in}
+use Rattle.machine_answers.specs.WorkedOut.{copies_in, copies_out, region_in}
 use Rattle.machine_answers.proofs.CallOperands.{GivenObject, is_number_array}
 use Rattle.machine_answers.proofs.CallTraps.{none_unfit}
 use Rattle.machine_answers.proofs.FieldValues.{values_there}
-use Rattle.machine_answers.proofs.KindAnswers.{Stands, count_seen, first_name, raised, stands, top_number}
+use Rattle.machine_answers.proofs.KindAnswers.{Stands, count_seen, first_name, raised, stands}
 use Rattle.machine_answers.proofs.RegionOperands.{GivenArray, array_numbers, numbers_alone, slots_there, words_brought, words_there, local_array as given_array}
 use Rattle.machine_answers.proofs.SightParts.{object_there_is}
 use Rattle.machine_answers.specs.Answered.{TwoCalls, Passes, Asked, unit}
@@ -106,12 +106,12 @@ module _ (both : TwoCalls) where
       at_place (pos i) (negsuc j) = raises
       at_place (pos i) (pos j) =
           subst (λ (l : ℕ). Stands both (does (if nat_le (i + j) (length (values_at store.heap a)) then Some (part i j) else None)) GivesNothing (region_with go exception array.len (if nat_le (i + j) l then Some (part_seen i j) else None)))
-          (count_seen both (Some a)) (by_place i j (nat_le (i + j) (length (values_at store.heap a))) refl)
+          (count_seen both a) (by_place i j (nat_le (i + j) (length (values_at store.heap a))) refl)
 
     -- the same by the arguments
     abbrev Seen : (does : ArraySlots → Option ArrayRegion → Answer) (go : Region → source.Answer) (exception : ℕ) → Option ℕ → Operand → Type 0
     Seen does go exception r o =
-        Stands both (does (array_in o) (region_in store.heap r (next_number activation.stack) (stack_number activation.stack) (array_in o))) GivesNothing
+        Stands both (does (array_in o) (region_in store.heap r (number_at activation.stack 1) (number_at activation.stack 0) (array_in o))) GivesNothing
         (region_with go exception (array_in o).len (region_within n (length (values_seen store.heap r)) (number_at activation.stack 1) (number_at activation.stack 0)))
 
     by_arguments : (does : ArraySlots → Option ArrayRegion → Answer) (go : Region → source.Answer) (exception : ℕ)
@@ -120,7 +120,7 @@ module _ (both : TwoCalls) where
     by_arguments does go exception it =
         subst (λ (o : Operand). Seen does go exception (at both 0) o) (sym g.array.at)
         (subst (λ (r : Option ℕ). Seen does go exception r (operand.Array array)) (sym g.object.at)
-        (stands both (ap (λ (y : ℤ). does array (region_in store.heap (Some a) (next_number activation.stack) y array)) (top_number both activation.stack)) (it (number_at activation.stack 1) (number_at activation.stack 0))))
+        (it (number_at activation.stack 1) (number_at activation.stack 0)))
 
     -- numbers of the object are read
     pub region_read : (exception : ℕ) → 2 < exception → exception ≤ 42 → Seen (copies_out exception) source.GetsRegion exception (at both 0) (operand_of call.operands 3)

@@ -25,7 +25,7 @@ use Rattle.code_meaning.specs.Does.{ActualFits, OperandFits, texts_given, words_
 use Rattle.machine_scenes.specs.Given.{HasArray, IsGiven, operand_of, operand_or_null}
 use Rattle.machine_scenes.specs.HeapAgrees.{HeapAgrees}
 use Rattle.machine_scenes.specs.Scenes.{Scene}
-use Rattle.machine_answers.specs.Sights.{argument_seen, each_seen, element_wanted, elements_seen, kinds, number_at, operand_seen, takes_word, text_seen, texts_of, words_of}
+use Rattle.machine_answers.specs.Sights.{argument_seen, each_seen, element_wanted, elements_seen, kinds, number_at, operand_seen, takes_word, text_seen, texts_of, words_of, array_in}
 use Rattle.machine_answers.proofs.SightArguments.{sight_is}
 use Rattle.machine_answers.proofs.SightPlaces.{number_is, text_is}
 use Rattle.tables.specs.Locals.{LocalTable, popped}
@@ -57,7 +57,6 @@ use Rattle.monitors.specs.Monitors.{monitor_of}
 use Rattle.machine_scenes.proofs.Handles.{class_of_field, class_within}
 use Rattle.machine_answers.specs.Asked.{HeldStatic, IsAsked, deletes_static, references_of, scene_of}
 use Rattle.machine_answers.specs.Sights.{call_seen, class_object_seen, deleted_seen, held_seen, monitor_seen, object_seen}
-use Rattle.machine_answers.specs.WorkedOut.{array_in}
 use Rattle.machine_answers.proofs.LongTables.{classes_loaded}
 use Rattle.machine_answers.proofs.TrapsSeen.{depth_last, trap_without}
 use Rattle.semantics.proofs.CheckLaws.{together_without}

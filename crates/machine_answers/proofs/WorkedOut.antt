@@ -1,5 +1,5 @@
 -- What is worked out of a call of each function, by what is in memory.
-use Rattle.std.specs.Prelude.{◌==◌, ◌≡◌, ℕ, List, [], slice_get, unwrap_or, is_some, Option, Some, None}
+use Rattle.std.specs.Prelude.{◌==◌, ◌≡◌, ℕ, List, [], slice_get, unwrap_or, is_some, Option, Some, None, length}
 use Rattle.base.specs.declared.element.ElementType.{ElementType}
 use Rattle.class_rules.specs.ClassIds.{class_id}
 use Rattle.class_rules.specs.BuiltIns.{array_index_out_of_bounds, string_index_out_of_bounds, number_array}
@@ -25,8 +25,10 @@ use Rattle.machine_scenes.specs.declared.new_object.New.TheVariants.{Fresh, Text
 use Rattle.machine_scenes.specs.Scenes.{Scene}
 use Rattle.semantics.specs.declared.trap.Trap.TheVariants.{Fatal}
 use Rattle.machine_scenes.specs.Given.{key_at, operand_of, class_of_given, name_there, fits_there}
-use Rattle.machine_answers.specs.WorkedOut.{count_there, class_object, found_class, IsFoundField, IsFoundMethod, room_for, frame_for, deletes, deletes_global, deletes_weak, value_there, word_in, address_in, held_reference, writes_there, top_word, new_array, index_there, element_there, stores_there, stack_number, copies_out, copies_in, acquires, mode_of, releases, entered_by, left_by}
+use Rattle.machine_answers.specs.WorkedOut.{class_object, found_class, IsFoundField, IsFoundMethod, room_for, frame_for, deletes, deletes_global, deletes_weak, value_there, word_in, address_in, held_reference, writes_there, new_array, element_there, stores_there, copies_out, copies_in, acquires, mode_of, releases, entered_by, left_by}
 use Rattle.machine_answers.specs.WorkedOut as at
+use Rattle.machine_answers.specs.Sights.{number_at, values_seen}
+use Rattle.semantics.specs.AnswerTable.{index_within}
 
 -- a thread enters the monitor of the object at an address
 abbrev pub enters : Space → List Monitor → (thread : ℕ) → Option ℕ → Answer
@@ -65,7 +67,7 @@ module _ (scene : Scene) (call : Call) where
 
   -- how a cell of this type holds the word on the stack
   abbrev pub stored : ElementType → Value
-  stored T = value.Number (element_word (element_of T) (top_word scene.stack))
+  stored T = value.Number (element_word (element_of T) (unwrap_or (slice_get scene.stack 0) 0))
 
   -- the answer of a function that finds no field and no method
   abbrev pub worked_out : JniFunction → Answer
@@ -83,8 +85,8 @@ module _ (scene : Scene) (call : Call) where
   worked_out DeleteWeakGlobalRef = deletes_weak scene.references (operand_of call.operands 0)
   worked_out DeleteLocalRef = deletes (key_at scene.references (operand_of call.operands 0))
   worked_out IsSameObject = Gives (Number (truth_word (name_there scene.space (reference 0) == name_there scene.space (reference 1))))
-  worked_out EnsureLocalCapacity = room_for (stack_number scene.stack)
-  worked_out PushLocalFrame = frame_for (stack_number scene.stack)
+  worked_out EnsureLocalCapacity = room_for (number_at scene.stack 0)
+  worked_out PushLocalFrame = frame_for (number_at scene.stack 0)
   worked_out PopLocalFrame = Pops (reference 0)
   worked_out (GetField T) = Gives (Number (word_in (value_there scene.space (reference 0) place)))
   worked_out (SetField T) = writes_there scene.space (reference 0) place (stored T)
@@ -94,15 +96,15 @@ module _ (scene : Scene) (call : Call) where
   worked_out (SetStaticField T) = writes_there scene.space declaring place_of_static (stored T)
   worked_out GetStaticObjectField = Gives (Reference (address_in (value_there scene.space declaring place_of_static)))
   worked_out SetStaticObjectField = writes_there scene.space declaring place_of_static (held_reference (reference 2))
-  worked_out GetArrayLength = Gives (Number (count_there scene.space (reference 0)))
-  worked_out (NewArray T) = new_array (number_array T) (stack_number scene.stack) (value.Number 0)
+  worked_out GetArrayLength = Gives (Number (length (values_seen scene.space (reference 0))))
+  worked_out (NewArray T) = new_array (number_array T) (number_at scene.stack 0) (value.Number 0)
   worked_out NewObjectArray = new_array (unwrap_or (array_class_of scene.classes
-      (name_there scene.space (reference 1))) 0) (stack_number scene.stack) (held_reference (reference 2))
-  worked_out GetObjectArrayElement = element_there scene.space (reference 0) (index_there scene.space (reference 0) (stack_number scene.stack))
+      (name_there scene.space (reference 1))) 0) (number_at scene.stack 0) (held_reference (reference 2))
+  worked_out GetObjectArrayElement = element_there scene.space (reference 0) (index_within (length (values_seen scene.space (reference 0))) (number_at scene.stack 0))
   worked_out SetObjectArrayElement = stores_there scene.space (reference 0) (at.fits_element scene call)
-      (index_there scene.space (reference 0) (stack_number scene.stack)) (held_reference (reference 2))
+      (index_within (length (values_seen scene.space (reference 0))) (number_at scene.stack 0)) (held_reference (reference 2))
   worked_out NewStringUTF = Makes (Text 0)
-  worked_out GetStringLength = Gives (Number (count_there scene.space (reference 0)))
+  worked_out GetStringLength = Gives (Number (length (values_seen scene.space (reference 0))))
   worked_out (GetArrayRegion T) = copies_out array_index_out_of_bounds local_array region
   worked_out (SetArrayRegion T) = copies_in array_index_out_of_bounds local_array region
   worked_out GetStringRegion = copies_out string_index_out_of_bounds local_array region

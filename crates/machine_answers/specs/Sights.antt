@@ -8,6 +8,7 @@ use Rattle.base.specs.declared.element.ElementType.{ElementType}
 use Rattle.base.specs.declared.element.ElementType.TheVariants.{Int as JInt}
 use Rattle.class_rules.specs.Class.{Classes}
 use Rattle.code.specs.Call.{Call}
+use Rattle.code.specs.declared.instr.LocalArray.{LocalArray}
 use Rattle.code.specs.declared.instr.Operand.{Operand}
 use Rattle.code.specs.declared.instr.Operand.TheVariants as operand
 use Rattle.code.specs.declared.instr.Target.{Target}
@@ -41,7 +42,6 @@ use Rattle.machine_scenes.specs.FieldIds.{IsMethod}
 use Rattle.machine_scenes.specs.Given.{class_of_given, field_at, field_there, method_at, name_there, operand_at, operand_of}
 use Rattle.machine_scenes.specs.Scenes.{Scene}
 use Rattle.machine_scenes.specs.Statics.{References, holds_deleted, holds_null, static_at}
-use Rattle.machine_answers.specs.WorkedOut.{array_in}
 
 -- ---- objects by their names, which are the birth numbers of their blocks
 
@@ -167,6 +167,11 @@ is_reference p operand.Null = is_reference_kind p
 is_reference p o = false
 
 -- ---- a call
+
+-- an operand's local array, and one of no elements where it is none
+abbrev pub array_in : Operand → LocalArray
+array_in (operand.Array array) = array
+array_in o = record { start = 0; len = 0 }
 
 -- the element type of the buffer that a call is to fill
 abbrev pub element_wanted : Target → ElementType

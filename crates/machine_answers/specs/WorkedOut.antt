@@ -1,6 +1,5 @@
 -- What the machine works out of a call, by what is in memory.
-use Rattle.std.specs.Prelude.{◌≡◌, ℕ, ◌+◌, ◌-◌, ◌^◌, ℤ, pos, negsuc, nat_lt, nat_le, Bool, true, false, List, [], ◌∷◌, length, slice_get, unwrap_or, if◌then◌else◌, Option, Some, None}
-use Rattle.std.specs.Int.{w32, cast_signed}
+use Rattle.std.specs.Prelude.{◌≡◌, ℕ, ◌+◌, ◌-◌, ◌^◌, ℤ, pos, negsuc, nat_lt, nat_le, Bool, true, false, List, length, slice_get, unwrap_or, if◌then◌else◌, Option, Some, None}
 use Rattle.syntax.specs.Tree.{SourceUnit}
 use Rattle.class_rules.specs.ClassIds.{class_id}
 use Rattle.class_rules.specs.BuiltIns.{array_index_out_of_bounds, array_store_exception, illegal_monitor_state, negative_array_size, no_class_def_found_error, no_such_field_error, no_such_method_error}
@@ -42,11 +41,7 @@ use Rattle.machine_scenes.specs.declared.references.Held.{Held}
 use Rattle.machine_scenes.specs.declared.references.Held.TheVariants as held
 use Rattle.semantics.specs.declared.trap.Trap.TheVariants.{OutOfRange}
 use Rattle.machine_scenes.specs.Given.{operand_at, operand_of, field_at, class_of_given, fits_there, field_there}
-
--- the number of values of the object at an address, and 0 for NULL
-abbrev pub count_there : Space → Option ℕ → ℕ
-count_there space None = 0
-count_there space (Some a) = length (values_at space a)
+use Rattle.machine_answers.specs.Sights.{array_in, number_at}
 
 -- the address of a class object, where class objects are the first of the table
 abbrev pub class_object : (loaded : List ℕ) → (class : Option ℕ) → Option ℕ
@@ -131,11 +126,6 @@ abbrev pub writes_there : Space → Option ℕ → (place : ℕ) → Value → A
 writes_there space None place v = Gives Nothing
 writes_there space (Some a) place v = if nat_lt place (length (values_at space a)) then Writes a place v else Gives Nothing
 
--- the word on top of the stack, and 0 where there is none
-abbrev pub top_word : List ℕ → ℕ
-top_word [] = 0
-top_word (word ∷ stack) = word
-
 -- the place of the field of a handle among these, and 0 for NULL
 abbrev pub place_there : Classes → Option FieldHandle → List FieldId → ℕ
 place_there classes None fields = 0
@@ -148,12 +138,6 @@ abbrev pub new_array : (class : ℕ) → ℤ → Value → Answer
 new_array class (pos n) v = Makes (Array (record { class = class_id class; count = n; value = v }))
 new_array class (negsuc n) v = Throws (class_id negative_array_size)
 
--- an index of an array, where it has such an element
-abbrev pub index_there : Space → Option ℕ → ℤ → Option ℕ
-index_there space None z = None
-index_there space (Some a) (pos i) = if nat_lt i (length (values_at space a)) then Some i else None
-index_there space (Some a) (negsuc n) = None
-
 -- an element of an array is given, or an exception where there is none of an index
 abbrev pub element_there : Space → Option ℕ → (index : Option ℕ) → Answer
 element_there space r None = Throws (class_id array_index_out_of_bounds)
@@ -165,20 +149,7 @@ stores_there space r fits None v = Throws (class_id array_index_out_of_bounds)
 stores_there space r false (Some i) v = Throws (class_id array_store_exception)
 stores_there space r true (Some i) v = writes_there space r i v
 
--- the number on top of the stack, and 0 where there is none
-abbrev pub stack_number : List ℕ → ℤ
-stack_number stack = cast_signed w32 (top_word stack)
-
 -- ---- regions
-
--- the number below it, and 0 where there is none
-abbrev pub next_number : List ℕ → ℤ
-next_number stack = cast_signed w32 (unwrap_or (slice_get stack 1) 0)
-
--- an operand's local array, and one of no elements where it is none
-abbrev pub array_in : Operand → LocalArray
-array_in (operand.Array array) = array
-array_in o = record { start = 0; len = 0 }
 
 -- elements of an object, from a start on, and as many first slots of a local array; none where the object hasn't so many
 abbrev pub region_in : Space → Option ℕ → (start count : ℤ) → LocalArray → Option ArrayRegion
@@ -277,4 +248,4 @@ module _ (scene : Scene) (call : Call) where
 
   -- the region of operand 0 that the two numbers tell
   abbrev pub region : Option ArrayRegion
-  region = region_in scene.space (reference 0) (next_number scene.stack) (stack_number scene.stack) local_array
+  region = region_in scene.space (reference 0) (number_at scene.stack 1) (number_at scene.stack 0) local_array

@@ -1,6 +1,6 @@
 //! What a function of the JNI does, as data.
 
-ghost use Rattle.std.specs.Prelude.{◌≡◌, ◌<◌, ℕ, [], Some, None, true, false, unwrap_or, slice_get, map};
+ghost use Rattle.std.specs.Prelude.{◌≡◌, ◌<◌, ℕ, [], Some, None, true, false, unwrap_or, slice_get, map, length};
 ghost use Rattle.classes.specs.FieldViews.{find_as};
 ghost use Rattle.class_rules.specs.ClassIds.{number_of};
 ghost use Rattle.class_rules.specs.Fields.{layout, own_statics};
@@ -11,11 +11,11 @@ ghost use Rattle.code_meaning.specs.Coding.{element_of};
 ghost use Rattle.heap.specs.Heap.{IsAddress};
 ghost use Rattle.machine_answers.specs.Answered.{IsAnswerTo};
 ghost use Rattle.machine_answers.specs.Checked.{arguments_fit};
-ghost use Rattle.machine_answers.specs.Sights.{element_wanted};
+ghost use Rattle.machine_answers.specs.Sights.{element_wanted, values_seen};
 ghost use Rattle.machine_scenes.specs.Given.{field_there, name_there, AreAddresses, AreHandles, FieldIsThere, ReferenceIsThere};
 ghost use Rattle.machine_scenes.specs.Scenes.{scene_view};
 ghost use Rattle.jni.specs.Subjects.{subject_of};
-ghost use Rattle.machine_answers.specs.WorkedOut.{address_in, class_object, count_there, declaring, deletes, deletes_global, deletes_weak, field, found_class, frame_for, handle, held_reference, place, place_of_static, place_there, reference, room_for, top_word, value_there, word_in, writes_there, IsFoundField, IsFoundMethod};
+ghost use Rattle.machine_answers.specs.WorkedOut.{address_in, class_object, declaring, deletes, deletes_global, deletes_weak, field, found_class, frame_for, handle, held_reference, place, place_of_static, place_there, reference, room_for, value_there, word_in, writes_there, IsFoundField, IsFoundMethod};
 ghost use Rattle.semantics.specs.Method.{find_method};
 ghost use Rattle.syntax.specs.Parts.{functions_of};
 ghost use Rattle.syntax.specs.Tree.{Function, FunctionItem};
@@ -486,7 +486,7 @@ fn item_of(items: &[Item], function: usize) -> usize
 /// The number of values of an object, and 0 for NULL.
 pub(crate) fn count_there(heap: &Heap, reference: Option<Addr>) -> u32
     requires { ReferenceIsThere heap.now reference }
-    ensures { result ≡ count_there heap.now reference }
+    ensures { result ≡ length (values_seen heap.now reference) }
 {
     // The proof reads off these calls that no object has more values than there are cells.
     let _ = heap.count();
@@ -688,7 +688,7 @@ pub(crate) fn writes_there(
 /// The word on top of the stack, and 0 where there is none.
 #[inline(always)]
 pub(crate) fn top_word(stack: &Stack) -> u32
-    ensures { result ≡ top_word stack.now }
+    ensures { result ≡ unwrap_or (slice_get stack.now 0) 0 }
 {
     if stack.is_empty() { 0 } else { stack.top() }
 }
@@ -697,7 +697,7 @@ pub(crate) fn top_word(stack: &Stack) -> u32
 #[tactic(auto, using(code_meaning::proofs::ElementWords::element_same))]
 #[inline(always)]
 pub(crate) fn stored(element: syntax::ElementType, stack: &Stack) -> Value
-    ensures { result ≡ Value.Number (element_word (element_of element) (top_word stack.now)) }
+    ensures { result ≡ Value.Number (element_word (element_of element) (unwrap_or (slice_get stack.now 0) 0)) }
 {
     Value::Number(element_word(element, top_word(stack)))
 }

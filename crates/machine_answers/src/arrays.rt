@@ -1,14 +1,16 @@
 //! What functions of arrays and strings do.
 
-ghost use Rattle.std.specs.Prelude.{◌≡◌, Some};
+ghost use Rattle.std.specs.Prelude.{◌≡◌, Some, length};
 ghost use Rattle.code.specs.Call.{call_view};
 ghost use Rattle.heap.specs.Heap.{IsAddress};
 ghost use Rattle.machine_scenes.specs.Given.{AreAddresses, ReferenceIsThere};
 ghost use Rattle.machine_scenes.specs.Scenes.{scene_view};
 ghost use Rattle.jni.specs.Subjects.{subject_of};
 ghost use Rattle.machine_answers.specs.Answered.{IsAnswerTo};
-ghost use Rattle.machine_answers.specs.WorkedOut.{element_there, fits_element, index_there, new_array, stack_number, stores_there};
+ghost use Rattle.machine_answers.specs.WorkedOut.{element_there, fits_element, new_array, stores_there};
 ghost use Rattle.jni.specs.declared.subject.Subject.TheVariants as subject;
+ghost use Rattle.machine_answers.specs.Sights.{number_at, values_seen};
+ghost use Rattle.semantics.specs.AnswerTable.{index_within};
 
 use crate::answer::{
     Answer, Given, address_in, argument, class_given, count_there, held_reference, top_word,
@@ -71,7 +73,7 @@ pub(crate) fn work_out_array(scene: &Scene<'_>, call: &Call) -> Answer
 
 /// The number on top of the stack, and 0 where there is none.
 pub(crate) fn stack_number(stack: &Stack) -> i32
-    ensures { result ≡ stack_number stack.now }
+    ensures { result ≡ number_at stack.now 0 }
 {
     top_word(stack).cast_signed()
 }
@@ -106,7 +108,7 @@ fn fits_element(scene: &Scene<'_>, call: &Call) -> bool
 #[inline(always)]
 pub(crate) fn index_in(heap: &Heap, array: Addr, index: i32) -> Option<usize>
     requires { IsAddress heap.now array }
-    ensures { result ≡ index_there heap.now (Some array) index }
+    ensures { result ≡ index_within (length (values_seen heap.now (Some array))) index }
 {
     if index < 0 {
         return None;
@@ -122,7 +124,7 @@ pub(crate) fn index_in(heap: &Heap, array: Addr, index: i32) -> Option<usize>
 /// An element of an array is given; an index of none is an exception.
 fn element_there(heap: &Heap, reference: Option<Addr>, index: i32) -> Answer
     requires { ReferenceIsThere heap.now reference }
-    ensures { result ≡ element_there heap.now reference (index_there heap.now reference index) }
+    ensures { result ≡ element_there heap.now reference (index_within (length (values_seen heap.now reference)) index) }
 {
     match reference {
         Some(array) => match index_in(heap, array, index) {
@@ -145,7 +147,7 @@ fn stores_there(
     value: Value,
 ) -> Answer
     requires { ReferenceIsThere heap.now reference }
-    ensures { result ≡ stores_there heap.now reference fits (index_there heap.now reference index) value }
+    ensures { result ≡ stores_there heap.now reference fits (index_within (length (values_seen heap.now reference)) index) value }
 {
     match reference {
         Some(array) => match index_in(heap, array, index) {

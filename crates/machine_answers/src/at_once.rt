@@ -14,8 +14,8 @@ ghost use Rattle.jni.specs.declared.kinds.ParameterKind.TheVariants.{ClassObject
 ghost use Rattle.machine_answers.specs.Answered.{IsAnswerTo};
 ghost use Rattle.machine_answers.specs.AtOnce.{field_in_spot};
 ghost use Rattle.machine_answers.specs.Checked.{called, calls_well, function_in, misfits, returns, takes, takes_all, some_misfit, some_missing, trap_found};
-ghost use Rattle.machine_answers.specs.Sights.{element_wanted, gives_deleted};
-ghost use Rattle.machine_answers.specs.WorkedOut.{declaring, element_there, field, index_there, place_of_static, place_there, stack_number, value_there};
+ghost use Rattle.machine_answers.specs.Sights.{element_wanted, gives_deleted, number_at, values_seen};
+ghost use Rattle.machine_answers.specs.WorkedOut.{declaring, element_there, field, place_of_static, place_there, value_there};
 ghost use Rattle.machine_scenes.specs.Given.{class_there, field_at, field_there, method_at, operand_at, operand_of, AreAddresses, AreHandles, FieldIsThere, ReferenceIsThere};
 ghost use Rattle.machine_scenes.specs.Locals.{locals_after};
 ghost use Rattle.machine_scenes.specs.Scenes.{scene_view};
@@ -25,6 +25,7 @@ ghost use Rattle.syntax.specs.Views.{parameter_tree, unit_tree};
 ghost use Rattle.tables.specs.Locals.{has_room};
 ghost use Rattle.machine_answers.specs.declared.answer.Given.TheVariants.{Number, Reference};
 ghost use Rattle.machine_answers.specs.declared.answer.Answer.TheVariants.{Calls, Gives, Writes, Deletes};
+ghost use Rattle.semantics.specs.AnswerTable.{index_within};
 
 use crate::answer::{
     address_in, argument, count_there, field_place, held_reference, holder_of_static, name_of,
@@ -324,7 +325,7 @@ fn element_at_once(scene: &Scene<'_>, array: Addr) -> Option<Option<Addr>>
     requires { IsAddress scene.now.heap.now array }
     ensures kind { IfSome result (λ element. class_misfits scene.now.classes.now ObjectArray (class_there scene.now.heap.now array) ≡ false) }
     ensures element { IfSome result (λ element. element_there scene.now.heap.now (Some array)
-        (index_there scene.now.heap.now (Some array) (stack_number scene.now.stack.now)) ≡ Gives (Reference element)) }
+        (index_within (length (values_seen scene.now.heap.now (Some array))) (number_at scene.now.stack.now 0)) ≡ Gives (Reference element)) }
 {
     match scene.classes.kind(class_there(scene.heap, array)) {
         ClassKind::ArrayOfObjects(_) => match index_in(

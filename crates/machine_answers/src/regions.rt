@@ -7,8 +7,9 @@ ghost use Rattle.machine_scenes.specs.Given.{operand_of, AreAddresses, Reference
 ghost use Rattle.machine_scenes.specs.Scenes.{scene_view};
 ghost use Rattle.jni.specs.Subjects.{subject_of};
 ghost use Rattle.machine_answers.specs.Answered.{IsAnswerTo};
-ghost use Rattle.machine_answers.specs.WorkedOut.{array_in, copies_in, copies_out, next_number, region, region_in};
+ghost use Rattle.machine_answers.specs.WorkedOut.{copies_in, copies_out, region, region_in};
 ghost use Rattle.jni.specs.declared.subject.Subject.TheVariants as subject;
+ghost use Rattle.machine_answers.specs.Sights.{array_in, number_at};
 
 use crate::answer::{Answer, argument};
 use crate::arrays::stack_number;
@@ -63,7 +64,7 @@ fn region_asked(scene: &Scene<'_>, call: &Call, array: LocalArray) -> Option<Arr
 
 /// The number below the topmost on the stack, and 0 where there is none.
 fn next_number(stack: &Stack) -> i32
-    ensures { result ≡ next_number stack.now }
+    ensures { result ≡ number_at stack.now 1 }
 {
     stack.below_top().unwrap_or(0).cast_signed()
 }
