@@ -1,6 +1,6 @@
 //! The variables of a call in progress.
 
-ghost use Rattle.std.specs.Prelude.{◌≡◌, ◌≤◌, ◌<◌, ◌++◌, [], true, false, IfOk, IfSome, Some, is_some, slice_get, drop, flat_map, length, map, pos, replicate, slice_set};
+ghost use Rattle.std.specs.Prelude.{◌≡◌, ◌≤◌, ◌<◌, ◌++◌, [], true, false, IfOk, IfSome, Option, Some, is_some, slice_get, drop, flat_map, length, map, pos, replicate, slice_set};
 ghost use Rattle.std.specs.Option.{option_map};
 ghost use Rattle.base.specs.Bytes.{lookup};
 ghost use Rattle.std.specs.Str.{bytes_eq};
@@ -9,8 +9,8 @@ ghost use Rattle.semantics.specs.CallEffects.{begun_with, copied_elements, freed
 ghost use Rattle.semantics.specs.CallStep.{element_type};
 ghost use Rattle.semantics.specs.Heap.{number_in};
 ghost use Rattle.semantics.specs.Value.{convert};
-ghost use Rattle.semantics.specs.Variable.{Scalar, assign, change, copied_length, viewed};
-ghost use Rattle.semantics.specs.Views.{names_of, object_value_view};
+ghost use Rattle.semantics.specs.Variable.{LocalRef, Scalar, assign, change, copied_length, viewed};
+ghost use Rattle.semantics.specs.Views.{name_of, names_of, object_value_view};
 ghost use Rattle.replay_terms.specs.declared.variable.Content.TheVariants as content;
 ghost use Rattle.replay_terms.specs.Views.{value_view, Takes, WritesContent, WritesElement, content_view, count_viewed, had, held_number, variables_view, viewed_by};
 
@@ -142,6 +142,25 @@ impl<'a> Variables<'a> {
             return Ok(());
         }
         self.set_named(name, Content::Number(value))
+    }
+
+    /// The same with a local reference of this level.
+    pub fn set_reference(
+        &mut self,
+        name: &'a Name,
+        level: Level,
+        object: Option<ObjectId>,
+    ) -> Result<(), AllocError>
+        ensures { IfOk result (λ _. variables_view self.new ≡ assign name.now (LocalRef level.number (name_of object)) (variables_view self.old)) }
+    {
+        let name = name.as_bytes();
+        let Some(place) = place_of(&self.contents, name) else {
+            return self.insert(name, Content::Reference { level, object });
+        };
+        if put_reference(&mut self.contents[place], level, object) {
+            return Ok(());
+        }
+        self.set_named(name, Content::Reference { level, object })
     }
 
     /// Sets the variable of this name, which may be none of the unit's names. It is as with `set`.
@@ -307,6 +326,23 @@ fn put_number(place: &mut Content<'_>, value: Value) -> bool
     match place {
         Content::Number(old) => {
             *old = value;
+            true
+        }
+        _ => false,
+    }
+}
+
+/// Puts a local reference in the place of another; false where there is none.
+#[inline]
+fn put_reference(place: &mut Content<'_>, to_level: Level, to_object: Option<ObjectId>) -> bool
+    ensures done { (result ≡ true) → place.new ≡ content.Reference to_level to_object }
+    ensures taken { (result ≡ true) → (l : Level) × (o : Option ObjectId) × (place.old ≡ content.Reference l o) }
+    ensures other { (result ≡ false) → place.new ≡ place.old }
+{
+    match place {
+        Content::Reference { level, object } => {
+            *level = to_level;
+            *object = to_object;
             true
         }
         _ => false,
