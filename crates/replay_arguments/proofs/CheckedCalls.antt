@@ -113,6 +113,12 @@ module _ (classes : Classes) (s : Shared) (vs : Variables) (frames : List Frame)
   pub as_found : (o : Option Trap) (is_pending : Bool) → is_pending ≡ is_some pending → o ≡ found is_pending → o ≡ trap_of classes sight element f
   as_found o is_pending same is = is ∙ ap found same ∙ found_is
 
+  -- where no test finds anything there is none
+  pub passes : (is_pending : Bool) → is_pending ≡ is_some pending → (is_pending && not (is_allowed_pending f)) ≡ false → list_any is_deleted args ≡ false → list_any lacks (zip (prototype f).parameters args) ≡ false
+      → list_any (λ (c : ParameterKind × Actual). misfits classes (seen_with s.heap c)) (zip (prototype f).parameters args) ≡ false → go_together classes sight element f ≡ true → lacks_room (prototype f).result (slice_get (frames_after f frames) 0) ≡ false
+      → trap_of classes sight element f ≡ None
+  passes is_pending same allowed kept given fit together room = sym (as_found None is_pending same (rw (allowed, kept, given, fit, together, room) refl))
+
 -- an object is pending where its name is
 pub is_some_name : (o : Option ObjectId) → is_some o ≡ is_some (name_of o)
 is_some_name None = refl

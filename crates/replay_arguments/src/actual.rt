@@ -1,6 +1,6 @@
 //! The arguments of a call, looked up in its own step.
 
-ghost use Rattle.std.specs.Prelude.{◌≡◌, ◌++◌, IfOk, drop, map, slice_get, zip};
+ghost use Rattle.std.specs.Prelude.{◌≡◌, ◌++◌, IfOk, IfSome, drop, map, slice_get, zip};
 ghost use Rattle.std.specs.Option.{option_map};
 ghost use Rattle.base.specs.Bytes.{lookup};
 ghost use Rattle.syntax.specs.Shapes.{ref_tree};
@@ -14,7 +14,7 @@ ghost use Rattle.semantics.specs.Sight.{Sight, held_field, held_method};
 ghost use Rattle.semantics.specs.Task.{Given, NumberOperand, PassedName};
 ghost use Rattle.semantics.specs.Thread.{Shared as SharedOfThreads};
 ghost use Rattle.semantics.specs.Views.{name_of, object_value_view};
-ghost use Rattle.replay_arguments.specs.Actuals.{actual_view, name_view, given_field};
+ghost use Rattle.replay_arguments.specs.Actuals.{IsReadyAt, actual_view, name_view, given_field};
 ghost use Rattle.replay_terms.specs.Views.{operand_ref_view, operands_view, held_view, method_view, term_view, variables_view};
 ghost use Rattle.replay_arguments.specs.Shares.{shared_view, sight_in};
 
@@ -47,6 +47,29 @@ pub enum Actual<'a> {
 }
 
 // ---- looking up
+
+/// The argument at a place of a call that is to be looked up in the call's own step, or is worked out already; none where there is no such
+/// argument for one of these parameters.
+#[inline(always)]
+pub fn ready_actual<'a>(
+    shared: &Shared<'_>,
+    variables: &Variables<'a>,
+    parameters: &[ParameterKind],
+    operands: &Operands<'a>,
+    place: usize,
+) -> Option<Actual<'a>>
+    ensures { IfSome result (λ a. IsReadyAt (sight_in (shared_view shared.now) variables.now) parameters.now
+        (operands_view operands.now) place (actual_view a)) }
+{
+    let parameter = parameters.get(place)?;
+    match operands.get(place)? {
+        OperandRef::Given(argument) => {
+            Some(given_argument(shared, variables, *parameter, argument))
+        }
+        OperandRef::Number(Term::Done(Value::Int(z))) => Some(Actual::Number(*z)),
+        _ => None,
+    }
+}
 
 /// The arguments of a call, its numbers being worked out.
 pub fn actuals<'a>(

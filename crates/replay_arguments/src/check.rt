@@ -1,6 +1,6 @@
 //! What is checked of a call before it does anything, in one order for all functions.
 
-ghost use Rattle.std.specs.Prelude.{◌≡◌, ◌||◌, ◌&&◌, Some, map, not, slice_get, zip};
+ghost use Rattle.std.specs.Prelude.{◌≡◌, ◌||◌, ◌&&◌, None, Some, false, map, not, slice_get, true, zip};
 ghost use Rattle.std.specs.List.{list_any};
 ghost use Rattle.std.specs.Option.{option_map};
 ghost use Rattle.class_rules.specs.BuiltIns.{throwable_class};
@@ -32,8 +32,54 @@ use semantics::{ObjectId, Trap};
 use syntax::{Parameter, ParameterType, ResultType};
 
 /// The trap of a call before it does anything, which may give a buffer of this element type, but for the depth of calls: that is
-/// checked where a method is entered.
+/// checked where a method is entered. Most calls have none, which is seen in one go.
+#[inline(always)]
 pub fn check(
+    scene: Scene<'_, '_>,
+    buffer: syntax::ElementType,
+    function: JniFunction,
+    actuals: &[Actual<'_>],
+) -> Option<Trap>
+    ensures { result
+        ≡ trap_of scene.entry.classes.now (scene_sight scene.entry function actuals.now) buffer function }
+{
+    if is_passed(scene, buffer, function, actuals) {
+        return None;
+    }
+    first_trap(scene, buffer, function, actuals)
+}
+
+/// Whether a call passes all checks.
+#[inline(always)]
+fn is_passed(
+    scene: Scene<'_, '_>,
+    buffer: syntax::ElementType,
+    function: JniFunction,
+    actuals: &[Actual<'_>],
+) -> bool
+    ensures { (result ≡ true) → trap_of scene.entry.classes.now (scene_sight scene.entry function actuals.now) buffer function ≡ None }
+{
+    let asked = function.prototype();
+    if scene.pending.is_some() && !asked.pending {
+        return false;
+    }
+    if !all_fit(
+        scene.classes,
+        &scene.shared.store,
+        asked.parameters,
+        actuals,
+    ) {
+        return false;
+    }
+    if !go_together(scene, buffer, function, actuals) {
+        return false;
+    }
+    !lacks_room(function, asked.result, &scene.locals.frames)
+}
+
+/// The trap of the first check that fails, if one does.
+#[inline(never)]
+fn first_trap(
     scene: Scene<'_, '_>,
     buffer: syntax::ElementType,
     function: JniFunction,
@@ -65,6 +111,43 @@ pub fn check(
     None
 }
 
+/// Whether no argument is a static that is marked as deleted, none is NULL where that isn't allowed, and none is an object of another kind than
+/// its parameter: most often so it is, and is seen in one go.
+#[inline]
+fn all_fit(
+    classes: &ClassTable,
+    store: &Store,
+    parameters: &[ParameterKind],
+    actuals: &[Actual<'_>],
+) -> bool
+    ensures deleted { (result ≡ true) → list_any is_deleted (map actual_view actuals.now) ≡ false }
+    ensures missing { (result ≡ true) → list_any lacks (zip parameters.now (map actual_view actuals.now)) ≡ false }
+    ensures misfit { (result ≡ true) → list_any (λ c. misfits classes.now (seen_with store.now c)) (zip parameters.now (map actual_view actuals.now)) ≡ false }
+{
+    match parameters {
+        [parameter, parameters @ ..] => match actuals {
+            [actual, actuals @ ..] => {
+                fits(classes, store, *parameter, *actual)
+                    && all_fit(classes, store, parameters, actuals)
+            }
+            [] => true,
+        },
+        [] => !some_deleted(actuals),
+    }
+}
+
+/// The same of one argument.
+#[inline(always)]
+fn fits(classes: &ClassTable, store: &Store, parameter: ParameterKind, actual: Actual<'_>) -> bool
+    ensures deleted { (result ≡ true) → is_deleted (actual_view actual.entry) ≡ false }
+    ensures missing { (result ≡ true) → lacks (parameter, actual_view actual.entry) ≡ false }
+    ensures misfit { (result ≡ true) → misfits classes.now (seen_with store.now (parameter, actual_view actual.entry)) ≡ false }
+{
+    !is_deleted(actual)
+        && !is_missing(parameter, actual)
+        && !is_misfit(classes, store, parameter, actual)
+}
+
 /// Whether some argument is a static that is marked as deleted.
 fn some_deleted(actuals: &[Actual<'_>]) -> bool
     ensures { result ≡ list_any is_deleted (map actual_view actuals.now) }
@@ -76,6 +159,7 @@ fn some_deleted(actuals: &[Actual<'_>]) -> bool
 }
 
 /// Whether an argument is a static that is marked as deleted.
+#[inline(always)]
 fn is_deleted(actual: Actual<'_>) -> bool
     ensures { result ≡ is_deleted (actual_view actual.entry) }
 {
@@ -98,6 +182,7 @@ fn some_missing(parameters: &[ParameterKind], actuals: &[Actual<'_>]) -> bool
 }
 
 /// Whether an argument is NULL where that isn't allowed.
+#[inline(always)]
 fn is_missing(parameter: ParameterKind, actual: Actual<'_>) -> bool
     ensures { result ≡ lacks (parameter, actual_view actual.entry) }
 {
@@ -136,6 +221,7 @@ fn some_misfit(
 }
 
 /// Whether an argument is an object of another kind than the parameter.
+#[inline(always)]
 fn is_misfit(
     classes: &ClassTable,
     store: &Store,
@@ -160,6 +246,7 @@ fn is_misfit(
 
 /// Whether the arguments of a function, each of its kind, go together.
 #[tactic(auto, unfolding(semantics::specs::Checks::go_together))]
+#[inline(always)]
 fn go_together(
     scene: Scene<'_, '_>,
     buffer: syntax::ElementType,
@@ -321,6 +408,7 @@ fn fits_type(
 }
 
 /// Whether a call puts a local reference into a frame that can hold no more.
+#[inline(always)]
 fn lacks_room(function: JniFunction, kind: ResultKind, frames: &Frames) -> bool
     ensures { result ≡ lacks_room kind (slice_get (frames_after function frames.now) 0) }
 {

@@ -4,7 +4,7 @@ use Rattle.replay_arguments.specs.Actuals.{actual_view}
 use Rattle.replay_arguments.specs.Shares.{shared_view}
 use Rattle.replay_terms.specs.Views.{variables_view}
 use Rattle.replay_arguments.proofs.CheckedCalls.{as_found, is_some_name}
-use Rattle.replay_arguments.proofs.check.check.Goals as goal
+use Rattle.replay_arguments.proofs.check.first_trap.Goals as goal
 
 pub returns-then-not-asked : goal.returns-then-not-asked
 returns-then-not-asked c =
