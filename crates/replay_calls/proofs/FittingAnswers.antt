@@ -1,7 +1,6 @@
 -- What the table gives of each answer: regions that are there, and calls of methods by functions that call one.
 use Rattle.std.proofs.Common.{◌≡◌, ℕ, ℤ, ◌+◌, ◌≤◌, Bool, true, false, List, length, refl, sym, subst}
 use Rattle.std.proofs.lemmas.Bool.{le-leb}
-use Rattle.base.specs.declared.element.ElementType.{ElementType}
 use Rattle.syntax.specs.Tree.{SourceUnit}
 use Rattle.class_rules.specs.Class.{Classes}
 use Rattle.jni.specs.declared.function.JniFunction.{JniFunction}

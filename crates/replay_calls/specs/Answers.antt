@@ -15,7 +15,7 @@ use Rattle.semantics.specs.CallEffects as effects
 use Rattle.semantics.specs.CallStep.{failure}
 use Rattle.semantics.specs.Heap.{Heap, next_name, values_of}
 use Rattle.semantics.specs.Object.{Object, ObjectValue}
-use Rattle.semantics.specs.Thread.{Frame, Shared, Thread}
+use Rattle.semantics.specs.Thread.{BuffersInUse, Frame, Shared, Thread}
 use Rattle.semantics.specs.declared.trap.Trap.{Trap}
 use Rattle.semantics.specs.Variable.{Variables}
 use Rattle.semantics.specs.Views.{name_of}
@@ -144,15 +144,30 @@ done_view heap args (done.Halts trap) = Stops trap
 abbrev pub with_locals : Thread → Locals → (pending : Option ObjectId) → Thread
 with_locals t locals pending = record t { variables = variables_view locals.variables; frames = locals.frames; pending = name_of pending }
 
--- An answer to a call with these arguments, in this turn, is carried out: of each thread with these locals and this pending
--- exception its effect leaves what is there then.
+-- An answer to a call with these arguments is carried out where buffers take what is in use: of each thread with these locals and this
+-- pending exception its effect leaves what is there then.
+abbrev pub CarriesOutWith : BuffersInUse → Turn → JniFunction → List ActualInMemory → InMemory → SharedInMemory → Locals → Option ObjectId → Done
+    → SharedInMemory → Locals → Option ObjectId → Type 0
+CarriesOutWith in_use turn f actuals a s locals pending did s' locals' pending' =
+    (t : Thread) → left_of turn.classes.now (prototype f).result (shared_view s) (with_locals t locals pending)
+    (effect_of turn.classes.now in_use turn.thread (shared_view s) (with_locals t locals pending) (map actual_view actuals)
+    (answer_view turn.classes.now a))
+    ≡ record { shared = shared_view s'; thread = with_locals t locals' pending'; coming = done_view (shared_view s').heap (map actual_view actuals) did }
+
+-- the same in this turn
 abbrev pub CarriesOut : Turn → JniFunction → List ActualInMemory → InMemory → SharedInMemory → Locals → Option ObjectId → Done
     → SharedInMemory → Locals → Option ObjectId → Type 0
 CarriesOut turn f actuals a s locals pending did s' locals' pending' =
-    (t : Thread) → left_of turn.classes.now (prototype f).result (shared_view s) (with_locals t locals pending)
-    (effect_of turn.classes.now (in_use_view turn.in_use) turn.thread (shared_view s) (with_locals t locals pending) (map actual_view actuals)
-    (answer_view turn.classes.now a))
-    ≡ record { shared = shared_view s'; thread = with_locals t locals' pending'; coming = done_view (shared_view s').heap (map actual_view actuals) did }
+    CarriesOutWith (in_use_view turn.in_use) turn f actuals a s locals pending did s' locals' pending'
+
+-- a function that answers so gives something at once: no buffer, for which it matters what all buffers take, no call of a method, and no
+-- end of the run
+abbrev pub GivesAtOnce : InMemory → Type 0
+GivesAtOnce (answer.Copies n) = ⊥
+GivesAtOnce (answer.Views n) = ⊥
+GivesAtOnce (answer.Calls m) = ⊥
+GivesAtOnce (answer.Halts trap) = ⊥
+GivesAtOnce a = Unit {0}
 
 -- the frames with what a call of this kind of result gave
 abbrev pub frames_with : ResultKind → CallResult → List Frame → List Frame

@@ -144,6 +144,7 @@ pub struct Caller<'a> {
 
 /// What a call does, its arguments being looked up: the run stops by the first check that fails, or else it does what
 /// its function does. How deep calls are is none of these checks: that is checked where a method is entered.
+#[inline(always)]
 pub fn answer_or_trap<'a>(
     scene: Scene<'_, 'a>,
     caller: Caller<'a>,
@@ -166,6 +167,7 @@ pub fn answer_or_trap<'a>(
 }
 
 /// What a function does, all checks being passed.
+#[inline(always)]
 fn work_out<'a>(
     scene: Scene<'_, 'a>,
     caller: Caller<'a>,
@@ -190,7 +192,7 @@ fn work_out<'a>(
 
 /// What a function does that works on classes and methods.
 #[tactic(auto, unfolding(semantics::specs::AnswerTable::call_answer))]
-#[inline]
+#[inline(always)]
 fn class_answer<'a>(
     scene: Scene<'_, 'a>,
     caller: Caller<'a>,
@@ -232,7 +234,7 @@ fn class_answer<'a>(
 
 /// What a function does that works on references and frames.
 #[tactic(auto, unfolding(semantics::specs::AnswerTable::call_answer))]
-#[inline]
+#[inline(always)]
 fn reference_answer<'a>(
     scene: Scene<'_, 'a>,
     caller: Caller<'a>,
@@ -262,7 +264,7 @@ fn reference_answer<'a>(
 
 /// What a function does that works on the fields of an object.
 #[tactic(auto, unfolding(semantics::specs::AnswerTable::call_answer))]
-#[inline]
+#[inline(always)]
 fn field_answer<'a>(
     scene: Scene<'_, 'a>,
     caller: Caller<'a>,
@@ -304,7 +306,7 @@ fn field_answer<'a>(
 
 /// What a function does that works on a static of a class.
 #[tactic(auto, unfolding(semantics::specs::AnswerTable::call_answer))]
-#[inline]
+#[inline(always)]
 fn static_answer<'a>(
     scene: Scene<'_, 'a>,
     caller: Caller<'a>,
@@ -346,7 +348,7 @@ fn static_answer<'a>(
 
 /// What a function does that works on arrays or strings.
 #[tactic(auto, unfolding(semantics::specs::AnswerTable::call_answer))]
-#[inline]
+#[inline(always)]
 fn array_answer<'a>(
     scene: Scene<'_, 'a>,
     caller: Caller<'a>,

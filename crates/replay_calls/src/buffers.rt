@@ -27,7 +27,7 @@ use std::alloc::AllocError;
 
 /// What a function does that gives a buffer or takes it back.
 #[tactic(auto, unfolding(semantics::specs::AnswerTable::call_answer))]
-#[inline]
+#[inline(always)]
 pub(crate) fn buffer_answer<'a>(
     scene: Scene<'_, 'a>,
     caller: Caller<'a>,

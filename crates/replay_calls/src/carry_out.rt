@@ -1,7 +1,7 @@
 //! What the answer of a function does to what all threads share, to the variables, to the frames and to the pending
 //! exception.
 
-ghost use Rattle.std.specs.Prelude.{◌≡◌, ◌++◌, ℕ, IfOk, List, Some, map, negsuc};
+ghost use Rattle.std.specs.Prelude.{◌≡◌, ◌++◌, ℕ, IfOk, List, Some, map, negsuc, true};
 ghost use Rattle.std.specs.Option.{option_to_list};
 ghost use Rattle.class_rules.specs.Class.{Classes};
 ghost use Rattle.semantics.specs.Answer.{effect_of};
@@ -13,7 +13,8 @@ ghost use Rattle.semantics.specs.Value.{Int};
 ghost use Rattle.semantics.specs.Views.{name_of};
 ghost use Rattle.replay_arguments.specs.Actuals.{actual_view};
 ghost use Rattle.replay_arguments.specs.Shares.{shared_view};
-ghost use Rattle.replay_calls.specs.Answers.{CarriesOut, FitsCall, answer_view, array_given, frames_with};
+ghost use Rattle.replay_calls.specs.declared.carry_out.Done.TheVariants as done;
+ghost use Rattle.replay_calls.specs.Answers.{CarriesOut, CarriesOutWith, FitsCall, GivesAtOnce, answer_view, array_given, frames_with};
 ghost use Rattle.replay_terms.specs.Views.{given_view, variables_view};
 
 use crate::answer::Answer;
@@ -58,18 +59,60 @@ pub fn carry_out<'a>(
         shared.new locals.new pending.new) }
 {
     match answer {
-        Answer::Gives(given) => Ok(Done::Gives(given)),
+        Answer::Copies(object) => { Ok(Done::Lends(copy_lent(&shared.store, turn.in_use, object))) }
+        Answer::Views(object) => Ok(Done::Lends(view_lent(turn.in_use, object))),
+        Answer::Calls(method) => Ok(Done::Calls(method.function.name.as_bytes())),
+        Answer::Halts(trap) => Ok(Done::Halts(trap)),
+        _ => {
+            let given = give(turn, shared, pending, locals, function, actuals, answer)?;
+            Ok(Done::Gives(given))
+        }
+    }
+}
+
+/// Whether a function that answers so gives something at once: no buffer, for which it matters what all buffers take, no call of a method, and
+/// no end of the run.
+#[inline(always)]
+pub fn gives(answer: Answer<'_>) -> bool
+    ensures { result ≡ true → GivesAtOnce answer.entry }
+{
+    !matches!(
+        answer,
+        Answer::Copies(_) | Answer::Views(_) | Answer::Calls(_) | Answer::Halts(_)
+    )
+}
+
+/// Does what a function answers that gives something at once, whatever buffers are in use.
+#[tactic(auto, unfolding(semantics::specs::Answer::effect_of))]
+#[inline(always)]
+pub fn give<'a>(
+    turn: Turn<'_>,
+    shared: &mut Shared<'a>,
+    pending: &mut Option<ObjectId>,
+    locals: &mut Locals<'a>,
+    function: JniFunction,
+    actuals: &[Actual<'a>],
+    answer: Answer<'a>,
+) -> Result<Given<'a>, AllocError>
+    requires fits { FitsCall shared.old.store (array_given (variables_view locals.old.variables) (map actual_view actuals.now))
+        function (answer_view turn.classes.now answer) }
+    requires at_once { GivesAtOnce answer }
+    ensures { IfOk result (λ given. (in_use : InUse) → CarriesOutWith in_use turn.entry function actuals.now answer.entry
+        shared.old locals.old pending.old (done.Gives given) shared.new locals.new pending.new) }
+{
+    match answer {
+        Answer::Gives(given) => Ok(given),
         Answer::Writes {
             object,
             place,
             value,
         } => {
             shared.store.set(object, place, value);
-            Ok(Done::Gives(Given::Nothing))
+            Ok(Given::Nothing)
         }
         Answer::Makes(new) => {
             let name = make(turn.alloc, turn.classes, &mut shared.store, new)?;
-            Ok(Done::Gives(Given::Reference(Some(name))))
+            Ok(Given::Reference(Some(name)))
         }
         Answer::Raises(class) => {
             let name = make(
@@ -79,68 +122,66 @@ pub fn carry_out<'a>(
                 New::Fresh(class),
             )?;
             *pending = Some(name);
-            Ok(Done::Gives(failed(function.prototype().result)))
+            Ok(failed(function.prototype().result))
         }
         Answer::RaisesWith { class, text } => {
             let name = make_thrown(turn.alloc, turn.classes, &mut shared.store, class, text)?;
             *pending = Some(name);
-            Ok(Done::Gives(Given::Number(0)))
+            Ok(Given::Number(0))
         }
         Answer::Pends { exception, given } => {
             *pending = exception;
-            Ok(Done::Gives(given))
+            Ok(given)
         }
         Answer::Ensures(more) => {
             if !locals.frames.has_room(more) {
-                return Ok(Done::Gives(refuse_frames(turn.classes, pending)));
+                return Ok(refuse_frames(turn.classes, pending));
             }
             locals.frames.reserve(more);
-            Ok(Done::Gives(Given::Number(0)))
+            Ok(Given::Number(0))
         }
         Answer::Pushes(capacity) => {
             if !locals.frames.has_room_for(capacity) {
-                return Ok(Done::Gives(refuse_frames(turn.classes, pending)));
+                return Ok(refuse_frames(turn.classes, pending));
             }
             locals.frames.push(turn.alloc, capacity)?;
-            Ok(Done::Gives(Given::Number(0)))
+            Ok(Given::Number(0))
         }
-        Answer::RefusesFrames => Ok(Done::Gives(refuse_frames(turn.classes, pending))),
+        Answer::RefusesFrames => Ok(refuse_frames(turn.classes, pending)),
         Answer::Pops(reference) => {
             locals.frames.pop();
-            Ok(Done::Gives(Given::Reference(reference)))
+            Ok(Given::Reference(reference))
         }
         Answer::DeletesLocal(object) => {
             let level = level_of(&locals.variables, variable_given(actuals, 0));
             locals.frames.remove(level, object);
-            Ok(Done::Gives(Given::Nothing))
+            Ok(Given::Nothing)
         }
         Answer::MakesGlobal(reference) => {
             add_global(&mut shared.globals, reference)?;
-            Ok(Done::Gives(Given::Reference(reference)))
+            Ok(Given::Reference(reference))
         }
         Answer::DeletesGlobal(object) => {
             let variable = variable_given(actuals, 0);
             shared.statics.set(variable, StaticReference::Deleted)?;
             shared.globals.remove(object);
-            Ok(Done::Gives(Given::Nothing))
+            Ok(Given::Nothing)
         }
         Answer::DeletesWeak => {
             let weak = variable_given(actuals, 0);
             shared.statics.set(weak, StaticReference::Deleted)?;
-            Ok(Done::Gives(Given::Nothing))
+            Ok(Given::Nothing)
         }
         Answer::GetsRegion(region) => {
             let array = variable_given(actuals, 3);
             get_region(&shared.store, &mut locals.variables, array, region);
-            Ok(Done::Gives(Given::Nothing))
+            Ok(Given::Nothing)
         }
         Answer::SetsRegion(region) => {
             let array = variable_given(actuals, 3);
             set_region(&mut shared.store, &locals.variables, array, region);
-            Ok(Done::Gives(Given::Nothing))
+            Ok(Given::Nothing)
         }
-        Answer::Copies(object) => { Ok(Done::Lends(copy_lent(&shared.store, turn.in_use, object))) }
-        Answer::Views(object) => Ok(Done::Lends(view_lent(turn.in_use, object))),
         Answer::CopiesBack { object, frees } => {
             let buffer = variable_given(actuals, 1);
             copy_back(
@@ -150,22 +191,22 @@ pub fn carry_out<'a>(
                 buffer,
                 frees,
             )?;
-            Ok(Done::Gives(Given::Nothing))
+            Ok(Given::Nothing)
         }
         Answer::Frees => {
             locals.variables.free(variable_given(actuals, 1));
-            Ok(Done::Gives(Given::Nothing))
+            Ok(Given::Nothing)
         }
         Answer::Owns { object, count } => {
             shared.monitors.put(object, turn.thread, count)?;
-            Ok(Done::Gives(Given::Number(0)))
+            Ok(Given::Number(0))
         }
         Answer::Disowns(object) => {
             shared.monitors.remove(object);
-            Ok(Done::Gives(Given::Number(0)))
+            Ok(Given::Number(0))
         }
-        Answer::Calls(method) => Ok(Done::Calls(method.function.name.as_bytes())),
-        Answer::Halts(trap) => Ok(Done::Halts(trap)),
+        Answer::Copies(_) | Answer::Views(_) => unreachable!(),
+        Answer::Calls(_) | Answer::Halts(_) => unreachable!(),
     }
 }
 
@@ -189,6 +230,7 @@ fn refuse_frames<'a>(classes: &ClassTable, pending: &mut Option<ObjectId>) -> Gi
 }
 
 /// Puts what a call of this kind of result gave into the current frame, if it is a new local reference.
+#[inline(always)]
 pub fn put_local(frames: &mut Frames, kind: ResultKind, given: Given<'_>) -> Result<(), AllocError>
     ensures { IfOk result (λ _. frames.new ≡ frames_with kind (given_view given.entry) frames.old) }
 {

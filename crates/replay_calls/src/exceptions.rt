@@ -14,7 +14,7 @@ use semantics::Trap;
 
 /// What a function does that works on the pending exception.
 #[tactic(auto, unfolding(semantics::specs::AnswerTable::call_answer))]
-#[inline]
+#[inline(always)]
 pub(crate) fn exception_answer<'a>(
     scene: Scene<'_, 'a>,
     caller: Caller<'a>,

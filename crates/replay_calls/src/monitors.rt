@@ -21,7 +21,7 @@ use semantics::ObjectId;
 
 /// What a function does that works on the monitor of an object, where a thread calls it.
 #[tactic(auto, unfolding(semantics::specs::AnswerTable::call_answer))]
-#[inline]
+#[inline(always)]
 pub(crate) fn monitor_answer<'a>(
     scene: Scene<'_, 'a>,
     caller: Caller<'a>,

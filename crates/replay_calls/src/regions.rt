@@ -30,7 +30,7 @@ use semantics::Trap;
 
 /// What a function does that works on a region.
 #[tactic(auto, unfolding(semantics::specs::AnswerTable::call_answer))]
-#[inline]
+#[inline(always)]
 pub(crate) fn region_answer<'a>(
     scene: Scene<'_, 'a>,
     caller: Caller<'a>,
