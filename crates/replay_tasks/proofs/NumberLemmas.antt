@@ -1,5 +1,5 @@
 -- The operands of a call of which none needs a list, or only the last is a number.
-use Rattle.std.proofs.Common.{◌≡◌, ◌+◌, ℕ, Bool, true, false, List, [], ◌∷◌, ◌++◌, length, map, refl, sym, subst, ap, ◌∙◌, length-append, arith}
+use Rattle.std.proofs.Common.{◌≡◌, ◌+◌, Bool, true, false, List, [], ◌∷◌, ◌++◌, length, map, refl, sym, ap, ◌∙◌, length-append, arith}
 use Rattle.std.specs.Prelude.{◌&&◌, zip}
 use Rattle.std.specs.List.{list_all}
 use Rattle.std.proofs.lemmas.List.{length-map, map-append}
@@ -14,9 +14,9 @@ use Rattle.syntax.specs.declared.call.Argument.{Argument as ArgumentInMemory}
 use Rattle.semantics.specs.Task.{Given, NumberOperand, Operand, operand}
 use Rattle.semantics.specs.Term.{term_of}
 use Rattle.replay_terms.specs.Views.{looked_up}
-use Rattle.replay_tasks.specs.Numbers.{AreNumbers, EndInNumber, is_looked_up, operands_for}
+use Rattle.replay_tasks.specs.Numbers.{AreNumbers, is_looked_up, operands_for}
 use Rattle.replay_tasks.specs.Tasks.{ArgumentsInRange, ExprInRange}
-use Rattle.replay_tasks.specs.declared.task.Numbers.TheVariants as numbers
+use Rattle.replay_tasks.specs.declared.call.Numbers.TheVariants as numbers
 use Rattle.replay_tasks.proofs.RangeLemmas.{argument_parts}
 
 both_true : (a b : Bool) → (a && b) ≡ true → (a ≡ true) × (b ≡ true)

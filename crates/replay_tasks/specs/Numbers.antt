@@ -6,9 +6,9 @@ use Rattle.jni.specs.JniFunction.{parameters_for}
 use Rattle.jni.specs.declared.kinds.ParameterKind.{ParameterKind}
 use Rattle.jni.specs.declared.kinds.ParameterKind.TheVariants.{IntNumber, Passed}
 use Rattle.syntax.specs.Tree.{Argument}
-use Rattle.semantics.specs.Task.{Operand, Target, Task, Invoke, operand}
-use Rattle.replay_tasks.specs.declared.task.Numbers.{Numbers}
-use Rattle.replay_tasks.specs.declared.task.Numbers.TheVariants as numbers
+use Rattle.semantics.specs.Task.{Operand, operand}
+use Rattle.replay_tasks.specs.declared.call.Numbers.{Numbers}
+use Rattle.replay_tasks.specs.declared.call.Numbers.TheVariants as numbers
 
 -- an argument for this parameter is looked up in the call's own step
 abbrev pub is_looked_up : ParameterKind → Bool

@@ -1,5 +1,5 @@
 -- Tasks that lie in memory, as those of the language, and what is known of them in accepted programs.
-use Rattle.std.specs.Prelude.{◌≡◌, ℕ, Bool, not, List, [], ◌∷◌, Option, Some, None, IsTrue, map, flat_map}
+use Rattle.std.specs.Prelude.{◌≡◌, ℕ, Bool, not, List, [], ◌∷◌, Option, Some, None, IsTrue, flat_map}
 use Rattle.std.specs.List.{list_all}
 use Rattle.std.specs.Option.{is_none}
 use Rattle.std.specs.Borrow.{Bor}

@@ -2,6 +2,7 @@
 //! those that are no call, and what a step does to the variables and the statics.
 #![tactic(auto)]
 
+mod call;
 mod outcome;
 mod put;
 mod statements;

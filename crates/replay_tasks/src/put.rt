@@ -76,7 +76,35 @@ fn filled<'a>(content: &Content<'a>, given: Given<'a>) -> Option<Content<'a>>
 }
 
 /// Declares a variable with what is given.
+#[inline(always)]
 fn declare<'a>(
+    frames: usize,
+    variables: &mut Variables<'a>,
+    kind: VariableKind,
+    name: &'a Name,
+    given: Given<'a>,
+) -> Result<(), AllocError>
+    ensures { IfOk result (λ _. variables_view variables.new
+        ≡ assign name.entry.now (filled (blank (kind_view kind) frames) (given_view given.entry))
+        (variables_view variables.old)) }
+{
+    match (kind, given) {
+        (VariableKind::Number, Given::Number(number)) => {
+            variables.set_number(name, Value::Int(number))
+        }
+        (VariableKind::Number, Given::Flag(flag)) => {
+            variables.set_number(name, Value::Flag(flag))
+        }
+        (VariableKind::Reference, Given::Reference(object)) => {
+            variables.set_reference(name, Level { number: frames }, object)
+        }
+        _ => declare_other(frames, variables, kind, name, given),
+    }
+}
+
+/// The same of whatever kind.
+#[inline(never)]
+fn declare_other<'a>(
     frames: usize,
     variables: &mut Variables<'a>,
     kind: VariableKind,
@@ -96,6 +124,7 @@ fn declare<'a>(
 
 /// Puts what a call gave, or NULL, where it belongs.
 #[tactic(auto, using(crate::proofs::PutLemmas::put_rules))]
+#[inline(always)]
 pub fn put_given<'a>(
     statics: &mut Statics<'a>,
     frames: usize,

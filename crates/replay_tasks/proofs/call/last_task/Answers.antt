@@ -1,11 +1,11 @@
-use Rattle.std.proofs.Common.{List, [], ◌∷◌, ◌++◌, map, ap, ◌∙◌}
+use Rattle.std.proofs.Common.{[], ◌∷◌, ◌++◌, map, ap, ◌∙◌}
 use Rattle.syntax.specs.Shapes.{ref_tree}
-use Rattle.semantics.specs.Task.{Invoke, NumberOperand, Operand}
+use Rattle.semantics.specs.Task.{Invoke, NumberOperand}
 use Rattle.semantics.specs.Term.{Term}
 use Rattle.replay_terms.specs.Views.{looked_up}
 use Rattle.replay_tasks.specs.Outcomes.{purpose_view}
 use Rattle.replay_tasks.proofs.NumberLemmas.{last_are}
-use Rattle.replay_tasks.proofs.task.last_task.Goals as goal
+use Rattle.replay_tasks.proofs.call.last_task.Goals as goal
 
 pub returns-clause-view : goal.returns-clause-view
 returns-clause-view c =

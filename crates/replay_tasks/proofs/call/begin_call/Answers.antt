@@ -3,7 +3,7 @@ use Rattle.semantics.specs.Task.{Invoke, Operand}
 use Rattle.replay_tasks.specs.Outcomes.{purpose_view}
 use Rattle.replay_tasks.specs.Tasks.{Begins}
 use Rattle.replay_tasks.proofs.NumberLemmas.{given_are}
-use Rattle.replay_tasks.proofs.task.begin_call.Goals as goal
+use Rattle.replay_tasks.proofs.call.begin_call.Goals as goal
 
 pub returns-in-Nowhere-clause-view : goal.returns-in-Nowhere-clause-view
 returns-in-Nowhere-clause-view c =

@@ -10,7 +10,7 @@ use Rattle.replay_terms.specs.Views.{operand_view}
 use Rattle.replay_tasks.specs.Tasks.{ListedInRange}
 use Rattle.std.proofs.lemmas.Result.{IfOk-weaker}
 use Rattle.replay_tasks.proofs.RangeLemmas.{after_first, first_is, operand_first, operands_pushed, rest_in_range, shorter}
-use Rattle.replay_tasks.proofs.task.+push_operands.Goals as goal
+use Rattle.replay_tasks.proofs.call.+push_operands.Goals as goal
 
 pub push_operands-requires : goal.push_operands-requires
 push_operands-requires t c = (

@@ -3,7 +3,7 @@ use Rattle.std.specs.Prelude.{if◌then◌else◌, zip}
 use Rattle.std.proofs.lemmas.Result.{IfOk-weaker}
 use Rattle.syntax.specs.declared.call.Argument.{Argument}
 use Rattle.syntax.specs.Views.{argument_tree}
-use Rattle.jni.specs.JniFunction.{calls_method, prototype}
+use Rattle.jni.specs.JniFunction.{prototype}
 use Rattle.jni.specs.declared.kinds.ParameterKind.{ParameterKind}
 use Rattle.jni.specs.declared.kinds.ParameterKind.TheVariants.{Passed}
 use Rattle.jni.specs.Table.{Facts}
@@ -12,7 +12,7 @@ use Rattle.replay_terms.specs.Views.{operand_view}
 use Rattle.replay_tasks.specs.Tasks.{ArgumentsInRange}
 use Rattle.replay_tasks.proofs.PassedOperands.{of_all}
 use Rattle.replay_tasks.proofs.RangeLemmas.{passed_in_range}
-use Rattle.replay_tasks.proofs.task.push_arguments.Goals as goal
+use Rattle.replay_tasks.proofs.call.push_arguments.Goals as goal
 
 pub push_passed-requires-clause-numbers : goal.push_passed-requires-clause-numbers
 push_passed-requires-clause-numbers c =

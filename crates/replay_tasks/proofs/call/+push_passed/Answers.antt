@@ -8,7 +8,7 @@ use Rattle.replay_terms.specs.Views.{operand_view}
 use Rattle.replay_tasks.specs.Tasks.{ListedInRange}
 use Rattle.std.proofs.lemmas.Result.{IfOk-weaker}
 use Rattle.replay_tasks.proofs.RangeLemmas.{after_first, first_is, operands_pushed, passed_first, rest_in_range, shorter}
-use Rattle.replay_tasks.proofs.task.+push_passed.Goals as goal
+use Rattle.replay_tasks.proofs.call.+push_passed.Goals as goal
 
 pub push_passed-requires : goal.push_passed-requires
 push_passed-requires t c = (

@@ -1,5 +1,5 @@
 use Rattle.std.proofs.Common.{length}
-use Rattle.replay_tasks.proofs.task.+push_passed.Given as goal
+use Rattle.replay_tasks.proofs.call.+push_passed.Given as goal
 
 abbrev pub decreases-push_passed : goal.decreases-push_passed
 decreases-push_passed l = length l.arguments.now
