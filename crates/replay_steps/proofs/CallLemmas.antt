@@ -9,7 +9,7 @@ use Rattle.syntax.specs.Tree.{SourceUnit}
 use Rattle.class_rules.specs.Class.{Classes}
 use Rattle.jni.specs.declared.access.Access.TheVariants.{ElementsCopy, ArrayView, CharsCopy, CharsView}
 use Rattle.jni.specs.declared.function.JniFunction.{JniFunction}
-use Rattle.jni.specs.declared.function.JniFunction.TheVariants.{GetBuffer, ReleaseBuffer, PopLocalFrame, CallStaticVoidMethod, CallStaticIntMethod, CallStaticObjectMethod}
+use Rattle.jni.specs.declared.function.JniFunction.TheVariants.{GetBuffer, ReleaseBuffer, CallStaticVoidMethod, CallStaticIntMethod, CallStaticObjectMethod}
 use Rattle.jni.specs.JniFunction.{calls_method, is_allowed_pending, prototype}
 use Rattle.jni.specs.declared.kinds.ResultKind.{ResultKind}
 use Rattle.jni.specs.declared.kinds.ResultKind.TheVariants.{NewLocal}
@@ -416,3 +416,13 @@ module _ (unit : SourceUnit) (classes : Classes) (in_use : BuffersInUse) (k : �
       ∙ ap (λ (c : CallResult). goes_by unit classes in_use k s (calls has t rest sees) line i.purpose f args rest (deep has t rest sees) s u (Gave c)) (sym failing)
       ∙ gave unit classes in_use k s (calls has t rest sees) line i.purpose f args rest s (variables_view vs) frames (Some (out_of_memory classes)) new g (deep has t rest sees)
       ∙ ap (λ (fs : List Frame). left_by k s (in_locals t (variables_view vs) fs (Some (out_of_memory classes))) rest (outcome_for line i.purpose g) new) (ap (λ (c : CallResult). frames_with (prototype f).result c frames) failing ∙ failed_frames (prototype f).result frames))
+
+-- the answer, by the element type that is wanted
+pub has_answer : (scene : Scene) (i : Invocation) (args : List Actual) (a : Answer) (T : ElementType) → T ≡ wanted_element scene.variables i.purpose
+    → a ≡ answered (trap_of scene.classes (seen_by scene i args) T i.function)
+    (call_answer scene.unit scene.classes scene.thread (seen_by scene i args) i.function)
+    → FitsCall scene.shared.heap (array_given (variables_view scene.variables) args) i.function a → HasAnswer scene i args a
+has_answer scene i args a T same is fits = record {
+  is = is ∙ ap (λ (V : ElementType). answered (trap_of scene.classes (seen_by scene i args) V i.function) (call_answer scene.unit scene.classes scene.thread (seen_by scene i args) i.function)) same;
+  fits = fits;
+}

@@ -1,5 +1,5 @@
 -- A call that goes on in memory is a return into the caller that it stands for.
-use Rattle.std.proofs.Common.{◌≡◌, ◌+◌, ℕ, List, [], ◌∷◌, map, Option, Some, None, nat_le, refl, sym, ap, ◌∙◌, subst, length}
+use Rattle.std.proofs.Common.{◌≡◌, ◌+◌, ℕ, List, [], ◌∷◌, Option, Some, None, nat_le, refl, sym, ap, ◌∙◌, subst, length}
 use Rattle.std.specs.Prelude.{if◌then◌else◌}
 use Rattle.base.specs.Bytes.{Identifier}
 use Rattle.base.specs.Limits.{most_activations}

@@ -244,7 +244,7 @@ module _ (scene : Scene) where
 
   module _ (i i' : Invocation) (scene' : Scene) (same : task_view (task.Invoke i') ≡ task_view (task.Invoke i)) (ready : is_ready (sight_in s variables).number (operands_view i.operands) ≡ true)
       (args : List Actual) (looked_up : args ≡ actuals (sight_in s variables) i.function (operands_view i.operands)) where
-    calls : (t : Thread) → Sees scene t → effect_of (sight_of s t) (task_view (task.Invoke i)) ≡ Calls i.line (purpose_view i.line i.purpose) i.function args
+    pub calls : (t : Thread) → Sees scene t → effect_of (sight_of s t) (task_view (task.Invoke i)) ≡ Calls i.line (purpose_view i.line i.purpose) i.function args
     calls t sees =
         ap (λ (sight : Sight). effect_of sight (task_view (task.Invoke i))) (sees_so scene t sees)
         ∙ rw (ready, looked_up) refl

@@ -9,3 +9,4 @@ mod AttemptLemmas
 pub mod SameLists
 mod FinishedTasks
 mod FieldLemmas
+mod AtOnceLemmas

@@ -1,5 +1,5 @@
 -- Whether a thread waits for a monitor, by the task that is begun.
-use Rattle.std.specs.Prelude.{◌≡◌, ℕ, Bool, false, ◌&&◌, List, Option, Some, is_none, map}
+use Rattle.std.specs.Prelude.{◌≡◌, ℕ, Bool, false, ◌&&◌, List, Option, Some, is_none}
 use Rattle.base.specs.declared.element.ElementType.TheVariants.{Int as JInt}
 use Rattle.class_rules.specs.Class.{Classes}
 use Rattle.jni.specs.declared.function.JniFunction.{JniFunction}

@@ -264,7 +264,7 @@ fn call<'a>(
 }
 
 /// The element type of the buffer that a call is to fill; `jint` where there is none.
-fn wanted_element(variables: &Variables<'_>, purpose: Purpose<'_>) -> ElementType
+pub(crate) fn wanted_element(variables: &Variables<'_>, purpose: Purpose<'_>) -> ElementType
     ensures { result ≡ wanted_element variables.now purpose.entry }
 {
     match purpose {

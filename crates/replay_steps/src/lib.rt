@@ -2,6 +2,7 @@
 #![tactic(auto)]
 
 mod activation;
+mod at_once;
 mod attempt;
 mod callers;
 mod field_calls;
@@ -10,6 +11,7 @@ mod step;
 mod wait;
 
 pub use activation::{Activation, Outer, Work, advance, attempt_step, work_of};
+pub use at_once::attempt_call;
 pub use attempt::Attempt;
 pub use callers::{Entering, entering_of, resume};
 pub use field_calls::attempt_field;

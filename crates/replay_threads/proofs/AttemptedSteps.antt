@@ -3,6 +3,8 @@ use Rattle.std.proofs.Common.{◌≡◌, ◌≤◌, ℕ, zero, suc, Bool, true, 
 use Rattle.std.specs.Global.{Vec}
 use Rattle.std.specs.Prelude.{slice_get, slice_set}
 use Rattle.class_rules.specs.Class.{Classes}
+use Rattle.syntax.specs.Tree.{SourceUnit}
+use Rattle.syntax.specs.Views.{unit_tree}
 use Rattle.semantics.specs.State.{in_use}
 use Rattle.semantics.specs.Thread.{Shared}
 use Rattle.semantics.specs.Views.{name_of}
@@ -12,6 +14,8 @@ use Rattle.semantics.specs.declared.object_id.ObjectId.{ObjectId}
 use Rattle.replay_arguments.specs.Shares.{shared_view}
 use Rattle.replay_arguments.specs.declared.shared.Shared.{Shared as SharedInMemory}
 use Rattle.replay_steps.specs.Activations.{Advances}
+use Rattle.replay_arguments.specs.declared.scene.Turn.{Turn}
+use Rattle.replay_steps.specs.AtOnce.{AttemptsInvocation}
 use Rattle.replay_steps.specs.Attempts.{AttemptsCall}
 use Rattle.replay_steps.specs.FieldCalls.{AttemptsField}
 use Rattle.replay_steps.specs.Steps.{Scene, scene_with}
@@ -22,8 +26,8 @@ use Rattle.replay_steps.proofs.SameLists.{holding, same_list}
 use Rattle.replay_tasks.specs.declared.outcome.Outcome.TheVariants as outcome
 use Rattle.replay_threads.specs.declared.state.State.{State}
 use Rattle.replay_threads.specs.declared.thread.Thread.{Thread}
-use Rattle.replay_threads.specs.States.{AreInRange, AttemptsFieldTurn, AttemptsTurn, IsLiveAt}
-use Rattle.replay_threads.specs.Threads.{AttemptsNumber, AttemptsStep, TakesStep}
+use Rattle.replay_threads.specs.States.{AreInRange, AttemptsCallTurn, AttemptsFieldTurn, AttemptsTurn, IsLiveAt}
+use Rattle.replay_threads.specs.Threads.{AttemptsCalling, AttemptsNumber, AttemptsStep, TakesStep}
 use Rattle.replay_threads.proofs.StateLemmas.{takes}
 use Rattle.replay_threads.proofs.ThreadLemmas.{ended_step}
 
@@ -53,6 +57,20 @@ module _ (classes : Classes) (s s' : Shared) (t : Thread) (a new : Activation) (
     same.0,
     ap (λ (b : Activation). let u : Thread = record t { activation = Some b } in u) same.1
         ∙ ap (λ (o : Option Activation). let u : Thread = record t { activation = o } in u) (sym is),
+  )
+
+module _ (turn : Turn) (s s' : Shared) (t : Thread) (a new : Activation) (is : t.activation ≡ Some a) (pending : Option ObjectId) where
+  -- a thread makes a call at once
+  pub call_attempted : (took : Bool) → AttemptsInvocation turn s a t.pending took s' new pending
+      → AttemptsCalling (unit_tree turn.unit.now) turn.classes.now turn.thread s t took s' (record t { activation = Some new; pending = pending })
+  call_attempted true does = λ in_use x h live.
+      let left : Thread = record t { activation = Some new; pending = pending } in
+      ended_step (unit_tree turn.unit.now) turn.classes.now in_use turn.thread false s s' t a new pending x is h outcome.Stays (Some event.Quiet) s' left (refl, refl, refl) (does in_use)
+  call_attempted false same = (
+    same.0,
+    ap (λ (b : Activation). let u : Thread = record t { activation = Some b; pending = pending } in u) same.1
+        ∙ ap (λ (o : Option Activation). let u : Thread = record t { activation = o; pending = pending } in u) (sym is)
+        ∙ ap (λ (r : Option ObjectId). let u : Thread = record t { pending = r } in u) same.2,
   )
 
 -- a thread that is put where it was
@@ -91,6 +109,16 @@ module _ (m : State) (k place : ℕ) (t after : Thread) (shared : SharedInMemory
       let step = subst (λ (T : Classes). TakesStep unit T (in_use s) k false (shared_view m.shared) t (Some event.Quiet) (shared_view shared) after) (known ∙ ap (λ (v : World). v.classes) (sym h.world)) (does unit (in_use s) k) in
       takes unit w m s h range k false place t after (Some event.Quiet) left_state (omega (arith, here.counted)) at (here.live t at) here.runs (sym (here.free unit w s h range)) step refl refl refl refl
   field_turn_attempted false same =
+      ap (λ (x : SharedInMemory). let n : State = record m { shared = x; threads = holding m.threads (slice_set m.threads.items place after) ok } in n) (same_shared shared m.shared same.0)
+      ∙ ap (λ (v : Vec Thread). let n : State = record m { threads = v } in n)
+      (same_list m.threads (slice_set m.threads.items place after) ok (ap (slice_set m.threads.items place) same.1 ∙ put_back m.threads.items place t at))
+
+  -- the same of a call that is made at once
+  pub call_turn_attempted : (unit : SourceUnit) (took : Bool) → AttemptsCalling unit classes k (shared_view m.shared) t took (shared_view shared) after → AttemptsCallTurn unit m k took left_state
+  call_turn_attempted unit true does = λ w s h.
+      let step = subst (λ (T : Classes). TakesStep unit T (in_use s) k false (shared_view m.shared) t (Some event.Quiet) (shared_view shared) after) (known ∙ ap (λ (v : World). v.classes) (sym h.world)) (does (in_use s)) in
+      takes unit w m s h range k false place t after (Some event.Quiet) left_state (omega (arith, here.counted)) at (here.live t at) here.runs (sym (here.free unit w s h range)) step refl refl refl refl
+  call_turn_attempted unit false same =
       ap (λ (x : SharedInMemory). let n : State = record m { shared = x; threads = holding m.threads (slice_set m.threads.items place after) ok } in n) (same_shared shared m.shared same.0)
       ∙ ap (λ (v : Vec Thread). let n : State = record m { threads = v } in n)
       (same_list m.threads (slice_set m.threads.items place after) ok (ap (slice_set m.threads.items place) same.1 ∙ put_back m.threads.items place t at))

@@ -80,6 +80,11 @@ abbrev pub AttemptsFieldTurn : StateInMemory → ℕ → (took : Bool) → State
 AttemptsFieldTurn old k true new = (unit : SourceUnit) → TakesEntry unit old (entry.Step k false) true new
 AttemptsFieldTurn old k false new = new ≡ old
 
+-- the same of a call in this unit
+abbrev pub AttemptsCallTurn : SourceUnit → StateInMemory → ℕ → (took : Bool) → StateInMemory → Type 0
+AttemptsCallTurn unit old k true new = TakesEntry unit old (entry.Step k false) true new
+AttemptsCallTurn unit old k false new = new ≡ old
+
 -- ---- clearings
 
 -- whether the weak references to these objects may be cleared

@@ -253,6 +253,12 @@ AttemptsStep shared old attempt.Reduced new = StepsAnywhere shared old (Some eve
 AttemptsStep shared old attempt.Stuck new = StepsAnywhere shared old None new
 AttemptsStep shared old attempt.Left new = new ≡ old
 
+-- thread k took its step, whatever all buffers take, with nothing refused, or all is as it was
+abbrev pub AttemptsCalling : SourceUnit → Classes → (k : ℕ) → Shared → ThreadInMemory → (took : Bool) → Shared → ThreadInMemory → Type 0
+AttemptsCalling unit classes k shared old true after new =
+    (in_use : BuffersInUse) → TakesStep unit classes in_use k false shared old (Some event.Quiet) after new
+AttemptsCalling unit classes k shared old false after new = (after ≡ shared) × (new ≡ old)
+
 -- a thread took its step, whose turn ever it is, with nothing refused, or all is as it was
 abbrev pub AttemptsNumber : Classes → Shared → ThreadInMemory → (took : Bool) → Shared → ThreadInMemory → Type 0
 AttemptsNumber classes shared old true after new =

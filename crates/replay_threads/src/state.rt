@@ -8,14 +8,14 @@ ghost use Rattle.type_rules.specs.TypeRules.{IsWellTyped};
 ghost use Rattle.semantics.specs.Journal.{Step, Clearing};
 ghost use Rattle.semantics.specs.Views.{names_of};
 ghost use Rattle.syntax.specs.Tree.{SourceUnit};
-ghost use Rattle.replay_threads.specs.States.{AreInRange, AttemptsFieldTurn, AttemptsTurn, IsLiveAt, TakesEntry, TakesNone, IsNoted, AreStandings, Waits, call_copies, call_views, copied_in, in_use_by, variables_of, viewed_in};
+ghost use Rattle.replay_threads.specs.States.{AreInRange, AttemptsCallTurn, AttemptsFieldTurn, AttemptsTurn, IsLiveAt, TakesEntry, TakesNone, IsNoted, AreStandings, Waits, call_copies, call_views, copied_in, in_use_by, variables_of, viewed_in};
 ghost use Rattle.replay_threads.specs.Threads.{ThreadInRange, last_first};
 ghost use Rattle.semantics.specs.Thread.{lengths_copied, objects_viewed};
 ghost use Rattle.replay_terms.specs.Views.{in_use_view};
 ghost use Rattle.report.specs.ThreadStatus.{standing_view};
 
 use crate::clearing::may_clear;
-use crate::thread::{Thread, is_waiting, take_step, try_field, try_step};
+use crate::thread::{Thread, calls_next, is_waiting, take_step, try_call, try_field, try_step};
 use functions::Functions;
 use replay_arguments::{Shared, Turn};
 use replay_steps::{Activation, Attempt};
@@ -252,6 +252,37 @@ fn attempt_field_turn(
     try_field(alloc, classes, &mut state.shared, &mut state.threads[place])
 }
 
+/// The same where it is another call that gives something at once; false where there is more to do, and then all is as it was.
+#[inline(always)]
+fn attempt_call_turn<'a>(
+    alloc: Global,
+    functions: &Functions<'a>,
+    state: &mut State<'a>,
+    k: u8,
+    place: usize,
+) -> Result<bool, AllocError>
+    requires range { AreInRange state.old.threads.items }
+    requires live { IsLiveAt state.old k place }
+    ensures step { IfOk result (λ took. AttemptsCallTurn (unit_tree functions.now) state.old k took state.new) }
+    ensures range { IfOk result (λ _. AreInRange state.new.threads.items) }
+{
+    if !calls_next(&state.threads[place]) {
+        return Ok(false);
+    }
+    let turn = Turn {
+        alloc,
+        unit: functions.items(),
+        classes: state.world.classes(),
+        thread: k,
+        in_use: BuffersInUse {
+            copied: 0,
+            views: 0,
+        },
+        refused: false,
+    };
+    try_call(&turn, &mut state.shared, &mut state.threads[place])
+}
+
 /// The same, whatever the step does, with nothing refused.
 #[inline(always)]
 fn take_longer_turn<'a>(
@@ -270,6 +301,9 @@ fn take_longer_turn<'a>(
     ensures range { IfOk result (λ _. AreInRange state.new.threads.items) }
 {
     if attempt_field_turn(alloc, state, place)? {
+        return Ok(true);
+    }
+    if attempt_call_turn(alloc, functions, state, k, place)? {
         return Ok(true);
     }
     take_whole_turn(alloc, functions, state, k, place, false)

@@ -14,7 +14,7 @@ ghost use Rattle.semantics.specs.Views.{name_of};
 ghost use Rattle.class_rules.specs.ClassIds.{number_of};
 ghost use Rattle.class_rules.specs.Grown.{IsGrown};
 ghost use Rattle.semantics.specs.World.{Invocation};
-ghost use Rattle.replay_threads.specs.Threads.{argument_content, AreCalling, AttemptsNumber, AttemptsStep, BeginsNext, IsBegun, EndsStep, HasCalled, HasLeft, HasPushed, HasResumed, HasReturned, TakesTurn, ThreadInRange, ThreadWaits, WorkInRange, event_of, last_first};
+ghost use Rattle.replay_threads.specs.Threads.{argument_content, AreCalling, AttemptsCalling, AttemptsNumber, AttemptsStep, BeginsNext, IsBegun, EndsStep, HasCalled, HasLeft, HasPushed, HasResumed, HasReturned, TakesTurn, ThreadInRange, ThreadWaits, WorkInRange, event_of, last_first};
 ghost use Rattle.replay_steps.specs.Callers.{IsCalling};
 ghost use Rattle.replay_tasks.specs.Outcomes.{result_view};
 ghost use Rattle.replay_tasks.specs.Tasks.{StatementsInRange};
@@ -30,10 +30,10 @@ use functions::Functions;
 use replay_arguments::{Locals, Shared, Turn};
 use replay_objects::{Frames, Names, Store};
 use replay_steps::{
-    Activation, Attempt, Entering, advance, attempt_field, attempt_step, entering_of, resume,
-    waits, work_of,
+    Activation, Attempt, Entering, advance, attempt_call, attempt_field, attempt_step, entering_of,
+    resume, waits, work_of,
 };
-use replay_tasks::{CallResult, Outcome};
+use replay_tasks::{CallResult, Outcome, Task};
 use replay_terms::{Content, Value, Variables};
 use semantics::{CALL_LEVEL, Ending, Event, ObjectId, Trap};
 use std::alloc::{AllocError, Global};
@@ -532,6 +532,35 @@ pub(crate) fn try_field<'a>(
     }
     match &mut thread.activation {
         Some(activation) => attempt_field(alloc, classes, shared, activation),
+        None => Ok(false),
+    }
+}
+
+/// Whether a thread's next step is that of a call of the JNI.
+#[inline(always)]
+pub(crate) fn calls_next(thread: &Thread<'_>) -> bool {
+    match &thread.activation {
+        Some(activation) => matches!(&activation.work.task, Some(Task::Invoke(_))),
+        None => false,
+    }
+}
+
+/// Lets a thread take its next step, where that is a call that gives something at once; false where there is more to do, and then all is as it
+/// was.
+#[inline(always)]
+pub(crate) fn try_call<'a>(
+    turn: &Turn<'a>,
+    shared: &mut Shared<'a>,
+    thread: &mut Thread<'a>,
+) -> Result<bool, AllocError>
+    requires range { ThreadInRange thread.old }
+    requires grown { IsGrown turn.now.classes.now }
+    ensures step { IfOk result (λ took. AttemptsCalling (unit_tree turn.now.unit.now) turn.now.classes.now turn.now.thread
+        (shared_view shared.old) thread.old took (shared_view shared.new) thread.new) }
+    ensures range { IfOk result (λ _. ThreadInRange thread.new) }
+{
+    match &mut thread.activation {
+        Some(activation) => attempt_call(turn, shared, &mut thread.pending, activation),
         None => Ok(false),
     }
 }

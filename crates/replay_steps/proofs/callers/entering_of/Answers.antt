@@ -1,5 +1,5 @@
 use Rattle.std.proofs.Common.{List, drop, map, ap, ◌∙◌, rules}
-use Rattle.semantics.specs.Arguments.{Actual, actuals, passed_value}
+use Rattle.semantics.specs.Arguments.{Actual, passed_value}
 use Rattle.replay_arguments.specs.Actuals.{actual_view}
 use Rattle.replay_arguments.specs.Shares.{shared_view, sight_in}
 use Rattle.replay_tasks.specs.declared.task.Task.TheVariants as task

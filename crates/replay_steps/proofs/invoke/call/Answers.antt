@@ -1,32 +1,16 @@
-use Rattle.std.proofs.Common.{◌≡◌, Result, Ok, Err, List, IfOk, map, sym, ap, ◌∙◌, subst}
-use Rattle.base.specs.declared.element.ElementType.{ElementType}
+use Rattle.std.proofs.Common.{Result, Ok, Err, IfOk, map, sym, ap, subst}
 use Rattle.jni.specs.Table.{Facts}
 use Rattle.syntax.specs.Views.{unit_tree}
-use Rattle.semantics.specs.Answer.{Answer}
-use Rattle.semantics.specs.AnswerTable.{call_answer}
-use Rattle.semantics.specs.Checks.{trap_of}
-use Rattle.semantics.specs.Arguments.{Actual}
 use Rattle.semantics.specs.Views.{name_of}
 use Rattle.replay_arguments.specs.Actuals.{actual_view}
 use Rattle.replay_arguments.specs.Shares.{shared_view}
-use Rattle.replay_calls.specs.Answers.{answered, CarriesOut, FitsCall, answer_view, array_given}
+use Rattle.replay_calls.specs.Answers.{CarriesOut, answer_view}
 use Rattle.replay_calls.specs.declared.carry_out.Done.{Done}
-use Rattle.replay_tasks.specs.declared.task.Invocation.{Invocation}
-use Rattle.replay_terms.specs.Views.{in_use_view, variables_view}
-use Rattle.replay_steps.specs.Calls.{HasAnswer, MakesCall, seen_by, wanted_element}
+use Rattle.replay_terms.specs.Views.{in_use_view}
+use Rattle.replay_steps.specs.Calls.{MakesCall}
 use Rattle.replay_steps.specs.Steps.{Scene, scene_of}
-use Rattle.replay_steps.proofs.CallLemmas.{call_gives, call_halts, call_lends, call_waits}
+use Rattle.replay_steps.proofs.CallLemmas.{call_gives, call_halts, call_lends, call_waits, has_answer}
 use Rattle.replay_steps.proofs.invoke.call.Goals as goal
-
--- the answer, by the element type that is wanted
-has_answer : (scene : Scene) (i : Invocation) (args : List Actual) (a : Answer) (T : ElementType) → T ≡ wanted_element scene.variables i.purpose
-    → a ≡ answered (trap_of scene.classes (seen_by scene i args) T i.function)
-    (call_answer scene.unit scene.classes scene.thread (seen_by scene i args) i.function)
-    → FitsCall scene.shared.heap (array_given (variables_view scene.variables) args) i.function a → HasAnswer scene i args a
-has_answer scene i args a T same is fits = record {
-  is = is ∙ ap (λ (V : ElementType). answered (trap_of scene.classes (seen_by scene i args) V i.function) (call_answer scene.unit scene.classes scene.thread (seen_by scene i args) i.function)) same;
-  fits = fits;
-}
 
 -- what holds of an answer, by two things that do
 both_ok : {A E : Type 0} {P Q R : A → Type 0} → (r : Result A E) → ((a : A) → P a → Q a → R a) → IfOk r P → IfOk r Q → IfOk r R
