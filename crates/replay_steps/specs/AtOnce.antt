@@ -47,5 +47,6 @@ TriesInvocation turn i false s locals pending s' locals' pending' = (s' ≡ s) �
 -- the same of a call in progress
 abbrev pub AttemptsInvocation : Turn → Shared → Activation → Option ObjectId → (took : Bool) → Shared → Activation → Option ObjectId → Type 0
 AttemptsInvocation turn s old pending true s' new pending' =
-    (in_use : BuffersInUse) → Advances false (scene_in in_use turn s old.locals pending) old.work outcome.Stays (scene_in in_use turn s' new.locals pending') new.work
+    (in_use : BuffersInUse) → Advances false (scene_in in_use turn s old.locals pending) old.work outcome.Stays
+    (scene_in in_use turn s' new.locals pending') new.work
 AttemptsInvocation turn s old pending false s' new pending' = (s' ≡ s) × (new ≡ old) × (pending' ≡ pending)
