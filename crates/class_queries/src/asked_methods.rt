@@ -8,7 +8,7 @@ ghost use Rattle.semantics.specs.Load.{asks_methods, methods_load};
 ghost use Rattle.class_queries.specs.Asking.{is_asking, asks_itself};
 
 use jni::JniFunction;
-use syntax::{Block, Call, Form, Function, Item};
+use syntax::{Block, Call, Else, Form, Function, Item};
 use type_rules::own_call;
 use world_values::World;
 
@@ -35,12 +35,13 @@ fn form_asks(form: &Form) -> bool
     ensures { (line : ℕ) → result ≡ list_any asks_itself (statements_within (form_tree line form.now)) }
 {
     match form {
-        Form::If(_, then) => asks_itself(form) || block_asks(then),
-        Form::IfElse(_, then, other) => {
+        Form::Plain(_) => asks_itself(form),
+        Form::If(_, then, Else::Nothing) => asks_itself(form) || block_asks(then),
+        Form::If(_, then, Else::Block(other)) => {
             asks_itself(form) || block_asks(then) || block_asks(other)
         }
         Form::While(_, body) => block_asks(body),
-        _ => asks_itself(form),
+        Form::Return(_) => false,
     }
 }
 

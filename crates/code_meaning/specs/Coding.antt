@@ -12,11 +12,11 @@ use Rattle.syntax.specs.declared.expr.PrefixOp.TheVariants.{LogicalNot, Compleme
 use Rattle.syntax.specs.declared.expr.BinaryOp.{BinaryOp}
 use Rattle.syntax.specs.declared.expr.BinaryOp.TheVariants.{LogicalOr, LogicalAnd, BitOr, BitXor, BitAnd, Equal, NotEqual, Less, LessEqual, Greater, GreaterEqual, ShiftLeft, ShiftRight, Add, Subtract, Multiply, Divide, Remainder}
 use Rattle.syntax.specs.declared.expr.Constant.{Constant}
-use Rattle.syntax.specs.Tree.{Expr, Argument, RightSide, FromExpr, FromCall, Test, TestExpr, TestCall, Stmt, Block, End, Next, Function}
+use Rattle.syntax.specs.Tree.{Expr, Argument, RightSide, FromExpr, FromCall, Test, TestExpr, TestCall, PlainStmt, Stmt, Else, Block, End, Next, Function}
 use Rattle.type_rules.specs.declared.ty.ExprType.{ExprType}
 use Rattle.type_rules.specs.declared.ty.ExprType.TheVariants.{Ref, Global, Weak, FieldId, MethodId, Buffer, Array}
 use Rattle.type_rules.specs.ExprTypes.{is_jint}
-use Rattle.type_rules.specs.TypeRules.{variable_type}
+use Rattle.type_rules.specs.TypeRules.{declared_type}
 use Rattle.jni.specs.declared.function.JniFunction.{JniFunction}
 use Rattle.jni.specs.JniFunction.{parameters_for, function_named}
 use Rattle.jni.specs.declared.kinds.ParameterKind.{ParameterKind}
@@ -313,6 +313,20 @@ return_code known line (term.Named constants.Null) = ReturnReference Null ∷ []
 return_code known line (Read x) = of_slot returned_code (lookup x known)
 return_code known line t = term_code known line t ++ ReturnJint ∷ []
 
+-- a return
+abbrev pub result_code : Known → (line : ℕ) → Option Expr → List Instr
+result_code known line None = Return ∷ []
+result_code known line (Some e) = return_code known line (term_of e)
+
+-- a plain statement
+abbrev pub plain_code : Layout → (line : ℕ) → PlainStmt → List Instr
+plain_code l line (tree.Declare t x r) = right_code l.known line (new_slot (declared_type t) l) r
+plain_code l line (tree.DeclareArray t x size) = ClearArray (record { start = l.slots.numbers; len = size }) ∷ []
+plain_code l line (tree.Assign x r) = assign_code l.known line (lookup x l.known) r
+plain_code l line (tree.AssignElement x i e) = expr_code l.known line i ++ (expr_code l.known line e ++ of_slot (write_code line) (lookup x l.known))
+plain_code l line (tree.Perform c) = named_call_code l.known line target.Dropped (function_named c.function) c.arguments
+plain_code l line (tree.PutJint e) = expr_code l.known line e ++ PutJint ∷ []
+
 -- the two branches of an `if` after its test, of which each ends by a jump
 abbrev pub paths_code : (then' else' : List Instr) → List Instr
 paths_code then' else' = JumpIfFalse (length then' + 1) ∷ (then' ++ Jump (length else') ∷ else')
@@ -341,19 +355,15 @@ if_code known line test then' else' = test_code known line test ++ paths_code th
 abbrev mutual
   -- a statement
   pub stmt_code : Layout → Stmt → List Instr
-  stmt_code l (tree.Declare line t x r) = right_code l.known line (new_slot (variable_type t) l) r
-  stmt_code l (tree.DeclareBuffer line t x r) = right_code l.known line (new_slot (Buffer t true) l) r
-  stmt_code l (tree.DeclareChars line x r) = right_code l.known line (new_slot (Buffer JChar false) l) r
-  stmt_code l (tree.DeclareArray line t x size) = ClearArray (record { start = l.slots.numbers; len = size }) ∷ []
-  stmt_code l (tree.Assign line x r) = assign_code l.known line (lookup x l.known) r
-  stmt_code l (tree.AssignElement line x i e) = expr_code l.known line i ++ (expr_code l.known line e ++ of_slot (write_code line) (lookup x l.known))
-  stmt_code l (tree.Perform line c) = named_call_code l.known line target.Dropped (function_named c.function) c.arguments
-  stmt_code l (tree.PutJint line e) = expr_code l.known line e ++ PutJint ∷ []
-  stmt_code l (tree.If line test then') = if_code l.known line test (block_code l then') []
-  stmt_code l (tree.IfElse line test then' else') = if_code l.known line test (block_code l then') (block_code (closed l (block_layout l then')) else')
+  stmt_code l (tree.Plain line p) = plain_code l line p
+  stmt_code l (tree.If line test then' else') = if_code l.known line test (block_code l then') (else_code (closed l (block_layout l then')) else')
   stmt_code l (tree.While line test body) = loop_code (expr_code l.known line test) (block_code l body)
-  stmt_code l (tree.Return line) = Return ∷ []
-  stmt_code l (tree.ReturnValue line e) = return_code l.known line (term_of e)
+  stmt_code l (tree.Return line e) = result_code l.known line e
+
+  -- the second block of an `if`, where it has one
+  pub else_code : Layout → Else → List Instr
+  else_code l tree.NoElse = []
+  else_code l (tree.ElseBlock b) = block_code l b
 
   -- the statements of a block
   pub block_code : Layout → Block → List Instr

@@ -4,12 +4,11 @@ use Rattle.std.specs.List.{AllZip}
 use Rattle.base.specs.Limits.{most_elements}
 use Rattle.base.specs.Bytes.{Identifier, lookup}
 use Rattle.base.specs.declared.element.ElementType.{ElementType}
-use Rattle.base.specs.declared.element.ElementType.TheVariants.{Char as JChar}
 use Rattle.syntax.specs.Tree as tree
 use Rattle.syntax.specs.declared.expr.Constant.TheVariants as constants
 use Rattle.syntax.specs.declared.expr.PrefixOp.TheVariants.{LogicalNot, Complement, ToWord, ToInt}
 use Rattle.syntax.specs.declared.expr.BinaryOp.{BinaryOp}
-use Rattle.syntax.specs.Tree.{Expr, Argument, Call, RightSide, FromExpr, FromCall, Test, TestExpr, TestCall, Stmt, Block, End, Next, Function}
+use Rattle.syntax.specs.Tree.{Expr, Argument, Call, RightSide, FromExpr, FromCall, Test, TestExpr, TestCall, PlainStmt, Stmt, Else, Block, End, Next, Function}
 use Rattle.jni.specs.declared.access.Access.{Access}
 use Rattle.jni.specs.declared.function.JniFunction.{JniFunction}
 use Rattle.jni.specs.JniFunction.{function_named, prototype, parameters_for, takes_count}
@@ -20,7 +19,7 @@ use Rattle.jni.specs.declared.kinds.ResultKind.TheVariants.{NewLocal, NewGlobal,
 use Rattle.type_rules.specs.declared.ty.ExprType.{ExprType}
 use Rattle.type_rules.specs.declared.ty.ExprType.TheVariants.{Word, Jint, Flag, Truth, Ref, Global, Weak, FieldId, MethodId, Buffer, Array}
 use Rattle.type_rules.specs.ExprTypes.{group, is_buffer_for}
-use Rattle.type_rules.specs.TypeRules.{variable_type, is_droppable, is_mode}
+use Rattle.type_rules.specs.TypeRules.{declared_type, is_droppable, is_mode}
 use Rattle.type_rules.specs.TypeGroups.{IsIndexType, IsNumberType, OperatorFits}
 use Rattle.code.specs.declared.slots.SlotCounts.{SlotCounts}
 use Rattle.semantics.specs.Value.{Value}
@@ -337,24 +336,30 @@ ReturnFits known t = NumberFits known t Jint
 abbrev pub IsNew : Known → Identifier → Type 0
 IsNew known x = lookup x known ≡ None
 
+-- a plain statement
+abbrev pub PlainFits : Known → PlainStmt → Type 0
+PlainFits known (tree.Declare t x r) = IsNew known x × RightFits known (declared_type t) r
+PlainFits known (tree.DeclareArray t x size) = IsNew known x × (0 < size) × (size ≤ most_elements)
+PlainFits known (tree.Assign x r) = (s : Slot) × (lookup x known ≡ Some s) × RightFits known s.ty r
+PlainFits known (tree.AssignElement x i e) =
+    ((n : Slot) × (lookup x known ≡ Some n) × HasElements n.ty)
+    × ((r : ExprType) × IsIndexType r × NumberFits known (term_of i) r) × NumberFits known (term_of e) Jint
+PlainFits known (tree.Perform c) = CallDrops known c
+PlainFits known (tree.PutJint e) = NumberFits known (term_of e) Jint
+
 abbrev mutual
   -- a statement
   pub StmtFits : Layout → Stmt → Type 0
-  StmtFits l (tree.Declare line t x r) = IsNew l.known x × RightFits l.known (variable_type t) r
-  StmtFits l (tree.DeclareBuffer line t x r) = IsNew l.known x × RightFits l.known (Buffer t true) r
-  StmtFits l (tree.DeclareChars line x r) = IsNew l.known x × RightFits l.known (Buffer JChar false) r
-  StmtFits l (tree.DeclareArray line t x size) = IsNew l.known x × (0 < size) × (size ≤ most_elements)
-  StmtFits l (tree.Assign line x r) = (s : Slot) × (lookup x l.known ≡ Some s) × RightFits l.known s.ty r
-  StmtFits l (tree.AssignElement line x i e) =
-      ((n : Slot) × (lookup x l.known ≡ Some n) × HasElements n.ty)
-      × ((r : ExprType) × IsIndexType r × NumberFits l.known (term_of i) r) × NumberFits l.known (term_of e) Jint
-  StmtFits l (tree.Perform line c) = CallDrops l.known c
-  StmtFits l (tree.PutJint line e) = NumberFits l.known (term_of e) Jint
-  StmtFits l (tree.If line test then') = TestFits l.known test × BlockFits l then'
-  StmtFits l (tree.IfElse line test then' else') = TestFits l.known test × BlockFits l then' × BlockFits (closed l (block_layout l then')) else'
+  StmtFits l (tree.Plain line p) = PlainFits l.known p
+  StmtFits l (tree.If line test then' else') = TestFits l.known test × BlockFits l then' × ElseFits (closed l (block_layout l then')) else'
   StmtFits l (tree.While line test body) = NumberFits l.known (term_of test) Truth × BlockFits l body
-  StmtFits l (tree.Return line) = Unit {0}
-  StmtFits l (tree.ReturnValue line e) = ReturnFits l.known (term_of e)
+  StmtFits l (tree.Return line None) = Unit {0}
+  StmtFits l (tree.Return line (Some e)) = ReturnFits l.known (term_of e)
+
+  -- the second block of an `if`, where it has one
+  pub ElseFits : Layout → Else → Type 0
+  ElseFits l tree.NoElse = Unit {0}
+  ElseFits l (tree.ElseBlock b) = BlockFits l b
 
   -- the statements of a block
   pub BlockFits : Layout → Block → Type 0

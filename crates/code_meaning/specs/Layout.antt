@@ -1,14 +1,13 @@
 -- Which slots the names of a function have.
-use Rattle.std.specs.Prelude.{ℕ, ◌+◌, true, false, List, [], ◌∷◌, ◌++◌, length}
+use Rattle.std.specs.Prelude.{ℕ, ◌+◌, List, [], ◌∷◌, ◌++◌, length}
 use Rattle.base.specs.Bytes.{Identifier, ByName}
-use Rattle.base.specs.declared.element.ElementType.TheVariants.{Char as JChar}
 use Rattle.syntax.specs.Tree as tree
 use Rattle.syntax.specs.declared.declared_type.ParameterType.{ParameterType}
 use Rattle.syntax.specs.declared.declared_type.ParameterType.TheVariants.{Jint as IntParameter, Reference as ReferenceParameter}
-use Rattle.syntax.specs.Tree.{Stmt, Block, End, Next, Parameter, Function, Static}
+use Rattle.syntax.specs.Tree.{PlainStmt, Stmt, Else, Block, End, Next, Parameter, Function, Static}
 use Rattle.type_rules.specs.declared.ty.ExprType.{ExprType}
 use Rattle.type_rules.specs.declared.ty.ExprType.TheVariants.{Word, Jint, Flag, Ref, Global, Weak, FieldId, MethodId, Buffer, Array}
-use Rattle.type_rules.specs.TypeRules.{variable_type, static_type}
+use Rattle.type_rules.specs.TypeRules.{declared_type, static_type}
 use Rattle.code.specs.declared.slots.SlotCounts.{SlotCounts}
 
 -- ---- slots
@@ -117,17 +116,24 @@ entry_layout statics f = record {
 abbrev pub closed : (outer inner : Layout) → Layout
 closed outer inner = record { known = outer.known; slots = inner.slots }
 
+-- the slots after a plain statement
+abbrev pub plain_layout : Layout → PlainStmt → Layout
+plain_layout l (tree.Declare t x r) = with_name x (declared_type t) l
+plain_layout l (tree.DeclareArray t x size) = with_name x (Array t size) l
+plain_layout l p = l
+
 abbrev mutual
   -- the slots after a statement
   pub layout_after : Layout → Stmt → Layout
-  layout_after l (tree.Declare line t x r) = with_name x (variable_type t) l
-  layout_after l (tree.DeclareBuffer line t x r) = with_name x (Buffer t true) l
-  layout_after l (tree.DeclareChars line x r) = with_name x (Buffer JChar false) l
-  layout_after l (tree.DeclareArray line t x size) = with_name x (Array t size) l
-  layout_after l (tree.If line test then') = closed l (block_layout l then')
-  layout_after l (tree.IfElse line test then' else') = closed l (block_layout (closed l (block_layout l then')) else')
+  layout_after l (tree.Plain line p) = plain_layout l p
+  layout_after l (tree.If line test then' else') = closed l (else_layout (closed l (block_layout l then')) else')
   layout_after l (tree.While line test body) = closed l (block_layout l body)
-  layout_after l s = l
+  layout_after l (tree.Return line e) = l
+
+  -- the slots at the end of the second block of an `if`, where it has one
+  pub else_layout : Layout → Else → Layout
+  else_layout l tree.NoElse = l
+  else_layout l (tree.ElseBlock b) = block_layout l b
 
   -- the slots at the end of a block
   pub block_layout : Layout → Block → Layout

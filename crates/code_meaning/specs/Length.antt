@@ -7,12 +7,12 @@ use Rattle.base.specs.Bytes.{Identifier}
 use Rattle.syntax.specs.Parts.{null_tested, statements_of}
 use Rattle.syntax.specs.declared.declared_type.ParameterType.{ParameterType}
 use Rattle.syntax.specs.declared.declared_type.ParameterType.TheVariants.{Jint as IntParameter}
-use Rattle.syntax.specs.declared.declared_type.VariableType.{VariableType}
 use Rattle.syntax.specs.declared.declared_type.VariableType.TheVariants.{Jint as JIntVariable, Jsize as JSize}
 use Rattle.syntax.specs.declared.unit.ResultType.{ResultType}
 use Rattle.syntax.specs.declared.unit.ResultType.TheVariants.{Jint as IntResult}
 use Rattle.syntax.specs.declared.expr.Constant.TheVariants.{Null}
-use Rattle.syntax.specs.Tree.{Parameter, Expr, Number, Named, Variable, Element, Prefix, Binary, Paren, Argument, Value, Call, RightSide, FromExpr, FromCall, Test, TestExpr, TestCall, Stmt, Declare, DeclareBuffer, DeclareChars, DeclareArray, Assign, AssignElement, Perform, PutJint, If, IfElse, While, Return, ReturnValue, Block, End, Next, Function, Item, StaticItem, FunctionItem, SourceUnit}
+use Rattle.syntax.specs.declared.declared_type.DeclaredType.TheVariants.{Simple}
+use Rattle.syntax.specs.Tree.{Parameter, Expr, Number, Named, Variable, Element, Prefix, Binary, Paren, Argument, Value, Call, RightSide, FromExpr, FromCall, Test, TestExpr, TestCall, PlainStmt, Declare, DeclareArray, Assign, AssignElement, Perform, PutJint, Stmt, Plain, If, While, Return, Else, NoElse, ElseBlock, Block, End, Next, Function, Item, StaticItem, FunctionItem, SourceUnit}
 use Rattle.jni.specs.declared.function.JniFunction.{JniFunction}
 use Rattle.jni.specs.JniFunction.{parameters_for, function_named}
 use Rattle.jni.specs.declared.kinds.ParameterKind.{ParameterKind}
@@ -80,22 +80,32 @@ abbrev pub return_steps : ResultType → Expr → ℕ
 return_steps IntResult e = expr_steps e + 1
 return_steps returns e = 1
 
+-- a return
+abbrev pub result_steps : ResultType → Option Expr → ℕ
+result_steps returns None = 1
+result_steps returns (Some e) = return_steps returns e
+
+-- a plain statement
+abbrev pub plain_steps : (ints : List Identifier) → PlainStmt → ℕ
+plain_steps ints (Declare t x r) = right_steps ints r
+plain_steps ints (DeclareArray t x size) = 1
+plain_steps ints (Assign x r) = right_steps ints r
+plain_steps ints (AssignElement x i e) = expr_steps i + expr_steps e + 1
+plain_steps ints (Perform c) = call_steps ints c
+plain_steps ints (PutJint e) = expr_steps e + 1
+
 abbrev mutual
   -- a statement; the end of each branch of an `if`, and that of a loop's turn, is a step
   pub stmt_steps : (ints : List Identifier) (returns : ResultType) → Stmt → ℕ
-  stmt_steps ints returns (Declare line t x r) = right_steps ints r
-  stmt_steps ints returns (DeclareBuffer line t x r) = right_steps ints r
-  stmt_steps ints returns (DeclareChars line x r) = right_steps ints r
-  stmt_steps ints returns (DeclareArray line t x size) = 1
-  stmt_steps ints returns (Assign line x r) = right_steps ints r
-  stmt_steps ints returns (AssignElement line x i e) = expr_steps i + expr_steps e + 1
-  stmt_steps ints returns (Perform line c) = call_steps ints c
-  stmt_steps ints returns (PutJint line e) = expr_steps e + 1
-  stmt_steps ints returns (If line test then') = test_steps ints test + (block_steps ints returns then' + 1) + 1
-  stmt_steps ints returns (IfElse line test then' else') = test_steps ints test + (block_steps ints returns then' + 1) + (block_steps ints returns else' + 1)
+  stmt_steps ints returns (Plain line p) = plain_steps ints p
+  stmt_steps ints returns (If line test then' else') = test_steps ints test + (block_steps ints returns then' + 1) + (else_steps ints returns else' + 1)
   stmt_steps ints returns (While line test body) = expr_steps test + 1 + (block_steps ints returns body + 1)
-  stmt_steps ints returns (Return line) = 1
-  stmt_steps ints returns (ReturnValue line e) = return_steps returns e
+  stmt_steps ints returns (Return line e) = result_steps returns e
+
+  -- the second block of an `if`, where it has one
+  pub else_steps : (ints : List Identifier) (returns : ResultType) → Else → ℕ
+  else_steps ints returns NoElse = 0
+  else_steps ints returns (ElseBlock b) = block_steps ints returns b
 
   -- the statements of a block
   pub block_steps : (ints : List Identifier) (returns : ResultType) → Block → ℕ
@@ -113,8 +123,8 @@ int_parameter p = int_by_type p.type p.name
 
 -- a `jint` that a statement declares
 abbrev pub int_declared : Stmt → Option Identifier
-int_declared (Declare line JIntVariable x r) = Some x
-int_declared (Declare line JSize x r) = Some x
+int_declared (Plain line (Declare (Simple JIntVariable) x r)) = Some x
+int_declared (Plain line (Declare (Simple JSize) x r)) = Some x
 int_declared s = None
 
 -- the names of a function's variables of type `jint`, of which none is declared twice

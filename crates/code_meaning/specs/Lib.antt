@@ -6,7 +6,6 @@ pub mod Arguments
 -- how many steps a function has, on its tree
 pub mod Length
 -- which statements have no blocks
-pub mod Plain
 -- what the slots show
 pub mod Slots
 -- what is known of an accepted function

@@ -473,9 +473,8 @@ TasksStand code known place stack (task ∷ rest) = TaskStands code known place 
 abbrev mutual
   -- whether each path through a statement returns
   pub stmt_returns : Stmt → Bool
-  stmt_returns (tree.IfElse line test then' else') = block_returns then' && block_returns else'
-  stmt_returns (tree.Return line) = true
-  stmt_returns (tree.ReturnValue line e) = true
+  stmt_returns (tree.If line test then' (tree.ElseBlock else')) = block_returns then' && block_returns else'
+  stmt_returns (tree.Return line e) = true
   stmt_returns s = false
 
   -- the same of a block

@@ -2,12 +2,13 @@
 use Rattle.code.specs.declared.instr.Instr.{Instr}
 use Rattle.code.specs.Call as calls
 use Rattle.lower.proofs.CallOperands.{untouched_are_begun, untouched_are_held}
-use Rattle.std.specs.Prelude.{zip}
+use Rattle.std.specs.Prelude.{zip, None}
 use Rattle.std.specs.List.{AllZip}
-use Rattle.std.proofs.Common.{◌≡◌, ℕ, ◌+◌, ◌⊎◌, inl, inr, Bool, true, false, List, [], ◌∷◌, ◌++◌, length, Option, Some, refl, sym, ap, ◌∙◌, subst, arith, length-append, map, suc}
+use Rattle.std.proofs.Common.{◌≡◌, ℕ, ◌+◌, ◌⊎◌, inl, inr, Bool, true, List, [], ◌∷◌, ◌++◌, length, Option, Some, refl, sym, ap, ◌∙◌, subst, arith, length-append, map, suc}
 use Rattle.base.specs.Bytes.{Identifier, lookup}
 use Rattle.base.specs.declared.element.ElementType.{ElementType}
-use Rattle.base.specs.declared.element.ElementType.TheVariants.{Char as JChar}
+use Rattle.syntax.specs.declared.declared_type.DeclaredType.{DeclaredType}
+use Rattle.syntax.specs.declared.declared_type.DeclaredType.TheVariants.{Simple, Pointer, ConstChars}
 use Rattle.syntax.specs.Tree as tree
 use Rattle.syntax.specs.declared.declared_type.VariableType.TheVariants as variables
 use Rattle.syntax.specs.declared.expr.Constant.TheVariants as constants
@@ -25,7 +26,7 @@ use Rattle.type_rules.specs.declared.ty.ExprType.{ExprType}
 use Rattle.type_rules.specs.declared.ty.ExprType.TheVariants.{Jint, Ref, Global, Weak, FieldId, MethodId, Buffer, Array}
 use Rattle.type_rules.specs.ExprTypes.{is_buffer_for}
 use Rattle.type_rules.specs.declared.ty.ExprType.TheVariants as types
-use Rattle.type_rules.specs.TypeRules.{variable_type}
+use Rattle.type_rules.specs.TypeRules.{variable_type, declared_type}
 use Rattle.type_rules.specs.TypeGroups.{IsNumberType}
 use Rattle.type_rules.proofs.CallParameters.{parameters_count}
 use Rattle.code.specs.declared.instr.Target.{Target as Destination}
@@ -38,7 +39,7 @@ use Rattle.code.specs.Effect.{truth_word}
 use Rattle.semantics.specs.Value.{Truth}
 use Rattle.semantics.specs.Term as term
 use Rattle.semantics.specs.Term.{Term, Done, Read, Binary, term_of}
-use Rattle.semantics.specs.Task.{Task, SetScalar, Branch, ReturnValue, Target, Declared, Assigned, Tested, Dropped, VariableKind, ScalarKind, ReferenceKind, FieldKind, MethodKind, BufferKind, kind_of, set_task, invocation, call_task, right_side_task, if_task, task_of, tasks_of, operand, passed_operand, PassedName, Given, Operand}
+use Rattle.semantics.specs.Task.{Task, SetScalar, Branch, ReturnValue, Target, Declared, Assigned, Tested, Dropped, VariableKind, ScalarKind, ReferenceKind, FieldKind, MethodKind, BufferKind, variable_kind, kind_of, set_task, invocation, call_task, right_side_task, if_task, task_of, tasks_of, operand, passed_operand, PassedName, Given, Operand}
 use Rattle.code_meaning.specs.Layout.{Slot, Known, Layout, new_slot, closed, layout_after, block_layout}
 use Rattle.code_meaning.specs.Coding.{nullable_of, store_of, write_code, of_slot, operand_of, passed_variable, passed_code, passed_rest, address_operand, term_code, expr_code, value_code, right_code, assign_code, returned_code, return_code, paths_code, turn_code, loop_code, if_code, stmt_code, block_code, named_call_code, operand_code, argument_code, arguments_code, argument_text, arguments_texts, result_target}
 use Rattle.code_meaning.specs.Slots as value
@@ -48,7 +49,7 @@ use Rattle.code_meaning.specs.Stands.{held, IsBegun, IsUnderWay, HasAt, AreAmong
 use Rattle.code_meaning.proofs.SlotLaws.{known_among, known_again, all_among}
 use Rattle.lower.proofs.CodePlaces.{has_front, has_back}
 use Rattle.lower.proofs.TermSteps.{untouched_held, untouched_begun}
-use Rattle.lower.proofs.Layouts.{block_grows, room_before, room_at_least, index_more, laid_more, declared_slot, variable_size, laid_after, known_after_stmt}
+use Rattle.lower.proofs.Layouts.{block_grows, room_before, room_at_least, index_more, laid_more, declared_slot, declared_size, laid_after, known_after_stmt}
 
 -- ---- expressions
 
@@ -512,7 +513,7 @@ one_write line (Array t size) i has = refl
 one_write line (Buffer t writable) i has = refl
 one_write line s i has = absurd has
 
-element_set_stands : (code : Listing) (line : ℕ) (x : Identifier) (i e : Expr) → StmtBegins code (tree.AssignElement line x i e)
+element_set_stands : (code : Listing) (line : ℕ) (x : Identifier) (i e : Expr) → StmtBegins code (tree.Plain line (tree.AssignElement x i e))
 element_set_stands code line x i e l place tail at fits laid room further =
     let s = fits.0.0 in
     let I = expr_code l.known line i in
@@ -548,52 +549,53 @@ returned_stands code line (Read x) l place tail at (s, found, inr e) =
 returned_stands code line t l place tail at fits = inl (number_begins l.known t Jint fits, at)
 
 -- a new variable is of its slot's kind
-declared_goes : (t : VariableType) (x : Identifier) (l : Layout) → GoesTo l.known (new_slot (variable_type t) l) (Declared (kind_of t) x)
-declared_goes variables.Uint32 x l = refl
-declared_goes variables.Jint x l = refl
-declared_goes variables.Jsize x l = refl
-declared_goes variables.Jboolean x l = refl
-declared_goes (variables.Reference type) x l = refl
-declared_goes variables.JfieldId x l = refl
-declared_goes variables.JmethodId x l = refl
+variable_goes : (t : VariableType) (x : Identifier) (l : Layout) → GoesTo l.known (new_slot (variable_type t) l) (Declared (variable_kind t) x)
+variable_goes variables.Uint32 x l = refl
+variable_goes variables.Jint x l = refl
+variable_goes variables.Jsize x l = refl
+variable_goes variables.Jboolean x l = refl
+variable_goes (variables.Reference type) x l = refl
+variable_goes variables.JfieldId x l = refl
+variable_goes variables.JmethodId x l = refl
+
+declared_goes : (t : DeclaredType) (x : Identifier) (l : Layout) → GoesTo l.known (new_slot (declared_type t) l) (Declared (kind_of t) x)
+declared_goes (Simple t) x l = variable_goes t x l
+declared_goes (Pointer t) x l = refl
+declared_goes ConstChars x l = refl
 
 pub stmt_begins : (code : Listing) (s : Stmt) → StmtBegins code s
-stmt_begins code (tree.Declare line t x r) l place tail at fits laid room further =
-    right_stands code l.known line place tail (Declared (kind_of t) x) x (new_slot (variable_type t) l) r ((x, new_slot (variable_type t) l) ∷ l.known) laid.own fits.1 refl (declared_goes t x l) at (declared_slot code (variable_type t) l x (variable_size t) laid room) (self_among x (new_slot (variable_type t) l) l.known) further
-stmt_begins code (tree.DeclareBuffer line t x r) l place tail at fits laid room further =
-    right_stands code l.known line place tail (Declared (BufferKind t) x) x (new_slot (Buffer t true) l) r ((x, new_slot (Buffer t true) l) ∷ l.known) laid.own fits.1 refl refl at (declared_slot code (Buffer t true) l x tt laid room) (self_among x (new_slot (Buffer t true) l) l.known) further
-stmt_begins code (tree.DeclareChars line x r) l place tail at fits laid room further =
-    right_stands code l.known line place tail (Declared (BufferKind JChar) x) x (new_slot (Buffer JChar false) l) r ((x, new_slot (Buffer JChar false) l) ∷ l.known) laid.own fits.1 refl refl at (declared_slot code (Buffer JChar false) l x tt laid room) (self_among x (new_slot (Buffer JChar false) l) l.known) further
-stmt_begins code (tree.DeclareArray line t x size) l place tail at fits laid room further = record {
+stmt_begins code (tree.Plain line (tree.Declare t x r)) l place tail at fits laid room further =
+    right_stands code l.known line place tail (Declared (kind_of t) x) x (new_slot (declared_type t) l) r ((x, new_slot (declared_type t) l) ∷ l.known) laid.own fits.1 refl (declared_goes t x l) at (declared_slot code (declared_type t) l x (declared_size t) laid room) (self_among x (new_slot (declared_type t) l) l.known) further
+stmt_begins code (tree.Plain line (tree.DeclareArray t x size)) l place tail at fits laid room further = record {
   empty = refl;
   start = l.slots.numbers;
   at = at.0;
   own = declared_slot code (Array t size) l x (fits.1, fits.2) laid room;
   further = ((x, new_slot (Array t size) l) ∷ l.known, self_among x (new_slot (Array t size) l) l.known, further);
 }
-stmt_begins code (tree.Assign line x r) l place tail at fits laid room further =
+stmt_begins code (tree.Plain line (tree.Assign x r)) l place tail at fits laid room further =
     let slot = fits.0 in
     let found = fits.1 in
     let there = subst (HasAt code.instrs place) (ap (λ (o : Option Slot). assign_code l.known line o r) found) at in
     let own : IsSlotOf code l.known x slot = record { within = slot_within code l x slot found laid room; own = laid.own x slot found } in
     right_stands code l.known line place tail (Assigned x) x slot r l.known laid.own fits.2 refl found there own (known_among x slot l.known found)
     (subst (λ c. TasksStand code l.known (place + length c) [] tail) (ap (λ (o : Option Slot). assign_code l.known line o r) found) further)
-stmt_begins code (tree.AssignElement line x i e) l place tail at fits laid room further = element_set_stands code line x i e l place tail at fits laid room further
-stmt_begins code (tree.Perform line c) l place tail at fits laid room further = call_stands code l.known line place tail Dropped destination.Dropped c laid.own fits.fits at (refl, fits.result, further)
-stmt_begins code (tree.PutJint line e) l place tail at fits laid room further =
+stmt_begins code (tree.Plain line (tree.AssignElement x i e)) l place tail at fits laid room further = element_set_stands code line x i e l place tail at fits laid room further
+stmt_begins code (tree.Plain line (tree.Perform c)) l place tail at fits laid room further = call_stands code l.known line place tail Dropped destination.Dropped c laid.own fits.fits at (refl, fits.result, further)
+stmt_begins code (tree.Plain line (tree.PutJint e)) l place tail at fits laid room further =
     let size : place + length (expr_code l.known line e ++ instr.PutJint ∷ []) ≡ place + length (expr_code l.known line e) + 1 = omega (arith, length-append (expr_code l.known line e) (instr.PutJint ∷ [])) in
     ((number_begins l.known (term_of e) Jint fits, at), subst (λ p. TasksStand code l.known p [] tail) size further)
-stmt_begins code (tree.If line test then') l place tail at fits laid room further =
+stmt_begins code (tree.If line test then' tree.NoElse) l place tail at fits laid room further =
     let grown = block_grows then' l in
     if_stands code line test then' (End line) l (block_layout l then').slots place tail at fits.0 fits.1 tt laid (laid_more l.known l.slots (block_layout l then').slots grown laid) room room further
-stmt_begins code (tree.IfElse line test then' else') l place tail at fits laid room further =
+stmt_begins code (tree.If line test then' (tree.ElseBlock else')) l place tail at fits laid room further =
     let first = closed l (block_layout l then') in
     let grown = block_grows then' l in
     let grown' = block_grows else' first in
     if_stands code line test then' else' l first.slots place tail at fits.0 fits.1 fits.2 laid (laid_more l.known l.slots first.slots grown laid) (room_before code.slots first.slots (block_layout first else').slots grown' room) room further
 stmt_begins code (tree.While line test body) l place tail at fits laid room further = loop_stands code line test body l place tail at fits laid room further
-stmt_begins code (tree.Return line) l place tail at fits laid room further = (refl, at.0)
-stmt_begins code (tree.ReturnValue line e) l place tail at fits laid room further = returned_stands code line (term_of e) l place tail at fits
+stmt_begins code (tree.Return line None) l place tail at fits laid room further = (refl, at.0)
+stmt_begins code (tree.Return line (Some e)) l place tail at fits laid room further = returned_stands code line (term_of e) l place tail at fits
 
 -- ---- blocks
 

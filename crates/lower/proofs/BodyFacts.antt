@@ -1,21 +1,23 @@
 -- The body of an accepted function fits.
-use Rattle.std.proofs.Common.{◌≡◌, ◌≤◌, Bool, true, false, not, ◌&&◌, List, ◌∷◌, ◌++◌, Some, map, refl, sym, ap, ◌∙◌, subst, arith}
+use Rattle.std.proofs.Common.{◌≡◌, ◌≤◌, Bool, true, false, not, ◌&&◌, List, ◌∷◌, ◌++◌, Some, map, refl, sym, ap, ◌∙◌, subst, arith, None}
 use Rattle.std.specs.Cmp.{first_so, second_so}
 use Rattle.std.specs.List.{list_all}
 use Rattle.std.proofs.lemmas.List.Folds.{list_all-append}
 use Rattle.base.specs.Bytes.{Identifier}
 use Rattle.base.specs.declared.element.ElementType.TheVariants.{Char as JChar}
 use Rattle.syntax.specs.Limits.{height, highest, numbers_in_range, statement_height, block_height, is_end, well_formed, block_well_formed}
-use Rattle.syntax.specs.Parts.{statements_of, statements_within, call_of_right_side, own_call, right_side_expressions, own_expressions, names_declared}
+use Rattle.syntax.specs.Parts.{statements_of, statements_inside, statements_within, call_of_right_side, own_call, right_side_expressions, own_expressions, names_declared}
+use Rattle.syntax.specs.declared.declared_type.DeclaredType.{DeclaredType}
+use Rattle.syntax.specs.declared.declared_type.DeclaredType.TheVariants.{Simple, Pointer, ConstChars}
 use Rattle.syntax.specs.Tree as tree
 use Rattle.syntax.specs.declared.declared_type.VariableType.TheVariants as variables
 use Rattle.syntax.specs.declared.declared_type.VariableType.{VariableType}
 use Rattle.syntax.specs.declared.unit.ResultType.{ResultType}
 use Rattle.syntax.specs.Tree.{RightSide, FromExpr, FromCall, TestExpr, TestCall, Stmt, Block, End, Next}
-use Rattle.type_rules.specs.declared.ty.ExprType.TheVariants.{Truth, Buffer, Array}
+use Rattle.type_rules.specs.declared.ty.ExprType.TheVariants.{Truth, Array}
 use Rattle.jni.specs.declared.function.JniFunction.{JniFunction}
 use Rattle.jni.specs.JniFunction.{prototype}
-use Rattle.type_rules.specs.TypeRules.{is_droppable, is_push, may_be_dropped, variable_type, with_declared, places_within, places_of}
+use Rattle.type_rules.specs.TypeRules.{is_droppable, is_push, may_be_dropped, variable_type, with_declared, places_within, places_of, declared_type}
 use Rattle.code_meaning.specs.Layout.{Slot, Known, Layout, new_slot, closed, layout_after, block_layout}
 use Rattle.code_meaning.specs.Fits.{StmtFits, BlockFits}
 use Rattle.code_meaning.proofs.SlotLaws.{first_or_after}
@@ -52,11 +54,7 @@ pub record BlockHolds (l : Layout) (taken : List Identifier) (returns : ResultTy
 -- ---- one statement
 
 first_in_range : (s : Stmt) → AreInRange (statements_within s) → list_all numbers_in_range (own_expressions s) ≡ true
-first_in_range (tree.If line test then') h = first_so (list_all numbers_in_range (own_expressions (tree.If line test then'))) (list_all (λ s. list_all numbers_in_range (own_expressions s)) (statements_of then')) h
-first_in_range (tree.IfElse line test then' else') h =
-    first_so (list_all numbers_in_range (own_expressions (tree.IfElse line test then' else'))) (list_all (λ s. list_all numbers_in_range (own_expressions s)) (statements_of then' ++ statements_of else')) h
-first_in_range (tree.While line test body) h = first_so (list_all numbers_in_range (own_expressions (tree.While line test body))) (list_all (λ s. list_all numbers_in_range (own_expressions s)) (statements_of body)) h
-first_in_range s h = first_so (list_all numbers_in_range (own_expressions s)) true h
+first_in_range s h = first_so (list_all numbers_in_range (own_expressions s)) (list_all (λ s. list_all numbers_in_range (own_expressions s)) (statements_inside s)) h
 
 inside_in_range : (s : Stmt) (inside : List Stmt) → AreInRange (s ∷ inside) → AreInRange inside
 inside_in_range s inside h = second_so (list_all numbers_in_range (own_expressions s)) (list_all (λ s. list_all numbers_in_range (own_expressions s)) inside) h
@@ -68,10 +66,10 @@ both_in_range front back h =
     (first_so (list_all p front) (list_all p back) e, second_so (list_all p front) (list_all p back) e)
 
 own_low : (s : Stmt) → highest (map height (own_expressions s)) ≤ statement_height s
-own_low (tree.If line test then') = omega arith
-own_low (tree.IfElse line test then' else') = omega arith
+own_low (tree.If line test then' tree.NoElse) = omega arith
+own_low (tree.If line test then' (tree.ElseBlock else')) = omega arith
 own_low (tree.While line test body) = omega arith
-own_low (tree.AssignElement line x i e) = omega arith
+own_low (tree.Plain line (tree.AssignElement x i e)) = omega arith
 own_low s = omega arith
 
 -- the arguments of a statement's call are among its expressions
@@ -80,15 +78,11 @@ right_fine (FromExpr e) h = tt
 right_fine (FromCall c) h = h
 
 called_fine : (s : Stmt) → AreFine (own_expressions s) → AreFine (called_expressions (own_call s))
-called_fine (tree.Declare line t x r) h = right_fine r h
-called_fine (tree.DeclareBuffer line t x r) h = right_fine r h
-called_fine (tree.DeclareChars line x r) h = right_fine r h
-called_fine (tree.Assign line x r) h = right_fine r h
-called_fine (tree.Perform line c) h = h
-called_fine (tree.If line (TestExpr e) then') h = tt
-called_fine (tree.If line (TestCall c) then') h = h
-called_fine (tree.IfElse line (TestExpr e) then' else') h = tt
-called_fine (tree.IfElse line (TestCall c) then' else') h = h
+called_fine (tree.Plain line (tree.Declare t x r)) h = right_fine r h
+called_fine (tree.Plain line (tree.Assign x r)) h = right_fine r h
+called_fine (tree.Plain line (tree.Perform c)) h = h
+called_fine (tree.If line (TestExpr e) then' else') h = tt
+called_fine (tree.If line (TestCall c) then' else') h = h
 called_fine s h = tt
 
 module _ (l : Layout) (taken : List Identifier) (returns : ResultType) where
@@ -106,10 +100,8 @@ module _ (l : Layout) (taken : List Identifier) (returns : ResultType) where
 -- ---- after a statement
 
 pub scope_after : (s : Stmt) (l : Layout) → with_declared (scope_of l.known) s ≡ scope_of (layout_after l s).known
-scope_after (tree.Declare line t x r) l = refl
-scope_after (tree.DeclareBuffer line t x r) l = refl
-scope_after (tree.DeclareChars line x r) l = refl
-scope_after (tree.DeclareArray line t x size) l = refl
+scope_after (tree.Plain line (tree.Declare t x r)) l = refl
+scope_after (tree.Plain line (tree.DeclareArray t x size)) l = refl
 scope_after s l = refl
 
 no_truth_first : (x : Identifier) (slot : Slot) (known : Known) → (slot.ty ≡ Truth → ⊥) → HasNoTruth known → HasNoTruth ((x, slot) ∷ known)
@@ -125,11 +117,14 @@ variable_no_truth variables.JfieldId e = cc
 variable_no_truth variables.JmethodId e = cc
 variable_no_truth (variables.Reference r) e = cc
 
+declared_no_truth : (t : DeclaredType) → declared_type t ≡ Truth → ⊥
+declared_no_truth (Simple t) e = variable_no_truth t e
+declared_no_truth (Pointer t) e = cc
+declared_no_truth ConstChars e = cc
+
 no_truth_after : (s : Stmt) (l : Layout) → HasNoTruth l.known → HasNoTruth (layout_after l s).known
-no_truth_after (tree.Declare line t x r) l h = no_truth_first x (new_slot (variable_type t) l) l.known (variable_no_truth t) h
-no_truth_after (tree.DeclareBuffer line t x r) l h = no_truth_first x (new_slot (Buffer t true) l) l.known (λ e. let c : Buffer t true ≡ Truth = e in cc) h
-no_truth_after (tree.DeclareChars line x r) l h = no_truth_first x (new_slot (Buffer JChar false) l) l.known (λ e. let c : Buffer JChar false ≡ Truth = e in cc) h
-no_truth_after (tree.DeclareArray line t x size) l h = no_truth_first x (new_slot (Array t size) l) l.known (λ e. let c : Array t size ≡ Truth = e in cc) h
+no_truth_after (tree.Plain line (tree.Declare t x r)) l h = no_truth_first x (new_slot (declared_type t) l) l.known (declared_no_truth t) h
+no_truth_after (tree.Plain line (tree.DeclareArray t x size)) l h = no_truth_first x (new_slot (Array t size) l) l.known (λ e. let c : Array t size ≡ Truth = e in cc) h
 no_truth_after s l h = h
 
 end_formed : (b : Block) → is_end b ≡ true → block_well_formed b ≡ true
@@ -137,10 +132,9 @@ end_formed (End line) h = refl
 end_formed (Next s rest) h = absurd (cc)
 
 next_formed : (s : Stmt) (rest : Block) → block_well_formed (Next s rest) ≡ true → (well_formed s ≡ true) × (block_well_formed rest ≡ true)
-next_formed (tree.Return line) rest h = (refl, end_formed rest h)
-next_formed (tree.ReturnValue line e) rest h = (refl, end_formed rest h)
-next_formed (tree.If line test then') rest h = (first_so (block_well_formed then') (block_well_formed rest) h, second_so (block_well_formed then') (block_well_formed rest) h)
-next_formed (tree.IfElse line test then' else') rest h =
+next_formed (tree.Return line e) rest h = (refl, end_formed rest h)
+next_formed (tree.If line test then' tree.NoElse) rest h = (first_so (block_well_formed then') (block_well_formed rest) h, second_so (block_well_formed then') (block_well_formed rest) h)
+next_formed (tree.If line test then' (tree.ElseBlock else')) rest h =
     (first_so (block_well_formed then' && block_well_formed else') (block_well_formed rest) h, second_so (block_well_formed then' && block_well_formed else') (block_well_formed rest) h)
 next_formed (tree.While line test body) rest h = (first_so (block_well_formed body) (block_well_formed rest) h, second_so (block_well_formed body) (block_well_formed rest) h)
 next_formed s rest h = (first_so (well_formed s) (block_well_formed rest) h, second_so (well_formed s) (block_well_formed rest) h)
@@ -174,36 +168,36 @@ drops f h = second_so (not (is_push f)) (is_droppable (prototype f).result) h
 
 mutual
   stmt_fits : (s : Stmt) (l : Layout) (taken : List Identifier) (returns : ResultType) → StmtHolds l taken returns s → StmtFits l s
-  stmt_fits (tree.Declare line t x r) l taken returns h =
-      let s = tree.Declare line t x r in
+  stmt_fits (tree.Plain line (tree.Declare (Simple t) x r)) l taken returns h =
+      let s = tree.Plain line (tree.Declare (Simple t) x r) in
       let k = kept l taken returns s h in
       (h.names x k.new, right_fits l.known h.no_truth (variable_type t) r (all_fine l taken returns s h) (call_holds l taken returns s h) k.fits k.uncopied)
-  stmt_fits (tree.DeclareBuffer line t x r) l taken returns h =
-      let s = tree.DeclareBuffer line t x r in
+  stmt_fits (tree.Plain line (tree.Declare (Pointer t) x r)) l taken returns h =
+      let s = tree.Plain line (tree.Declare (Pointer t) x r) in
       let k = kept l taken returns s h in
       (h.names x k.new, buffer_fits l.known h.no_truth t true r (call_holds l taken returns s h) k.fits)
-  stmt_fits (tree.DeclareChars line x r) l taken returns h =
-      let s = tree.DeclareChars line x r in
+  stmt_fits (tree.Plain line (tree.Declare ConstChars x r)) l taken returns h =
+      let s = tree.Plain line (tree.Declare ConstChars x r) in
       let k = kept l taken returns s h in
       (h.names x k.new, buffer_fits l.known h.no_truth JChar false r (call_holds l taken returns s h) k.fits)
-  stmt_fits (tree.DeclareArray line t x size) l taken returns h =
+  stmt_fits (tree.Plain line (tree.DeclareArray t x size)) l taken returns h =
       let few = size_fits size h.formed in
-      (h.names x (kept l taken returns (tree.DeclareArray line t x size) h).new, few.0, few.1)
-  stmt_fits (tree.Assign line x r) l taken returns h =
-      let s = tree.Assign line x r in
+      (h.names x (kept l taken returns (tree.Plain line (tree.DeclareArray t x size)) h).new, few.0, few.1)
+  stmt_fits (tree.Plain line (tree.Assign x r)) l taken returns h =
+      let s = tree.Plain line (tree.Assign x r) in
       let k = kept l taken returns s h in
       assigned_fits l.known h.no_truth x r (all_fine l taken returns s h) (call_holds l taken returns s h) k.fits k.uncopied
-  stmt_fits (tree.AssignElement line x i e) l taken returns h =
-      let s = tree.AssignElement line x i e in
+  stmt_fits (tree.Plain line (tree.AssignElement x i e)) l taken returns h =
+      let s = tree.Plain line (tree.AssignElement x i e) in
       let fine = all_fine l taken returns s h in
       element_fits l.known h.no_truth x i e fine.0 fine.1.0 (kept l taken returns s h).fits
-  stmt_fits (tree.Perform line c) l taken returns h =
-      let fits = call_fits_name l.known h.no_truth c (call_holds l taken returns (tree.Perform line c) h) in
-      record { fits = fits; result = drops fits.function (sym (ap may_be_dropped fits.named) ∙ (kept l taken returns (tree.Perform line c) h).fits) }
-  stmt_fits (tree.PutJint line e) l taken returns h = jint_fits l.known h.no_truth e (all_fine l taken returns (tree.PutJint line e) h).0 (kept l taken returns (tree.PutJint line e) h).fits
-  stmt_fits (tree.If line test then') l taken returns h =
-      let s = tree.If line test then' in (
-        tested_fits l.known h.no_truth test (all_fine l taken returns s h) (λ c e. subst (λ t. CallHolds l.known (own_call (tree.If line t then'))) e (call_holds l taken returns s h)) (kept l taken returns s h).fits,
+  stmt_fits (tree.Plain line (tree.Perform c)) l taken returns h =
+      let fits = call_fits_name l.known h.no_truth c (call_holds l taken returns (tree.Plain line (tree.Perform c)) h) in
+      record { fits = fits; result = drops fits.function (sym (ap may_be_dropped fits.named) ∙ (kept l taken returns (tree.Plain line (tree.Perform c)) h).fits) }
+  stmt_fits (tree.Plain line (tree.PutJint e)) l taken returns h = jint_fits l.known h.no_truth e (all_fine l taken returns (tree.Plain line (tree.PutJint e)) h).0 (kept l taken returns (tree.Plain line (tree.PutJint e)) h).fits
+  stmt_fits (tree.If line test then' tree.NoElse) l taken returns h =
+      let s = tree.If line test then' tree.NoElse in (
+        tested_fits l.known h.no_truth test (all_fine l taken returns s h) (λ c e. subst (λ t. CallHolds l.known (own_call (tree.If line t then' tree.NoElse))) e (call_holds l taken returns s h)) (kept l taken returns s h).fits,
         block_fits then' l taken returns (record {
           well_typed = inside_kept returns (scope_of l.known) taken s h.well_typed;
           numbers = inside_in_range s (statements_of then') h.numbers;
@@ -212,12 +206,13 @@ mutual
           names = h.names;
           no_truth = h.no_truth;
         }),
+        tt,
       )
-  stmt_fits (tree.IfElse line test then' else') l taken returns h =
-      let s = tree.IfElse line test then' else' in
+  stmt_fits (tree.If line test then' (tree.ElseBlock else')) l taken returns h =
+      let s = tree.If line test then' (tree.ElseBlock else') in
       let well_typed = paths_kept returns (scope_of l.known) taken line test then' else' h.well_typed in
       let numbers = both_in_range (statements_of then') (statements_of else') (inside_in_range s (statements_of then' ++ statements_of else') h.numbers) in (
-        tested_fits l.known h.no_truth test (all_fine l taken returns s h) (λ c e. subst (λ t. CallHolds l.known (own_call (tree.IfElse line t then' else'))) e (call_holds l taken returns s h)) (kept l taken returns s h).fits,
+        tested_fits l.known h.no_truth test (all_fine l taken returns s h) (λ c e. subst (λ t. CallHolds l.known (own_call (tree.If line t then' (tree.ElseBlock else')))) e (call_holds l taken returns s h)) (kept l taken returns s h).fits,
         block_fits then' l taken returns (record {
           well_typed = well_typed.0;
           numbers = numbers.0;
@@ -247,9 +242,9 @@ mutual
           no_truth = h.no_truth;
         }),
       )
-  stmt_fits (tree.Return line) l taken returns h = tt
-  stmt_fits (tree.ReturnValue line e) l taken returns h =
-      returned_fits l.known h.no_truth returns e (all_fine l taken returns (tree.ReturnValue line e) h).0 (kept l taken returns (tree.ReturnValue line e) h).fits
+  stmt_fits (tree.Return line None) l taken returns h = tt
+  stmt_fits (tree.Return line (Some e)) l taken returns h =
+      returned_fits l.known h.no_truth returns e (all_fine l taken returns (tree.Return line (Some e)) h).0 (kept l taken returns (tree.Return line (Some e)) h).fits
 
   pub block_fits : (b : Block) (l : Layout) (taken : List Identifier) (returns : ResultType) → BlockHolds l taken returns b → BlockFits l b
   block_fits (End line) l taken returns h = tt

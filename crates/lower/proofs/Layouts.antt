@@ -1,14 +1,15 @@
 -- Slots that are taken stay taken, and each known name has its own.
-use Rattle.std.proofs.Common.{◌≡◌, ℕ, ◌<◌, ◌≤◌, true, false, Some, refl, sym, ap, ◌∙◌, subst, arith}
+use Rattle.std.proofs.Common.{◌≡◌, ℕ, ◌<◌, ◌≤◌, Some, refl, sym, ap, ◌∙◌, subst, arith}
 use Rattle.base.specs.Bytes.{Identifier, lookup}
-use Rattle.base.specs.declared.element.ElementType.TheVariants.{Char as JChar}
+use Rattle.syntax.specs.declared.declared_type.DeclaredType.{DeclaredType}
+use Rattle.syntax.specs.declared.declared_type.DeclaredType.TheVariants.{Simple, Pointer, ConstChars}
 use Rattle.syntax.specs.Tree as tree
 use Rattle.syntax.specs.declared.declared_type.VariableType.TheVariants as variables
 use Rattle.syntax.specs.declared.declared_type.VariableType.{VariableType}
 use Rattle.syntax.specs.Tree.{Stmt, Block, End, Next}
 use Rattle.type_rules.specs.declared.ty.ExprType.{ExprType}
 use Rattle.type_rules.specs.declared.ty.ExprType.TheVariants.{Word, Jint, Flag, Truth, Ref, Global, Weak, FieldId, MethodId, Buffer, Array}
-use Rattle.type_rules.specs.TypeRules.{variable_type}
+use Rattle.type_rules.specs.TypeRules.{variable_type, declared_type}
 use Rattle.code.specs.declared.slots.SlotCounts.{SlotCounts}
 use Rattle.code.specs.Depth.{Listing}
 use Rattle.code_meaning.specs.Layout.{Slot, Known, Layout, next_index, slots_after, new_slot, with_name, closed, layout_after, block_layout}
@@ -53,20 +54,17 @@ slots_grow (Array t n) c = record { numbers = omega arith; references = omega ar
 
 mutual
   pub stmt_grows : (s : Stmt) (l : Layout) → AtLeast l.slots (layout_after l s).slots
-  stmt_grows (tree.Declare line t x r) l = slots_grow (variable_type t) l.slots
-  stmt_grows (tree.DeclareBuffer line t x r) l = slots_grow (Buffer t true) l.slots
-  stmt_grows (tree.DeclareChars line x r) l = slots_grow (Buffer JChar false) l.slots
-  stmt_grows (tree.DeclareArray line t x size) l = slots_grow (Array t size) l.slots
-  stmt_grows (tree.Assign line x r) l = same_slots l.slots
-  stmt_grows (tree.AssignElement line x i e) l = same_slots l.slots
-  stmt_grows (tree.Perform line c) l = same_slots l.slots
-  stmt_grows (tree.PutJint line e) l = same_slots l.slots
-  stmt_grows (tree.If line test then') l = block_grows then' l
-  stmt_grows (tree.IfElse line test then' else') l =
+  stmt_grows (tree.Plain line (tree.Declare t x r)) l = slots_grow (declared_type t) l.slots
+  stmt_grows (tree.Plain line (tree.DeclareArray t x size)) l = slots_grow (Array t size) l.slots
+  stmt_grows (tree.Plain line (tree.Assign x r)) l = same_slots l.slots
+  stmt_grows (tree.Plain line (tree.AssignElement x i e)) l = same_slots l.slots
+  stmt_grows (tree.Plain line (tree.Perform c)) l = same_slots l.slots
+  stmt_grows (tree.Plain line (tree.PutJint e)) l = same_slots l.slots
+  stmt_grows (tree.If line test then' tree.NoElse) l = block_grows then' l
+  stmt_grows (tree.If line test then' (tree.ElseBlock else')) l =
       more_slots l.slots (block_layout l then').slots (block_layout (closed l (block_layout l then')) else').slots (block_grows then' l) (block_grows else' (closed l (block_layout l then')))
   stmt_grows (tree.While line test body) l = block_grows body l
-  stmt_grows (tree.Return line) l = same_slots l.slots
-  stmt_grows (tree.ReturnValue line e) l = same_slots l.slots
+  stmt_grows (tree.Return line e) l = same_slots l.slots
 
   pub block_grows : (b : Block) (l : Layout) → AtLeast l.slots (block_layout l b).slots
   block_grows (End line) l = same_slots l.slots
@@ -229,23 +227,21 @@ scalar_size variables.JfieldId = tt
 scalar_size variables.JmethodId = tt
 scalar_size (variables.Reference r) = tt
 
-pub variable_size : (t : VariableType) → SizeFits (variable_type t)
-variable_size t = scalar_size t
+pub declared_size : (t : DeclaredType) → SizeFits (declared_type t)
+declared_size (Simple t) = scalar_size t
+declared_size (Pointer t) = tt
+declared_size ConstChars = tt
 
 pub laid_after : (s : Stmt) (l : Layout) → StmtFits l s → IsLaidOut l.known l.slots → IsLaidOut (layout_after l s).known (layout_after l s).slots
-laid_after (tree.Declare line t x r) l fits laid = laid_declared (variable_type t) l x (variable_size t) laid
-laid_after (tree.DeclareBuffer line t x r) l fits laid = laid_declared (Buffer t true) l x tt laid
-laid_after (tree.DeclareChars line x r) l fits laid = laid_declared (Buffer JChar false) l x tt laid
-laid_after (tree.DeclareArray line t x size) l fits laid = laid_declared (Array t size) l x (fits.1, fits.2) laid
-laid_after (tree.If line test then') l fits laid = laid_more l.known l.slots (block_layout l then').slots (block_grows then' l) laid
-laid_after (tree.IfElse line test then' else') l fits laid = laid_more l.known l.slots (layout_after l (tree.IfElse line test then' else')).slots (stmt_grows (tree.IfElse line test then' else') l) laid
+laid_after (tree.Plain line (tree.Declare t x r)) l fits laid = laid_declared (declared_type t) l x (declared_size t) laid
+laid_after (tree.Plain line (tree.DeclareArray t x size)) l fits laid = laid_declared (Array t size) l x (fits.1, fits.2) laid
+laid_after (tree.If line test then' tree.NoElse) l fits laid = laid_more l.known l.slots (block_layout l then').slots (block_grows then' l) laid
+laid_after (tree.If line test then' (tree.ElseBlock else')) l fits laid = laid_more l.known l.slots (layout_after l (tree.If line test then' (tree.ElseBlock else'))).slots (stmt_grows (tree.If line test then' (tree.ElseBlock else')) l) laid
 laid_after (tree.While line test body) l fits laid = laid_more l.known l.slots (block_layout l body).slots (block_grows body l) laid
 laid_after s l fits laid = laid
 
 -- what was known before a statement is known after it
 pub known_after_stmt : (s : Stmt) (l : Layout) → StmtFits l s → AreAmong l.known (layout_after l s).known
-known_after_stmt (tree.Declare line t x r) l fits = new_among x (new_slot (variable_type t) l) l.known fits.0
-known_after_stmt (tree.DeclareBuffer line t x r) l fits = new_among x (new_slot (Buffer t true) l) l.known fits.0
-known_after_stmt (tree.DeclareChars line x r) l fits = new_among x (new_slot (Buffer JChar false) l) l.known fits.0
-known_after_stmt (tree.DeclareArray line t x size) l fits = new_among x (new_slot (Array t size) l) l.known fits.0
+known_after_stmt (tree.Plain line (tree.Declare t x r)) l fits = new_among x (new_slot (declared_type t) l) l.known fits.0
+known_after_stmt (tree.Plain line (tree.DeclareArray t x size)) l fits = new_among x (new_slot (Array t size) l) l.known fits.0
 known_after_stmt s l fits = all_among l.known

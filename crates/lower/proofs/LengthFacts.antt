@@ -14,7 +14,6 @@ use Rattle.syntax.specs.declared.expr.PrefixOp.TheVariants.{LogicalNot, Compleme
 use Rattle.syntax.specs.declared.expr.BinaryOp.{BinaryOp}
 use Rattle.syntax.specs.declared.expr.BinaryOp.TheVariants.{LogicalOr, LogicalAnd, Equal, NotEqual}
 use Rattle.syntax.specs.Tree.{Expr, Argument, Call, RightSide, FromExpr, FromCall, Test, TestExpr, TestCall, Stmt, Block, End, Next}
-use Rattle.base.specs.declared.element.ElementType.TheVariants.{Char as JChar}
 use Rattle.jni.specs.JniFunction.{function_named, parameters_for}
 use Rattle.jni.specs.declared.kinds.ParameterKind.{ParameterKind}
 use Rattle.jni.specs.declared.kinds.ParameterKind.TheVariants.{IntNumber, Passed}
@@ -22,7 +21,7 @@ use Rattle.type_rules.specs.declared.ty.ExprType.{ExprType}
 use Rattle.type_rules.specs.declared.ty.ExprType.TheVariants.{Jint, Ref, Global, Weak, FieldId, MethodId, Buffer, Array}
 use Rattle.type_rules.specs.ExprTypes.{constant_type, type_in, type_of, is_jint, is_ref, is_null, name_type}
 use Rattle.type_rules.specs.declared.ty.ExprType.TheVariants as types
-use Rattle.type_rules.specs.TypeRules.{variable_type, return_fits, places_within, places_of}
+use Rattle.type_rules.specs.TypeRules.{declared_type, return_fits, places_within, places_of}
 use Rattle.code.specs.declared.instr.Target.{Target}
 use Rattle.code.specs.declared.instr.Target.TheVariants as destination
 use Rattle.code.specs.declared.instr.Instr.{Instr}
@@ -249,7 +248,7 @@ loop_length test body m n first second =
     let last = after_one body (instr.JumpBack (length test + 1 + length body)) n second in
     omega (arith, length-append test (turn_code test body))
 
-write_length : (l : Layout) (line : ℕ) (x : Identifier) (i e : Expr) → StmtFits l (tree.AssignElement line x i e) → length (stmt_code l (tree.AssignElement line x i e)) ≡ expr_steps i + expr_steps e + 1
+write_length : (l : Layout) (line : ℕ) (x : Identifier) (i e : Expr) → StmtFits l (tree.Plain line (tree.AssignElement x i e)) → length (stmt_code l (tree.Plain line (tree.AssignElement x i e))) ≡ expr_steps i + expr_steps e + 1
 write_length l line x i e h =
     let index = expr_length l.known line i h.1.0 h.1.2 in
     let value = expr_length l.known line e Jint h.2 in
@@ -259,18 +258,16 @@ write_length l line x i e h =
 module _ (ints : List Identifier) (returns : ResultType) where
   mutual
     stmt_length : (s : Stmt) (l : Layout) (taken : List Identifier) → IntsAgree ints l.known → StmtsAgree ints (statements_within s) → StmtFits l s → AreUnbroken (places_within returns (scope_of l.known) taken s) → length (stmt_code l s) ≡ stmt_steps ints returns s
-    stmt_length (tree.Declare line t x r) l taken agree declared fits kept = right_length ints l.known line (new_slot (variable_type t) l) r agree fits.1
-    stmt_length (tree.DeclareBuffer line t x r) l taken agree declared fits kept = right_length ints l.known line (new_slot (Buffer t true) l) r agree fits.1
-    stmt_length (tree.DeclareChars line x r) l taken agree declared fits kept = right_length ints l.known line (new_slot (Buffer JChar false) l) r agree fits.1
-    stmt_length (tree.DeclareArray line t x size) l taken agree declared fits kept = refl
-    stmt_length (tree.Assign line x r) l taken agree declared fits kept = ap (λ o. length (assign_code l.known line o r)) fits.1 ∙ right_length ints l.known line fits.0 r agree fits.2
-    stmt_length (tree.AssignElement line x i e) l taken agree declared fits kept = write_length l line x i e fits
-    stmt_length (tree.Perform line c) l taken agree declared fits kept = call_length ints l.known line destination.Dropped c agree fits.fits
-    stmt_length (tree.PutJint line e) l taken agree declared fits kept = after_one (expr_code l.known line e) instr.PutJint (expr_steps e) (expr_length l.known line e Jint fits)
-    stmt_length (tree.If line test then') l taken agree declared fits kept =
-        let inside = block_length then' l taken agree declared.1 fits.1 (inside_kept returns (scope_of l.known) taken (tree.If line test then') kept) in
+    stmt_length (tree.Plain line (tree.Declare t x r)) l taken agree declared fits kept = right_length ints l.known line (new_slot (declared_type t) l) r agree fits.1
+    stmt_length (tree.Plain line (tree.DeclareArray t x size)) l taken agree declared fits kept = refl
+    stmt_length (tree.Plain line (tree.Assign x r)) l taken agree declared fits kept = ap (λ o. length (assign_code l.known line o r)) fits.1 ∙ right_length ints l.known line fits.0 r agree fits.2
+    stmt_length (tree.Plain line (tree.AssignElement x i e)) l taken agree declared fits kept = write_length l line x i e fits
+    stmt_length (tree.Plain line (tree.Perform c)) l taken agree declared fits kept = call_length ints l.known line destination.Dropped c agree fits.fits
+    stmt_length (tree.Plain line (tree.PutJint e)) l taken agree declared fits kept = after_one (expr_code l.known line e) instr.PutJint (expr_steps e) (expr_length l.known line e Jint fits)
+    stmt_length (tree.If line test then' tree.NoElse) l taken agree declared fits kept =
+        let inside = block_length then' l taken agree declared.1 fits.1 (inside_kept returns (scope_of l.known) taken (tree.If line test then' tree.NoElse) kept) in
         if_length ints l.known line test (block_code l then') [] (block_steps ints returns then') 0 agree fits.0 inside refl
-    stmt_length (tree.IfElse line test then' else') l taken agree declared fits kept =
+    stmt_length (tree.If line test then' (tree.ElseBlock else')) l taken agree declared fits kept =
         let both = paths_kept returns (scope_of l.known) taken line test then' else' kept in
         let paths = both_agree ints (statements_of then') (statements_of else') declared.1 in
         let first = block_length then' l taken agree paths.0 fits.1 both.0 in
@@ -279,8 +276,8 @@ module _ (ints : List Identifier) (returns : ResultType) where
     stmt_length (tree.While line test body) l taken agree declared fits kept =
         let inside = block_length body l taken agree declared.1 fits.1 (inside_kept returns (scope_of l.known) taken (tree.While line test body) kept) in
         loop_length (expr_code l.known line test) (block_code l body) (expr_steps test) (block_steps ints returns body) (expr_length l.known line test types.Truth fits.0) inside
-    stmt_length (tree.Return line) l taken agree declared fits kept = refl
-    stmt_length (tree.ReturnValue line e) l taken agree declared fits kept = return_length l.known line returns e (own_kept returns (scope_of l.known) taken (tree.ReturnValue line e) kept).fits fits
+    stmt_length (tree.Return line None) l taken agree declared fits kept = refl
+    stmt_length (tree.Return line (Some e)) l taken agree declared fits kept = return_length l.known line returns e (own_kept returns (scope_of l.known) taken (tree.Return line (Some e)) kept).fits fits
 
     pub block_length : (b : Block) (l : Layout) (taken : List Identifier) → IntsAgree ints l.known → StmtsAgree ints (statements_of b) → BlockFits l b → AreUnbroken (places_of returns (scope_of l.known) taken b) → length (block_code l b) ≡ block_steps ints returns b
     block_length (End line) l taken agree declared fits kept = refl

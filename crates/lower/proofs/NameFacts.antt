@@ -1,15 +1,13 @@
 -- A name that is known is taken, so none is declared twice.
-use Rattle.std.proofs.Common.{◌≡◌, true, false, List, [], ◌∷◌, ◌++◌, Some, None, ap, ◌∙◌, if◌then◌else◌}
+use Rattle.std.proofs.Common.{◌≡◌, false, List, [], ◌∷◌, ◌++◌, Some, None, ap, ◌∙◌, if◌then◌else◌}
 use Rattle.std.specs.Str.{bytes_eq}
 use Rattle.std.proofs.lemmas.Bool.{or_parts}
 use Rattle.base.specs.Bytes.{Identifier, lookup}
-use Rattle.base.specs.declared.element.ElementType.TheVariants.{Char as JChar}
 use Rattle.syntax.specs.Parts.{statements_within, names_declared}
 use Rattle.syntax.specs.Tree as tree
-use Rattle.syntax.specs.declared.unit.ResultType.{ResultType}
-use Rattle.syntax.specs.Tree.{Stmt, Block, End, Next}
-use Rattle.type_rules.specs.declared.ty.ExprType.TheVariants.{Buffer, Array}
-use Rattle.type_rules.specs.TypeRules.{variable_type, has_name}
+use Rattle.syntax.specs.Tree.{Stmt}
+use Rattle.type_rules.specs.declared.ty.ExprType.TheVariants.{Array}
+use Rattle.type_rules.specs.TypeRules.{declared_type, has_name}
 use Rattle.type_rules.proofs.NameLists.{both_none}
 use Rattle.code_meaning.specs.Layout.{Slot, Known, Layout, new_slot, layout_after}
 
@@ -30,8 +28,6 @@ taken_declared names known x s h y none =
     ap (λ b. if b then Some s else lookup y known) (or_parts (bytes_eq y x) false both.1).0 ∙ h y both.0
 
 pub taken_after : (s : Stmt) (l : Layout) (taken : List Identifier) → AreTaken taken l.known → AreTaken (taken ++ names_declared (statements_within s)) (layout_after l s).known
-taken_after (tree.Declare line t x r) l taken h = taken_declared taken l.known x (new_slot (variable_type t) l) h
-taken_after (tree.DeclareBuffer line t x r) l taken h = taken_declared taken l.known x (new_slot (Buffer t true) l) h
-taken_after (tree.DeclareChars line x r) l taken h = taken_declared taken l.known x (new_slot (Buffer JChar false) l) h
-taken_after (tree.DeclareArray line t x size) l taken h = taken_declared taken l.known x (new_slot (Array t size) l) h
+taken_after (tree.Plain line (tree.Declare t x r)) l taken h = taken_declared taken l.known x (new_slot (declared_type t) l) h
+taken_after (tree.Plain line (tree.DeclareArray t x size)) l taken h = taken_declared taken l.known x (new_slot (Array t size) l) h
 taken_after s l taken h = taken_more taken (names_declared (statements_within s)) l.known h

@@ -10,8 +10,8 @@ use Rattle.std.proofs.lemmas.List.Elements.{filter_map-append}
 use Rattle.std.proofs.lemmas.List.Folds.{list_any-append}
 use Rattle.std.proofs.lemmas.Slice.Eq.{bytes_eq-Decides}
 use Rattle.base.specs.Bytes.{Identifier, lookup}
-use Rattle.base.specs.declared.element.ElementType.TheVariants.{Char as JChar}
 use Rattle.syntax.specs.Parts.{statements_of, statements_within, declared_name, names_declared, parameter_names}
+use Rattle.syntax.specs.declared.declared_type.DeclaredType.TheVariants.{Simple}
 use Rattle.syntax.specs.Tree as tree
 use Rattle.syntax.specs.declared.declared_type.VariableType.TheVariants as variables
 use Rattle.syntax.specs.declared.declared_type.ParameterType.{ParameterType}
@@ -19,9 +19,9 @@ use Rattle.syntax.specs.declared.declared_type.ParameterType.TheVariants.{Jint a
 use Rattle.syntax.specs.declared.unit.ResultType.{ResultType}
 use Rattle.syntax.specs.Tree.{Parameter, Function, Stmt, Block, End, Next}
 use Rattle.type_rules.specs.declared.ty.ExprType.{ExprType}
-use Rattle.type_rules.specs.declared.ty.ExprType.TheVariants.{Ref, Global, Weak, Buffer, Array}
+use Rattle.type_rules.specs.declared.ty.ExprType.TheVariants.{Ref, Global, Weak, Array}
 use Rattle.type_rules.specs.ExprTypes.{Scope, is_jint}
-use Rattle.type_rules.specs.TypeRules.{variable_type, has_name, has_repeated, Place, HeadForm, parameter_type, with_declared, places_within, places_of, function_places}
+use Rattle.type_rules.specs.TypeRules.{declared_type, has_name, has_repeated, Place, HeadForm, parameter_type, with_declared, places_within, places_of, function_places}
 use Rattle.type_rules.proofs.PlaceLists.{AreUnbroken, not_twice, first_unbroken}
 use Rattle.type_rules.proofs.KeptPlaces.{own_kept, inside_kept, block_kept, paths_kept}
 use Rattle.type_rules.proofs.NameLists.{has_last}
@@ -68,12 +68,10 @@ declared_both front back = filter_map-append declared_name front back
 module _ (returns : ResultType) where
   mutual
     stmt_fresh : (s : Stmt) (known : Scope) (taken : List Identifier) → AreUnbroken (places_within returns known taken s) → AreFresh taken (names_declared (statements_within s))
-    stmt_fresh (tree.Declare line t x r) known taken h = ((own_kept returns known taken (tree.Declare line t x r) h).new, tt)
-    stmt_fresh (tree.DeclareBuffer line t x r) known taken h = ((own_kept returns known taken (tree.DeclareBuffer line t x r) h).new, tt)
-    stmt_fresh (tree.DeclareChars line x r) known taken h = ((own_kept returns known taken (tree.DeclareChars line x r) h).new, tt)
-    stmt_fresh (tree.DeclareArray line t x size) known taken h = ((own_kept returns known taken (tree.DeclareArray line t x size) h).new, tt)
-    stmt_fresh (tree.If line test then') known taken h = block_fresh then' known taken (inside_kept returns known taken (tree.If line test then') h)
-    stmt_fresh (tree.IfElse line test then' else') known taken h =
+    stmt_fresh (tree.Plain line (tree.Declare t x r)) known taken h = ((own_kept returns known taken (tree.Plain line (tree.Declare t x r)) h).new, tt)
+    stmt_fresh (tree.Plain line (tree.DeclareArray t x size)) known taken h = ((own_kept returns known taken (tree.Plain line (tree.DeclareArray t x size)) h).new, tt)
+    stmt_fresh (tree.If line test then' tree.NoElse) known taken h = block_fresh then' known taken (inside_kept returns known taken (tree.If line test then' tree.NoElse) h)
+    stmt_fresh (tree.If line test then' (tree.ElseBlock else')) known taken h =
         let both = paths_kept returns known taken line test then' else' h in
         subst (AreFresh taken) (sym (declared_both (statements_of then') (statements_of else')))
         (fresh_both taken (names_declared (statements_of then')) (names_declared (statements_of else')) (block_fresh then' known taken both.0) (block_fresh else' known (taken ++ names_declared (statements_of then')) both.1))
@@ -93,20 +91,16 @@ module _ (returns : ResultType) where
 -- a name that isn't declared is no `jint` that is
 ints_lack : (statements : List Stmt) (x : Identifier) → has_name (names_declared statements) x ≡ false → has_name (filter_map int_declared statements) x ≡ false
 ints_lack [] x h = refl
-ints_lack (tree.Declare line variables.Jint y r ∷ rest) x h = or_from (bytes_eq x y) (has_name (filter_map int_declared rest) x) (or_parts (bytes_eq x y) (has_name (names_declared rest) x) h).0 (ints_lack rest x (or_parts (bytes_eq x y) (has_name (names_declared rest) x) h).1)
-ints_lack (tree.Declare line variables.Jsize y r ∷ rest) x h = or_from (bytes_eq x y) (has_name (filter_map int_declared rest) x) (or_parts (bytes_eq x y) (has_name (names_declared rest) x) h).0 (ints_lack rest x (or_parts (bytes_eq x y) (has_name (names_declared rest) x) h).1)
-ints_lack (tree.Declare line t y r ∷ rest) x h = ints_lack rest x (or_parts (bytes_eq x y) (has_name (names_declared rest) x) h).1
-ints_lack (tree.DeclareBuffer line t y r ∷ rest) x h = ints_lack rest x (or_parts (bytes_eq x y) (has_name (names_declared rest) x) h).1
-ints_lack (tree.DeclareChars line y r ∷ rest) x h = ints_lack rest x (or_parts (bytes_eq x y) (has_name (names_declared rest) x) h).1
-ints_lack (tree.DeclareArray line t y size ∷ rest) x h = ints_lack rest x (or_parts (bytes_eq x y) (has_name (names_declared rest) x) h).1
+ints_lack (tree.Plain line (tree.Declare (Simple variables.Jint) y r) ∷ rest) x h = or_from (bytes_eq x y) (has_name (filter_map int_declared rest) x) (or_parts (bytes_eq x y) (has_name (names_declared rest) x) h).0 (ints_lack rest x (or_parts (bytes_eq x y) (has_name (names_declared rest) x) h).1)
+ints_lack (tree.Plain line (tree.Declare (Simple variables.Jsize) y r) ∷ rest) x h = or_from (bytes_eq x y) (has_name (filter_map int_declared rest) x) (or_parts (bytes_eq x y) (has_name (names_declared rest) x) h).0 (ints_lack rest x (or_parts (bytes_eq x y) (has_name (names_declared rest) x) h).1)
+ints_lack (tree.Plain line (tree.Declare t y r) ∷ rest) x h = ints_lack rest x (or_parts (bytes_eq x y) (has_name (names_declared rest) x) h).1
+ints_lack (tree.Plain line (tree.DeclareArray t y size) ∷ rest) x h = ints_lack rest x (or_parts (bytes_eq x y) (has_name (names_declared rest) x) h).1
 ints_lack (s ∷ rest) x h = ints_lack rest x h
 
 -- the name that a statement declares is among these where it is that of a `jint`
 abbrev pub StmtAgrees : List Identifier → Stmt → Type 0
-StmtAgrees ints (tree.Declare line t x r) = has_name ints x ≡ is_jint (Some (variable_type t))
-StmtAgrees ints (tree.DeclareBuffer line t x r) = has_name ints x ≡ false
-StmtAgrees ints (tree.DeclareChars line x r) = has_name ints x ≡ false
-StmtAgrees ints (tree.DeclareArray line t x size) = has_name ints x ≡ false
+StmtAgrees ints (tree.Plain line (tree.Declare t x r)) = has_name ints x ≡ is_jint (Some (declared_type t))
+StmtAgrees ints (tree.Plain line (tree.DeclareArray t x size)) = has_name ints x ≡ false
 StmtAgrees ints s = Unit {0}
 
 abbrev pub StmtsAgree : List Identifier → List Stmt → Type 0
@@ -143,14 +137,12 @@ moved before rest x statements h = subst (λ (ints : List Identifier). StmtsAgre
 
 declared_agree : (statements : List Stmt) (before taken : List Identifier) → AreAmongTaken before taken → AreFresh taken (names_declared statements) → StmtsAgree (before ++ filter_map int_declared statements) statements
 declared_agree [] before taken among fresh = tt
-declared_agree (tree.Declare line variables.Jint x r ∷ rest) before taken among fresh =
+declared_agree (tree.Plain line (tree.Declare (Simple variables.Jint) x r) ∷ rest) before taken among fresh =
     (int_has before (filter_map int_declared rest) x, moved before (filter_map int_declared rest) x rest (declared_agree rest (before ++ x ∷ []) (taken ++ x ∷ []) (more_before before taken x among) fresh.1))
-declared_agree (tree.Declare line variables.Jsize x r ∷ rest) before taken among fresh =
+declared_agree (tree.Plain line (tree.Declare (Simple variables.Jsize) x r) ∷ rest) before taken among fresh =
     (int_has before (filter_map int_declared rest) x, moved before (filter_map int_declared rest) x rest (declared_agree rest (before ++ x ∷ []) (taken ++ x ∷ []) (more_before before taken x among) fresh.1))
-declared_agree (tree.Declare line t x r ∷ rest) before taken among fresh = (other_lack before taken rest x among fresh.0 fresh.1, declared_agree rest before (taken ++ x ∷ []) (more_taken before taken x among) fresh.1)
-declared_agree (tree.DeclareBuffer line t x r ∷ rest) before taken among fresh = (other_lack before taken rest x among fresh.0 fresh.1, declared_agree rest before (taken ++ x ∷ []) (more_taken before taken x among) fresh.1)
-declared_agree (tree.DeclareChars line x r ∷ rest) before taken among fresh = (other_lack before taken rest x among fresh.0 fresh.1, declared_agree rest before (taken ++ x ∷ []) (more_taken before taken x among) fresh.1)
-declared_agree (tree.DeclareArray line t x size ∷ rest) before taken among fresh = (other_lack before taken rest x among fresh.0 fresh.1, declared_agree rest before (taken ++ x ∷ []) (more_taken before taken x among) fresh.1)
+declared_agree (tree.Plain line (tree.Declare t x r) ∷ rest) before taken among fresh = (other_lack before taken rest x among fresh.0 fresh.1, declared_agree rest before (taken ++ x ∷ []) (more_taken before taken x among) fresh.1)
+declared_agree (tree.Plain line (tree.DeclareArray t x size) ∷ rest) before taken among fresh = (other_lack before taken rest x among fresh.0 fresh.1, declared_agree rest before (taken ++ x ∷ []) (more_taken before taken x among) fresh.1)
 declared_agree (s ∷ rest) before taken among fresh = (tt, declared_agree rest before taken among fresh)
 
 -- ---- the names that are known
@@ -164,19 +156,14 @@ agree_first ints x slot known new h y s at =
     first_or_after x y slot s known (has_name ints y ≡ is_jint (Some s.ty)) (λ same is. ap (λ z. has_name ints z) same ∙ new ∙ ap (λ (t : Slot). is_jint (Some t.ty)) is) (λ other found. h y s found) at
 
 pub agree_after : (ints : List Identifier) (s : Stmt) (l : Layout) → StmtAgrees ints s → IntsAgree ints l.known → IntsAgree ints (layout_after l s).known
-agree_after ints (tree.Declare line t x r) l new h = agree_first ints x (new_slot (variable_type t) l) l.known new h
-agree_after ints (tree.DeclareBuffer line t x r) l new h = agree_first ints x (new_slot (Buffer t true) l) l.known new h
-agree_after ints (tree.DeclareChars line x r) l new h = agree_first ints x (new_slot (Buffer JChar false) l) l.known new h
-agree_after ints (tree.DeclareArray line t x size) l new h = agree_first ints x (new_slot (Array t size) l) l.known new h
+agree_after ints (tree.Plain line (tree.Declare t x r)) l new h = agree_first ints x (new_slot (declared_type t) l) l.known new h
+agree_after ints (tree.Plain line (tree.DeclareArray t x size)) l new h = agree_first ints x (new_slot (Array t size) l) l.known new h
 agree_after ints s l new h = h
 
 -- ---- a function's beginning
 
 -- a statement is the first of those within it
 pub own_agrees : (ints : List Identifier) (s : Stmt) → StmtsAgree ints (statements_within s) → StmtAgrees ints s
-own_agrees ints (tree.If line test then') h = tt
-own_agrees ints (tree.IfElse line test then' else') h = tt
-own_agrees ints (tree.While line test body) h = tt
 own_agrees ints s h = h.0
 
 -- a parameter's name that isn't among others is no `jint` of theirs

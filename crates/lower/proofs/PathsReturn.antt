@@ -18,9 +18,9 @@ if_returns line (TestExpr e) a b h = h
 if_returns line (TestCall c) a b h = invocation_returns line a b c (function_named c.function) h
 
 stmt_task_returns : (s : Stmt) → stmt_returns s ≡ true → task_returns (task_of s) ≡ true
-stmt_task_returns (tree.IfElse line test a b) h = if_returns line test a b h
-stmt_task_returns (tree.Return line) h = refl
-stmt_task_returns (tree.ReturnValue line e) h = refl
+stmt_task_returns (tree.If line test a (tree.ElseBlock b)) h = if_returns line test a b h
+stmt_task_returns (tree.Return line None) h = refl
+stmt_task_returns (tree.Return line (Some e)) h = refl
 stmt_task_returns s h = absurd (cc)
 
 first_returns : (a b c d : Bool) → (a ≡ true → c ≡ true) → (b ≡ true → d ≡ true) → (a || b) ≡ true → (c || d) ≡ true

@@ -20,8 +20,7 @@ use Rattle.syntax.specs.Tree.{Expr, Argument, RightSide, FromExpr, FromCall, Tes
 use Rattle.type_rules.specs.declared.ty.ExprType.{ExprType}
 use Rattle.type_rules.specs.declared.ty.ExprType.TheVariants.{Jint, Ref, Global, Weak, FieldId, MethodId, Buffer, Array}
 use Rattle.type_rules.specs.declared.ty.ExprType.TheVariants as types
-use Rattle.type_rules.specs.TypeRules.{variable_type}
-use Rattle.base.specs.declared.element.ElementType.TheVariants.{Char as JChar}
+use Rattle.type_rules.specs.TypeRules.{declared_type}
 use Rattle.code.specs.declared.instr.Target.{Target}
 use Rattle.code.specs.declared.instr.Target.TheVariants as destination
 use Rattle.code.specs.declared.instr.Instr.{Instr}
@@ -281,7 +280,7 @@ if_piece : (known : Known) (line : ℕ) (test : Test) (then' else' : List Instr)
 if_piece known line test then' else' fits h k =
     piece_append (test_code known line test) (paths_code then' (else' ++ instr.Jump 0 ∷ [])) 0 1 0 (test_piece known line test fits) (piece_if then' (else' ++ instr.Jump 0 ∷ []) h (piece_append else' (instr.Jump 0 ∷ []) 0 0 0 k piece_end))
 
-write_piece : (l : Layout) (line : ℕ) (x : Identifier) (i e : Expr) → StmtFits l (tree.AssignElement line x i e) → IsPiece (stmt_code l (tree.AssignElement line x i e)) 0 0
+write_piece : (l : Layout) (line : ℕ) (x : Identifier) (i e : Expr) → StmtFits l (tree.Plain line (tree.AssignElement x i e)) → IsPiece (stmt_code l (tree.Plain line (tree.AssignElement x i e))) 0 0
 write_piece l line x i e fits =
     piece_append (expr_code l.known line i) (expr_code l.known line e ++ of_slot (write_code line) (lookup x l.known)) 0 1 0 (number_piece l.known line (term_of i) fits.1.0 0 fits.1.2 (omega arith))
     (piece_append (expr_code l.known line e) (of_slot (write_code line) (lookup x l.known)) 1 2 0 (number_piece l.known line (term_of e) Jint 1 fits.2 (omega arith))
@@ -289,20 +288,18 @@ write_piece l line x i e fits =
 
 mutual
   pub stmt_piece : (s : Stmt) (l : Layout) → StmtFits l s → IsPiece (stmt_code l s) 0 0
-  stmt_piece (tree.Declare line t x r) l fits = right_piece l.known line (new_slot (variable_type t) l) r fits.1
-  stmt_piece (tree.DeclareBuffer line t x r) l fits = right_piece l.known line (new_slot (Buffer t true) l) r fits.1
-  stmt_piece (tree.DeclareChars line x r) l fits = right_piece l.known line (new_slot (Buffer JChar false) l) r fits.1
-  stmt_piece (tree.DeclareArray line t x size) l fits = piece_one (instr.ClearArray _) 0 0 refl tt
-  stmt_piece (tree.Assign line x r) l fits = subst (λ (o : Option Slot). IsPiece (assign_code l.known line o r) 0 0) (sym fits.1) (right_piece l.known line fits.0 r fits.2)
-  stmt_piece (tree.AssignElement line x i e) l fits = write_piece l line x i e fits
-  stmt_piece (tree.Perform line c) l fits = call_piece l.known line destination.Dropped c 0 fits.fits refl
-  stmt_piece (tree.PutJint line e) l fits = taken_piece l.known line (term_of e) Jint instr.PutJint fits (piece_one instr.PutJint 1 0 refl tt)
-  stmt_piece (tree.If line test then') l fits = if_piece l.known line test (block_code l then') [] fits.0 (block_piece then' l fits.1) (piece_none 0)
-  stmt_piece (tree.IfElse line test then' else') l fits =
+  stmt_piece (tree.Plain line (tree.Declare t x r)) l fits = right_piece l.known line (new_slot (declared_type t) l) r fits.1
+  stmt_piece (tree.Plain line (tree.DeclareArray t x size)) l fits = piece_one (instr.ClearArray _) 0 0 refl tt
+  stmt_piece (tree.Plain line (tree.Assign x r)) l fits = subst (λ (o : Option Slot). IsPiece (assign_code l.known line o r) 0 0) (sym fits.1) (right_piece l.known line fits.0 r fits.2)
+  stmt_piece (tree.Plain line (tree.AssignElement x i e)) l fits = write_piece l line x i e fits
+  stmt_piece (tree.Plain line (tree.Perform c)) l fits = call_piece l.known line destination.Dropped c 0 fits.fits refl
+  stmt_piece (tree.Plain line (tree.PutJint e)) l fits = taken_piece l.known line (term_of e) Jint instr.PutJint fits (piece_one instr.PutJint 1 0 refl tt)
+  stmt_piece (tree.If line test then' tree.NoElse) l fits = if_piece l.known line test (block_code l then') [] fits.0 (block_piece then' l fits.1) (piece_none 0)
+  stmt_piece (tree.If line test then' (tree.ElseBlock else')) l fits =
       if_piece l.known line test (block_code l then') (block_code (closed l (block_layout l then')) else') fits.0 (block_piece then' l fits.1) (block_piece else' (closed l (block_layout l then')) fits.2)
   stmt_piece (tree.While line test body) l fits = piece_loop (expr_code l.known line test) (block_code l body) (number_piece l.known line (term_of test) types.Truth 0 fits.0 (omega arith)) (block_piece body l fits.1)
-  stmt_piece (tree.Return line) l fits = piece_one instr.Return 0 0 refl tt
-  stmt_piece (tree.ReturnValue line e) l fits = return_piece l.known line (term_of e) fits
+  stmt_piece (tree.Return line None) l fits = piece_one instr.Return 0 0 refl tt
+  stmt_piece (tree.Return line (Some e)) l fits = return_piece l.known line (term_of e) fits
 
   pub block_piece : (b : Block) (l : Layout) → BlockFits l b → IsPiece (block_code l b) 0 0
   block_piece (End line) l fits = piece_none 0

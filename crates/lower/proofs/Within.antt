@@ -1,5 +1,5 @@
 -- Each instruction of a body finds its slots.
-use Rattle.std.specs.Prelude.{zip}
+use Rattle.std.specs.Prelude.{zip, None}
 use Rattle.std.proofs.Common.{◌≡◌, ℕ, ◌+◌, ◌<◌, ◌⊎◌, inl, inr, Bool, true, false, if◌then◌else◌, List, [], ◌∷◌, ◌++◌, length, Option, Some, refl, sym, ap, ◌∙◌, subst, map}
 use Rattle.std.specs.List.{list_all, AllZip}
 use Rattle.std.proofs.lemmas.List.Folds.{list_all-append}
@@ -16,10 +16,9 @@ use Rattle.type_rules.specs.declared.ty.ExprType.{ExprType}
 use Rattle.type_rules.specs.declared.ty.ExprType.TheVariants.{Jint, Ref, Global, Weak, FieldId, MethodId, Buffer, Array}
 use Rattle.type_rules.specs.ExprTypes.{is_jint}
 use Rattle.type_rules.specs.declared.ty.ExprType.TheVariants as types
-use Rattle.type_rules.specs.TypeRules.{variable_type}
+use Rattle.type_rules.specs.TypeRules.{declared_type}
 use Rattle.type_rules.specs.TypeGroups.{IsNumberType}
 use Rattle.base.specs.declared.element.ElementType.{ElementType}
-use Rattle.base.specs.declared.element.ElementType.TheVariants.{Char as JChar}
 use Rattle.code.specs.declared.instr.Operand.TheVariants as operand
 use Rattle.code.specs.declared.instr.Target.{Target}
 use Rattle.code.specs.declared.instr.Target.TheVariants as destination
@@ -40,7 +39,7 @@ use Rattle.code_meaning.specs.Coding.{nullable_of, test_of, null_code, element_c
 use Rattle.code_meaning.specs.Fits as rule
 use Rattle.code_meaning.specs.Fits.{IsNullable, HasElements, TermHasType, NumberFits, IndexWithin, IsLaidOut, HasRoomFor, ArgumentFits, ValueFits, RightFits, TestFits, ReturnFits, StmtFits, BlockFits, CallFits, IsReferenceKind, NameFits, ReferenceFits, FieldFits, MethodFits, PassedFits, ArrayFits, BufferFits, ResultFits, AnyReferenceFits}
 use Rattle.lower.proofs.Bodies.{value_is, buffer_type}
-use Rattle.lower.proofs.Layouts.{SizeFits, index_more, room_before, room_at_least, declared_slot, laid_after, laid_more, variable_size, block_grows, stmt_grows}
+use Rattle.lower.proofs.Layouts.{SizeFits, index_more, room_before, room_at_least, declared_slot, laid_after, laid_more, declared_size, block_grows, stmt_grows}
 
 -- ---- instructions in these slots
 
@@ -318,7 +317,7 @@ module _ (slots : SlotCounts) where
       (cons_within (instr.JumpIfFalse (length then' + 1)) (then' ++ instr.Jump (length (else' ++ instr.Jump 0 ∷ [])) ∷ (else' ++ instr.Jump 0 ∷ [])) refl
       (both_within then' (instr.Jump (length (else' ++ instr.Jump 0 ∷ [])) ∷ (else' ++ instr.Jump 0 ∷ [])) h (cons_within (instr.Jump (length (else' ++ instr.Jump 0 ∷ []))) (else' ++ instr.Jump 0 ∷ []) refl second)))
 
-  write_within : (l : Layout) (line : ℕ) (x : Identifier) (i e : Expr) → AllThere l.known → StmtFits l (tree.AssignElement line x i e) → AllWithin (stmt_code l (tree.AssignElement line x i e))
+  write_within : (l : Layout) (line : ℕ) (x : Identifier) (i e : Expr) → AllThere l.known → StmtFits l (tree.Plain line (tree.AssignElement x i e)) → AllWithin (stmt_code l (tree.Plain line (tree.AssignElement x i e)))
   write_within l line x i e all fits =
       both_within (expr_code l.known line i) (expr_code l.known line e ++ of_slot (write_code line) (lookup x l.known)) (term_within l.known line all fits.1.2.ty)
       (both_within (expr_code l.known line e) (of_slot (write_code line) (lookup x l.known)) (term_within l.known line all fits.2.ty)
@@ -333,18 +332,16 @@ module _ (slots : SlotCounts) where
 
   mutual
     stmt_within : (s : Stmt) (l : Layout) → StmtFits l s → IsLaidOut l.known l.slots → HasRoomFor slots (layout_after l s).slots → AllThere l.known → AllWithin (stmt_code l s)
-    stmt_within (tree.Declare line t x r) l fits laid room all = right_within l.known line (new_slot (variable_type t) l) r all (new_there (variable_type t) l x (variable_size t) laid room) fits.1
-    stmt_within (tree.DeclareBuffer line t x r) l fits laid room all = right_within l.known line (new_slot (Buffer t true) l) r all (new_there (Buffer t true) l x tt laid room) fits.1
-    stmt_within (tree.DeclareChars line x r) l fits laid room all = right_within l.known line (new_slot (Buffer JChar false) l) r all (new_there (Buffer JChar false) l x tt laid room) fits.1
-    stmt_within (tree.DeclareArray line t x size) l fits laid room all =
+    stmt_within (tree.Plain line (tree.Declare t x r)) l fits laid room all = right_within l.known line (new_slot (declared_type t) l) r all (new_there (declared_type t) l x (declared_size t) laid room) fits.1
+    stmt_within (tree.Plain line (tree.DeclareArray t x size)) l fits laid room all =
         let there = new_there (Array t size) l x (fits.1, fits.2) laid room in
         rw (lt-ltb 0 size there.0, le-leb size 1024 there.1, le-leb (l.slots.numbers + size) slots.numbers there.2) refl
-    stmt_within (tree.Assign line x r) l fits laid room all = subst (λ (o : Option Slot). AllWithin (assign_code l.known line o r)) (sym fits.1) (right_within l.known line fits.0 r all (all x fits.0 fits.1) fits.2)
-    stmt_within (tree.AssignElement line x i e) l fits laid room all = write_within l line x i e all fits
-    stmt_within (tree.Perform line c) l fits laid room all = call_within l.known line destination.Dropped c refl all fits.fits
-    stmt_within (tree.PutJint line e) l fits laid room all = taken_within l.known line (term_of e) Jint instr.PutJint all fits refl
-    stmt_within (tree.If line test then') l fits laid room all = if_within l.known line test (block_code l then') [] all fits.0 (block_within then' l fits.1 laid room) refl
-    stmt_within (tree.IfElse line test then' else') l fits laid room all =
+    stmt_within (tree.Plain line (tree.Assign x r)) l fits laid room all = subst (λ (o : Option Slot). AllWithin (assign_code l.known line o r)) (sym fits.1) (right_within l.known line fits.0 r all (all x fits.0 fits.1) fits.2)
+    stmt_within (tree.Plain line (tree.AssignElement x i e)) l fits laid room all = write_within l line x i e all fits
+    stmt_within (tree.Plain line (tree.Perform c)) l fits laid room all = call_within l.known line destination.Dropped c refl all fits.fits
+    stmt_within (tree.Plain line (tree.PutJint e)) l fits laid room all = taken_within l.known line (term_of e) Jint instr.PutJint all fits refl
+    stmt_within (tree.If line test then' tree.NoElse) l fits laid room all = if_within l.known line test (block_code l then') [] all fits.0 (block_within then' l fits.1 laid room) refl
+    stmt_within (tree.If line test then' (tree.ElseBlock else')) l fits laid room all =
         let first = closed l (block_layout l then') in
         if_within l.known line test (block_code l then') (block_code first else') all fits.0
         (block_within then' l fits.1 laid (room_before slots first.slots (block_layout first else').slots (block_grows else' first) room))
@@ -355,8 +352,8 @@ module _ (slots : SlotCounts) where
         let back = instr.JumpBack (length T + 1 + length B) in
         both_within T (turn_code T B) (term_within l.known line all fits.0.ty)
         (cons_within (instr.JumpIfFalse (length B + 1)) (B ++ back ∷ []) refl (both_within B (back ∷ []) (block_within body l fits.1 laid room) refl))
-    stmt_within (tree.Return line) l fits laid room all = refl
-    stmt_within (tree.ReturnValue line e) l fits laid room all = return_within l.known line (term_of e) all fits
+    stmt_within (tree.Return line None) l fits laid room all = refl
+    stmt_within (tree.Return line (Some e)) l fits laid room all = return_within l.known line (term_of e) all fits
 
     pub block_within : (b : Block) (l : Layout) → BlockFits l b → IsLaidOut l.known l.slots → HasRoomFor slots (block_layout l b).slots → AllWithin (block_code l b)
     block_within (End line) l fits laid room = refl

@@ -7,6 +7,7 @@ use denote.Struct.Declared.{shape}
 use denote.Struct.Tuple.{TupleAt, field_at, type_at}
 use denote.RattleType.{RattleType}
 use Rattle.base.proofs.element.ElementType.TheSendSync as element
+use Rattle.syntax.proofs.declared_type.DeclaredType.TheSendSync as declared-type
 use Rattle.syntax.proofs.declared_type.VariableType.TheSendSync as variable-type
 use Rattle.syntax.proofs.name.Name.TheSendSync as name
 use Rattle.syntax.proofs.unit.Parameter.TheSendSync as parameter
@@ -16,7 +17,8 @@ use Rattle.syntax.proofs.expr.Expr.TheSendSync as expr
 use Rattle.syntax.proofs.call.Call.TheSendSync as syntax-call
 use Rattle.syntax.proofs.call.RightSide.TheSendSync as right-side
 use Rattle.syntax.proofs.call.Test.TheSendSync as test
-use Rattle.syntax.proofs.stmt.Form.TheLaws.TheKnot as form
+use Rattle.syntax.proofs.stmt.PlainStmt.TheSendSync as plain
+use Rattle.syntax.proofs.stmt.Else.TheLaws.TheKnot as statements
 use Rattle.syntax.specs.contracts.unit.Unit as unit
 use Rattle.syntax.specs.contracts.unit.Unit.TheInside as unit-inside
 use Rattle.syntax.specs.contracts.unit.Item as item
@@ -38,7 +40,7 @@ use Rattle.code.specs.contracts.instr.BoxedCall.TheInside as boxed-call-inside
 -- ---- what workers are lent
 
 item_sync : IsSync item.the_row
-item_sync = search (element.the_field_sync, variable-type.the_field_sync, name.the_sync, parameter.the_sync, result-type.the_field_sync, static.the_field_sync, vec.the_sync, crosses, expr.the_sync, expr.the_field_sync, syntax-call.the_field_sync, right-side.the_field_sync, test.the_field_sync, form.crosses, sendable) depth 60 fits 20000
+item_sync = search (element.the_field_sync, declared-type.the_field_sync, variable-type.the_field_sync, name.the_sync, parameter.the_sync, result-type.the_field_sync, static.the_field_sync, vec.the_sync, crosses, expr.the_sync, expr.the_field_sync, syntax-call.the_field_sync, right-side.the_field_sync, test.the_field_sync, plain.the_field_sync, statements.crosses, sendable) depth 60 fits 20000
 
 unit_sync : IsSync unit.the_row
 unit_sync = view_sync unit-inside.the_row _ _ _ _ (recorded_sync (unit-inside.the_field).row _ _ unit-inside.the_type.to_one (struct_sync (shape unit-inside.the_type) (Vec-sync item.the_row item_sync, tt)))

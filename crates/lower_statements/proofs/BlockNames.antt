@@ -13,19 +13,15 @@ none : (known : Known) → Adds known known
 none known = ([], refl)
 
 statement_adds : (l : Layout) (s : Stmt) → Adds l.known (layout_after l s).known
-statement_adds l (tree.Declare line t x r) = (_ ∷ [], refl)
-statement_adds l (tree.DeclareBuffer line t x r) = (_ ∷ [], refl)
-statement_adds l (tree.DeclareChars line x r) = (_ ∷ [], refl)
-statement_adds l (tree.DeclareArray line t x size) = (_ ∷ [], refl)
-statement_adds l (tree.Assign line x r) = none l.known
-statement_adds l (tree.AssignElement line x i v) = none l.known
-statement_adds l (tree.Perform line call) = none l.known
-statement_adds l (tree.PutJint line v) = none l.known
-statement_adds l (tree.If line test then') = none l.known
-statement_adds l (tree.IfElse line test then' else') = none l.known
+statement_adds l (tree.Plain line (tree.Declare t x r)) = (_ ∷ [], refl)
+statement_adds l (tree.Plain line (tree.DeclareArray t x size)) = (_ ∷ [], refl)
+statement_adds l (tree.Plain line (tree.Assign x r)) = none l.known
+statement_adds l (tree.Plain line (tree.AssignElement x i v)) = none l.known
+statement_adds l (tree.Plain line (tree.Perform call)) = none l.known
+statement_adds l (tree.Plain line (tree.PutJint v)) = none l.known
+statement_adds l (tree.If line test then' else') = none l.known
 statement_adds l (tree.While line test body) = none l.known
-statement_adds l (tree.Return line) = none l.known
-statement_adds l (tree.ReturnValue line v) = none l.known
+statement_adds l (tree.Return line v) = none l.known
 
 block_adds : (l : Layout) (b : Block) → Adds l.known (block_layout l b).known
 block_adds l (End line) = none l.known

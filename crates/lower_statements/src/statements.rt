@@ -3,15 +3,14 @@
 ghost use Rattle.std.specs.Prelude.{◌≡◌, ◌+◌, ◌-◌, ◌<◌, ◌≤◌, [], ◌∷◌, ◌++◌, slice_set, vec_len, map, IfOk, OnOk, IsTrue};
 ghost use Rattle.base.specs.Bytes.{lookup};
 ghost use Rattle.syntax.specs.Shapes.{ref_tree};
-ghost use Rattle.syntax.specs.Views.{argument_tree, call_tree, right_side_tree, test_tree, form_tree, block_tree};
+ghost use Rattle.syntax.specs.Views.{argument_tree, call_tree, right_side_tree, test_tree, plain_tree, form_tree, else_tree, block_tree};
 ghost use Rattle.jni.specs.JniFunction.{function_named};
 ghost use Rattle.semantics.specs.Arguments.{mode_of};
 ghost use Rattle.semantics.specs.Term.{term_of};
-ghost use Rattle.code_meaning.specs.Layout.{closed, layout_after, block_layout, with_name, new_slot};
+ghost use Rattle.code_meaning.specs.Layout.{closed, plain_layout, layout_after, else_layout, block_layout, with_name, new_slot};
 ghost use Rattle.code_meaning.specs.Arguments.{paired};
-ghost use Rattle.code_meaning.specs.Coding.{mode_code, operand_code, passed_code, passed_rest, number_code, argument_code, arguments_code, arguments_texts, variable_operand, result_target, named_call_code, right_code, assign_code, write_code, of_slot, return_code, returned_code, test_code, first_code, loop_code, expr_code, stmt_code, block_code};
+ghost use Rattle.code_meaning.specs.Coding.{mode_code, operand_code, passed_code, passed_rest, number_code, argument_code, arguments_code, arguments_texts, variable_operand, result_target, named_call_code, right_code, assign_code, write_code, of_slot, return_code, returned_code, test_code, first_code, loop_code, expr_code, plain_code, stmt_code, else_code, block_code};
 ghost use Rattle.lower_statements.specs.Names.{slot_view};
-ghost use Rattle.code_meaning.specs.Plain.{is_declaring, is_plain};
 
 use crate::emitting::{counted, emit, replace};
 use crate::names::{Names, Slot};
@@ -22,9 +21,10 @@ use code_meaning::Parameters;
 use jni::{JniFunction, ParameterKind, function_named};
 use std::alloc::{AllocError, Global};
 use syntax::{
-    Argument, Block, Call, Constant, ElementType, ExprRef, Form, Name, RightSide, Shape, Test,
+    Argument, Block, Call, Constant, ElementType, Else, ExprRef, Form, Name, PlainStmt, RightSide,
+    Shape, Test,
 };
-use type_rules::{ExprType, variable_type};
+use type_rules::{ExprType, declared_type};
 
 /// A statement on this line, with the names that are known after it.
 #[cycle(statements)]
@@ -38,78 +38,57 @@ pub fn emit_form<'a>(
     ensures names { OnOk result (names.new ≡ layout_after names.old (form_tree line form.now)) }
 {
     match form {
-        Form::If(test, first) => {
+        Form::Plain(plain) => emit_plain(code, names, line, plain),
+        Form::If(test, first, other) => {
             let end = emit_first(code, names, line, test, first)?;
-            emit_end(code, end)
-        }
-        Form::IfElse(test, first, second) => {
-            let end = emit_first(code, names, line, test, first)?;
-            emit_block(code, names, second)?;
+            emit_else(code, names, other)?;
             emit_end(code, end)
         }
         Form::While(test, body) => emit_loop(code, names, line, body, test.whole()),
-        _ => emit_plain(code, names, line, form),
+        Form::Return(None) => emit(code, Instr::Return),
+        Form::Return(Some(value)) => emit_return(code, names, line, value.whole()),
     }
 }
 
-/// A statement without blocks.
+/// A plain statement.
 fn emit_plain<'a>(
     code: &mut Vec<Instr>,
     names: &mut Names<'a>,
     line: u32,
-    form: &'a Form,
+    plain: &'a PlainStmt,
 ) -> Result<(), AllocError>
-    requires { IsTrue (is_plain form.now) }
-    ensures code { OnOk result (code.new.items ≡ code.old.items ++ stmt_code names.old (form_tree line form.now)) }
-    ensures names { OnOk result (names.new ≡ layout_after names.old (form_tree line form.now)) }
+    ensures code { OnOk result (code.new.items ≡ code.old.items ++ plain_code names.old line (plain_tree plain.now)) }
+    ensures names { OnOk result (names.new ≡ plain_layout names.old (plain_tree plain.now)) }
 {
-    match form {
-        Form::Assign(name, right) => emit_assignment(code, names, line, name, right),
-        Form::AssignElement(name, index, value) => {
+    match plain {
+        PlainStmt::Declare(kind, name, right) => {
+            emit_declaration(code, names, line, name, declared_type(*kind), right)
+        }
+        PlainStmt::DeclareArray(element, name, size) => {
+            emit_array(code, names, name, *element, *size)
+        }
+        PlainStmt::Assign(name, right) => emit_assignment(code, names, line, name, right),
+        PlainStmt::AssignElement(name, index, value) => {
             emit_element_set(code, names, line, name, index.whole(), value.whole())
         }
-        Form::Perform(call) => emit_call(code, names, line, Target::Dropped, call),
-        Form::PutJint(number) => emit_print(code, names, line, number.whole()),
-        Form::Return(None) => emit(code, Instr::Return),
-        Form::Return(Some(value)) => emit_return(code, names, line, value.whole()),
-        Form::If(..) | Form::IfElse(..) | Form::While(..) => Ok(()),
-        _ => emit_declaring(code, names, line, form),
+        PlainStmt::Perform(call) => emit_call(code, names, line, Target::Dropped, call),
+        PlainStmt::PutJint(number) => emit_print(code, names, line, number.whole()),
     }
 }
 
-/// A statement that declares a name.
-fn emit_declaring<'a>(
+/// The second block of an `if`, where it has one.
+#[cycle(statements)]
+fn emit_else<'a>(
     code: &mut Vec<Instr>,
     names: &mut Names<'a>,
-    line: u32,
-    form: &'a Form,
+    other: &'a Else,
 ) -> Result<(), AllocError>
-    requires { IsTrue (is_declaring form.now) }
-    ensures code { OnOk result (code.new.items ≡ code.old.items ++ stmt_code names.old (form_tree line form.now)) }
-    ensures names { OnOk result (names.new ≡ layout_after names.old (form_tree line form.now)) }
+    ensures code { OnOk result (code.new.items ≡ code.old.items ++ else_code names.old (else_tree other.now)) }
+    ensures names { OnOk result (names.new ≡ closed names.old (else_layout names.old (else_tree other.now))) }
 {
-    match form {
-        Form::Declare(kind, name, right) => {
-            emit_declaration(code, names, line, name, variable_type(*kind), right)
-        }
-        Form::DeclareBuffer(element, name, right) => {
-            emit_declaration(
-                code,
-                names,
-                line,
-                name,
-                ExprType::Buffer(*element, true),
-                right,
-            )
-        }
-        Form::DeclareChars(name, right) => {
-            let ty = ExprType::Buffer(ElementType::Char, false);
-            emit_declaration(code, names, line, name, ty, right)
-        }
-        Form::DeclareArray(element, name, size) => {
-            emit_array(code, names, name, *element, *size)
-        }
-        _ => Ok(()),
+    match other {
+        Else::Nothing => Ok(()),
+        Else::Block(block) => emit_block(code, names, block),
     }
 }
 

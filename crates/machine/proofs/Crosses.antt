@@ -6,6 +6,7 @@ use Rattle.std.proofs.vec.Vec.TheSendSync as vec
 use denote.Param.Send.{IsSend, IsSync, view_sync, struct_sync, recorded_sync, sendable, view_send, struct_send, recorded_send, shr_send}
 use denote.Struct.Declared.{shape}
 use Rattle.base.proofs.element.ElementType.TheSendSync as element
+use Rattle.syntax.proofs.declared_type.DeclaredType.TheSendSync as declared-type
 use Rattle.syntax.proofs.declared_type.VariableType.TheSendSync as variable-type
 use Rattle.syntax.proofs.name.Name.TheSendSync as name
 use Rattle.syntax.proofs.unit.Parameter.TheSendSync as parameter
@@ -15,7 +16,8 @@ use Rattle.syntax.proofs.expr.Expr.TheSendSync as expr
 use Rattle.syntax.proofs.call.Call.TheSendSync as syntax-call
 use Rattle.syntax.proofs.call.RightSide.TheSendSync as right-side
 use Rattle.syntax.proofs.call.Test.TheSendSync as test
-use Rattle.syntax.proofs.stmt.Form.TheLaws.TheKnot as form
+use Rattle.syntax.proofs.stmt.PlainStmt.TheSendSync as plain
+use Rattle.syntax.proofs.stmt.Else.TheLaws.TheKnot as statements
 use Rattle.syntax.specs.contracts.unit.Unit as unit
 use Rattle.syntax.specs.contracts.unit.Unit.TheInside as unit-inside
 use Rattle.syntax.specs.contracts.unit.Item as item
@@ -46,7 +48,7 @@ use Rattle.type_rules.specs.contracts.typed.Typed.TheInside as inside
 -- ---- what a machine borrows
 
 item_sync : IsSync item.the_row
-item_sync = search (element.the_field_sync, variable-type.the_field_sync, name.the_sync, parameter.the_sync, result-type.the_field_sync, static.the_field_sync, vec.the_sync, crosses, expr.the_sync, expr.the_field_sync, syntax-call.the_field_sync, right-side.the_field_sync, test.the_field_sync, form.crosses, sendable) depth 60 fits 20000
+item_sync = search (element.the_field_sync, declared-type.the_field_sync, variable-type.the_field_sync, name.the_sync, parameter.the_sync, result-type.the_field_sync, static.the_field_sync, vec.the_sync, crosses, expr.the_sync, expr.the_field_sync, syntax-call.the_field_sync, right-side.the_field_sync, test.the_field_sync, plain.the_field_sync, statements.crosses, sendable) depth 60 fits 20000
 
 unit_sync : IsSync unit.the_row
 unit_sync = view_sync unit-inside.the_row _ _ _ _ (recorded_sync (unit-inside.the_field).row _ _ unit-inside.the_type.to_one (struct_sync (shape unit-inside.the_type) (Vec-sync item.the_row item_sync, tt)))

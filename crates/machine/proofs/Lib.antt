@@ -13,7 +13,6 @@ pub mod Steps
 pub mod Turns
 pub mod Advancing
 pub mod SafeLoads
-pub mod TextBytes
 pub mod Runs
 pub mod FreeSteps
 pub mod Standings

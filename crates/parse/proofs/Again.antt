@@ -3,7 +3,8 @@ use Rattle.std.proofs.Common.{◌≡◌, ℕ, zero, suc, ◌-◌, ◌<◌, ◌�
 use Rattle.std.specs.Prelude.{flat_map}
 use Rattle.std.proofs.lemmas.Bool.{ne_eqb}
 use Rattle.scan.specs.declared.token.Mark.TheVariants as marks
-use Rattle.syntax.specs.Tree.{Expr, Test, Stmt, Declare, DeclareBuffer, DeclareChars, DeclareArray, Assign, AssignElement, Perform, PutJint, If, IfElse, While, Return, ReturnValue, Block, End, Next, Parameter, Function, Static, Item, StaticItem, FunctionItem}
+use Rattle.syntax.specs.declared.declared_type.DeclaredType.TheVariants.{Simple, Pointer, ConstChars}
+use Rattle.syntax.specs.Tree.{Expr, Test, Stmt, Plain, Declare, DeclareArray, Assign, AssignElement, Perform, PutJint, If, NoElse, ElseBlock, While, Return, Block, End, Next, Parameter, Function, Static, Item, StaticItem, FunctionItem}
 use Rattle.syntax.specs.Parts.{statements_within, statements_of, line_of}
 use Rattle.parse_lexemes.specs.declared.fault.ParseError.{ParseError}
 use Rattle.scan.specs.declared.reserved.Word.TheVariants as words
@@ -13,7 +14,7 @@ use Rattle.parse_lexemes.specs.Meaning.{Meaning, Fixed', Name'}
 use Rattle.parse_lexemes.specs.Lexemes.{Lexed, same_fixed, is_fixed_meaning, expect}
 use Rattle.parse_lexemes.specs.Spelling.{Spelled, Anywhere, OnLine, mark, word, static_word, element_word, variable_word, result_word, parameter_word}
 use Rattle.parse_expressions.specs.Spelling.{expression, setting, test_tokens}
-use Rattle.parse_statements.specs.Spelling.{statement, inside}
+use Rattle.parse_statements.specs.Spelling.{statement, inside, returned}
 use Rattle.parse.specs.Spelling.{parameter, function, item}
 use Rattle.parse_lexemes.specs.Reading.{starts_with, rest_of}
 use Rattle.parse_statements.specs.Reading.{ReadStmt, simple_at, ReadBlock, BlockReader, else_by, if_test_at, if_by, while_test_at, while_by, statement_by, is_return, block_by, inner, block_at}
@@ -34,50 +35,46 @@ use Rattle.parse.proofs.Programs.{parameters_head, functions_in, statics_in}
 -- ---- the first token of a statement
 
 first_meaning : Stmt → Meaning
-first_meaning (Declare line t x r) = Fixed' (fixed.Word (variable_word t))
-first_meaning (DeclareBuffer line t x r) = Fixed' (fixed.Word (element_word t))
-first_meaning (DeclareChars line x r) = Fixed' (fixed.Word words.Const)
-first_meaning (DeclareArray line t x size) = Fixed' (fixed.Word (element_word t))
-first_meaning (Assign line x r) = Name' x
-first_meaning (AssignElement line x i e) = Name' x
-first_meaning (Perform line c) = Fixed' (fixed.Mark marks.OpenParen)
-first_meaning (PutJint line e) = Fixed' (fixed.Word words.PutJint)
-first_meaning (If line test b) = Fixed' (fixed.Word words.If)
-first_meaning (IfElse line test b d) = Fixed' (fixed.Word words.If)
+first_meaning (Plain line (Declare (Simple t) x r)) = Fixed' (fixed.Word (variable_word t))
+first_meaning (Plain line (Declare (Pointer t) x r)) = Fixed' (fixed.Word (element_word t))
+first_meaning (Plain line (Declare ConstChars x r)) = Fixed' (fixed.Word words.Const)
+first_meaning (Plain line (DeclareArray t x size)) = Fixed' (fixed.Word (element_word t))
+first_meaning (Plain line (Assign x r)) = Name' x
+first_meaning (Plain line (AssignElement x i e)) = Name' x
+first_meaning (Plain line (Perform c)) = Fixed' (fixed.Mark marks.OpenParen)
+first_meaning (Plain line (PutJint e)) = Fixed' (fixed.Word words.PutJint)
+first_meaning (If line test b d) = Fixed' (fixed.Word words.If)
 first_meaning (While line test b) = Fixed' (fixed.Word words.While)
-first_meaning (Return line) = Fixed' (fixed.Word words.Return)
-first_meaning (ReturnValue line e) = Fixed' (fixed.Word words.Return)
+first_meaning (Return line e) = Fixed' (fixed.Word words.Return)
 
 first_others : Stmt → List Spelled
-first_others (Declare line t x r) = setting x r
-first_others (DeclareBuffer line t x r) = mark marks.Star ∷ setting x r
-first_others (DeclareChars line x r) = word words.Jchar ∷ mark marks.Star ∷ setting x r
-first_others (DeclareArray line t x size) = Anywhere (Name' x) ∷ array_tail size
-first_others (Assign line x r) = setting_tail r
-first_others (AssignElement line x i e) = element_tail i e
-first_others (Perform line c) = call_tail c ++ mark marks.Semicolon ∷ []
-first_others (PutJint line e) = mark marks.OpenParen ∷ (expression e ++ (mark marks.CloseParen ∷ mark marks.Semicolon ∷ []))
-first_others (If line test b) = tested_tail (test_tokens test) ++ mark marks.OpenBrace ∷ inside b
-first_others (IfElse line test b d) = tested_tail (test_tokens test) ++ mark marks.OpenBrace ∷ inside b ++ word words.Else ∷ mark marks.OpenBrace ∷ inside d
+first_others (Plain line (Declare (Simple t) x r)) = setting x r
+first_others (Plain line (Declare (Pointer t) x r)) = mark marks.Star ∷ setting x r
+first_others (Plain line (Declare ConstChars x r)) = word words.Jchar ∷ mark marks.Star ∷ setting x r
+first_others (Plain line (DeclareArray t x size)) = Anywhere (Name' x) ∷ array_tail size
+first_others (Plain line (Assign x r)) = setting_tail r
+first_others (Plain line (AssignElement x i e)) = element_tail i e
+first_others (Plain line (Perform c)) = call_tail c ++ mark marks.Semicolon ∷ []
+first_others (Plain line (PutJint e)) = mark marks.OpenParen ∷ (expression e ++ (mark marks.CloseParen ∷ mark marks.Semicolon ∷ []))
+first_others (If line test b NoElse) = tested_tail (test_tokens test) ++ mark marks.OpenBrace ∷ inside b
+first_others (If line test b (ElseBlock d)) = tested_tail (test_tokens test) ++ mark marks.OpenBrace ∷ inside b ++ word words.Else ∷ mark marks.OpenBrace ∷ inside d
 first_others (While line test b) = tested_tail (expression test) ++ mark marks.OpenBrace ∷ inside b
-first_others (Return line) = mark marks.Semicolon ∷ []
-first_others (ReturnValue line e) = expression e ++ mark marks.Semicolon ∷ []
+first_others (Return line e) = returned e
 
 first_of : (s : Stmt) → statement s ≡ OnLine (line_of s) (first_meaning s) ∷ first_others s
 unfolding first_meaning first_others
-first_of (Declare line t x r) = refl
-first_of (DeclareBuffer line t x r) = refl
-first_of (DeclareChars line x r) = refl
-first_of (DeclareArray line t x size) = refl
-first_of (Assign line x r) = refl
-first_of (AssignElement line x i e) = refl
-first_of (Perform line c) = refl
-first_of (PutJint line e) = refl
-first_of (If line test b) = refl
-first_of (IfElse line test b d) = refl
+first_of (Plain line (Declare (Simple t) x r)) = refl
+first_of (Plain line (Declare (Pointer t) x r)) = refl
+first_of (Plain line (Declare ConstChars x r)) = refl
+first_of (Plain line (DeclareArray t x size)) = refl
+first_of (Plain line (Assign x r)) = refl
+first_of (Plain line (AssignElement x i e)) = refl
+first_of (Plain line (Perform c)) = refl
+first_of (Plain line (PutJint e)) = refl
+first_of (If line test b NoElse) = refl
+first_of (If line test b (ElseBlock d)) = refl
 first_of (While line test b) = refl
-first_of (Return line) = refl
-first_of (ReturnValue line e) = refl
+first_of (Return line e) = refl
 
 begins_first : (s : Stmt) (ls rest : List Lexed) → Begins (statement s) ls rest → Begins (OnLine (line_of s) (first_meaning s) ∷ first_others s) ls rest
 begins_first s ls rest h = subst (λ (es : List Spelled). Begins es ls rest) (first_of s) h
@@ -99,19 +96,17 @@ record IsNoStart (f : Fixed) : Type 0 where
 
 no_start : (f : Fixed) → IsNoStart f → (s : Stmt) → is_fixed_meaning (first_meaning s) f ≡ false
 unfolding first_meaning
-no_start f is (Declare line t x r) = declares_no (Fixed' (fixed.Word (variable_word t))) f (variable_declares t) is.declared
-no_start f is (DeclareBuffer line t x r) = declares_no (Fixed' (fixed.Word (element_word t))) f (element_declares t) is.declared
-no_start f is (DeclareChars line x r) = declares_no (Fixed' (fixed.Word words.Const)) f refl is.declared
-no_start f is (DeclareArray line t x size) = declares_no (Fixed' (fixed.Word (element_word t))) f (element_declares t) is.declared
-no_start f is (Assign line x r) = refl
-no_start f is (AssignElement line x i e) = refl
-no_start f is (Perform line c) = is.paren
-no_start f is (PutJint line e) = is.put
-no_start f is (If line test b) = is.test
-no_start f is (IfElse line test b d) = is.test
+no_start f is (Plain line (Declare (Simple t) x r)) = declares_no (Fixed' (fixed.Word (variable_word t))) f (variable_declares t) is.declared
+no_start f is (Plain line (Declare (Pointer t) x r)) = declares_no (Fixed' (fixed.Word (element_word t))) f (element_declares t) is.declared
+no_start f is (Plain line (Declare ConstChars x r)) = declares_no (Fixed' (fixed.Word words.Const)) f refl is.declared
+no_start f is (Plain line (DeclareArray t x size)) = declares_no (Fixed' (fixed.Word (element_word t))) f (element_declares t) is.declared
+no_start f is (Plain line (Assign x r)) = refl
+no_start f is (Plain line (AssignElement x i e)) = refl
+no_start f is (Plain line (Perform c)) = is.paren
+no_start f is (Plain line (PutJint e)) = is.put
+no_start f is (If line test b d) = is.test
 no_start f is (While line test b) = is.loop
-no_start f is (Return line) = is.last
-no_start f is (ReturnValue line e) = is.last
+no_start f is (Return line e) = is.last
 
 no_brace : IsNoStart (fixed.Mark marks.CloseBrace)
 no_brace = record { declared = refl; paren = refl; put = refl; test = refl; loop = refl; last = refl }
@@ -193,11 +188,11 @@ module _ (deep : BlockReader) (room : ℕ) (all : AllBlocksAgain deep room) wher
       let d = expect_again (fixed.Mark marks.OpenBrace) (inside b) t.mid mid t.after_it in
       rw (t.opens, test_again room test t.inner_ls t.closing t.parts is_test t.closed, t.closes, d.1, all free b d.0 mid some d.2 is_block few) refl
 
-  if_again : (free line : ℕ) (test : Test) (b : Block) (ls rest : List Lexed) → Begins (tested_tail (test_tokens test) ++ mark marks.OpenBrace ∷ inside b) ls rest → 1 ≤ room → IsTest room test → IsBlock (room - 1) b → names_in b ≤ free → starts_with (fixed.Word words.Else) rest ≡ false → if_by deep room free line ls ≡ Ok (If line test b, free - names_in b, rest)
+  if_again : (free line : ℕ) (test : Test) (b : Block) (ls rest : List Lexed) → Begins (tested_tail (test_tokens test) ++ mark marks.OpenBrace ∷ inside b) ls rest → 1 ≤ room → IsTest room test → IsBlock (room - 1) b → names_in b ≤ free → starts_with (fixed.Word words.Else) rest ≡ false → if_by deep room free line ls ≡ Ok (If line test b NoElse, free - names_in b, rest)
   unfolding else_by
   if_again free line test b ls rest h some is_test is_block few other = rw (if_head free line test b ls rest h some is_test is_block few, other) refl
 
-  else_again : (free line : ℕ) (test : Test) (b d : Block) (ls rest : List Lexed) → Begins (word words.Else ∷ mark marks.OpenBrace ∷ inside d) ls rest → 1 ≤ room → IsBlock (room - 1) d → names_in d ≤ free → else_by deep line test b free ls ≡ Ok (IfElse line test b d, free - names_in d, rest)
+  else_again : (free line : ℕ) (test : Test) (b d : Block) (ls rest : List Lexed) → Begins (word words.Else ∷ mark marks.OpenBrace ∷ inside d) ls rest → 1 ≤ room → IsBlock (room - 1) d → names_in d ≤ free → else_by deep line test b free ls ≡ Ok (If line test b (ElseBlock d), free - names_in d, rest)
   unfolding else_by
   else_again free line test b d ls rest h some is_block few =
       let s = first_is (Fixed' (fixed.Word words.Else)) (mark marks.OpenBrace ∷ inside d) ls rest (fixed.Word words.Else) h in
@@ -222,22 +217,21 @@ module _ (deep : BlockReader) (room : ℕ) (all : AllBlocksAgain deep room) wher
   -- a statement, after which no `else` comes
   statement_again : (free : ℕ) (s : Stmt) (ls rest : List Lexed) → Begins (statement s) ls rest → IsForm room s → names_of s ≤ free → starts_with (fixed.Word words.Else) rest ≡ false → statement_by deep room free ls ≡ Ok (s, free - names_of s, rest)
   unfolding statement_by first_meaning
-  statement_again free (Declare line t x r) ls rest h is few other = declared_statement free (Declare line t x r) ls rest h (variable_declares t) refl is tt few
-  statement_again free (DeclareBuffer line t x r) ls rest h is few other = declared_statement free (DeclareBuffer line t x r) ls rest h (element_declares t) refl is tt few
-  statement_again free (DeclareChars line x r) ls rest h is few other = declared_statement free (DeclareChars line x r) ls rest h refl refl is tt few
-  statement_again free (DeclareArray line t x size) ls rest h is few other = declared_statement free (DeclareArray line t x size) ls rest h (element_declares t) refl is tt few
-  statement_again free (Assign line x r) ls rest h is few other = simple_again free (Assign line x r) ls rest h refl refl (plain_simple room free (Assign line x r) ls rest h refl refl is tt)
-  statement_again free (AssignElement line x i e) ls rest h is few other = simple_again free (AssignElement line x i e) ls rest h refl refl (plain_simple room free (AssignElement line x i e) ls rest h refl refl is tt)
-  statement_again free (Perform line c) ls rest h is few other = simple_again free (Perform line c) ls rest h refl refl (plain_simple room free (Perform line c) ls rest h refl refl is tt)
-  statement_again free (PutJint line e) ls rest h is few other = simple_again free (PutJint line e) ls rest h refl refl (plain_simple room free (PutJint line e) ls rest h refl refl is tt)
-  statement_again free (Return line) ls rest h is few other = simple_again free (Return line) ls rest h refl refl (plain_simple room free (Return line) ls rest h refl refl is tt)
-  statement_again free (ReturnValue line e) ls rest h is few other = simple_again free (ReturnValue line e) ls rest h refl refl (plain_simple room free (ReturnValue line e) ls rest h refl refl is tt)
-  statement_again free (If line test b) ls rest h is few other =
+  statement_again free (Plain line (Declare (Simple t) x r)) ls rest h is few other = declared_statement free (Plain line (Declare (Simple t) x r)) ls rest h (variable_declares t) refl is tt few
+  statement_again free (Plain line (Declare (Pointer t) x r)) ls rest h is few other = declared_statement free (Plain line (Declare (Pointer t) x r)) ls rest h (element_declares t) refl is tt few
+  statement_again free (Plain line (Declare ConstChars x r)) ls rest h is few other = declared_statement free (Plain line (Declare ConstChars x r)) ls rest h refl refl is tt few
+  statement_again free (Plain line (DeclareArray t x size)) ls rest h is few other = declared_statement free (Plain line (DeclareArray t x size)) ls rest h (element_declares t) refl is tt few
+  statement_again free (Plain line (Assign x r)) ls rest h is few other = simple_again free (Plain line (Assign x r)) ls rest h refl refl (plain_simple room free (Plain line (Assign x r)) ls rest h refl refl is tt)
+  statement_again free (Plain line (AssignElement x i e)) ls rest h is few other = simple_again free (Plain line (AssignElement x i e)) ls rest h refl refl (plain_simple room free (Plain line (AssignElement x i e)) ls rest h refl refl is tt)
+  statement_again free (Plain line (Perform c)) ls rest h is few other = simple_again free (Plain line (Perform c)) ls rest h refl refl (plain_simple room free (Plain line (Perform c)) ls rest h refl refl is tt)
+  statement_again free (Plain line (PutJint e)) ls rest h is few other = simple_again free (Plain line (PutJint e)) ls rest h refl refl (plain_simple room free (Plain line (PutJint e)) ls rest h refl refl is tt)
+  statement_again free (Return line e) ls rest h is few other = simple_again free (Return line e) ls rest h refl refl (plain_simple room free (Return line e) ls rest h refl refl is tt)
+  statement_again free (If line test b NoElse) ls rest h is few other =
       let m : Meaning = Fixed' (fixed.Word words.If) in
       let es : List Spelled = tested_tail (test_tokens test) ++ mark marks.OpenBrace ∷ inside b in
       let s = on_is line m es ls rest (fixed.Word words.If) h in
       rw (s, ne_eqb room 0 (omega (arith, is.0)), on_line_is line m es ls rest h) (if_again free line test b (rest_of ls) rest (first_rest (OnLine line m) es ls rest h) is.0 is.1 is.2 few other)
-  statement_again free (IfElse line test b d) ls rest h is few other =
+  statement_again free (If line test b (ElseBlock d)) ls rest h is few other =
       let m : Meaning = Fixed' (fixed.Word words.If) in
       let es : List Spelled = tested_tail (test_tokens test) ++ mark marks.OpenBrace ∷ inside b in
       let parts = begins_split (OnLine line m ∷ es) (word words.Else ∷ mark marks.OpenBrace ∷ inside d) ls rest h in
@@ -245,8 +239,8 @@ module _ (deep : BlockReader) (room : ℕ) (all : AllBlocksAgain deep room) wher
       let s = on_is line m es ls parts.0 (fixed.Word words.If) parts.1 in
       let first = if_head free line test b (rest_of ls) parts.0 (first_rest (OnLine line m) es ls parts.0 parts.1) is.0 is.1 is.2 (omega (arith, few, split)) in
       let second = else_again (free - names_in b) line test b d parts.0 rest parts.2 is.0 is.3 (omega (arith, few, split)) in
-      let left : free - names_in b - names_in d ≡ free - names_of (IfElse line test b d) = omega (arith, split) in
-      rw (s, ne_eqb room 0 (omega (arith, is.0)), on_line_is line m es ls parts.0 parts.1, first, second) (ap (λ (n : ℕ). statement_read (IfElse line test b d) n rest) left)
+      let left : free - names_in b - names_in d ≡ free - names_of (If line test b (ElseBlock d)) = omega (arith, split) in
+      rw (s, ne_eqb room 0 (omega (arith, is.0)), on_line_is line m es ls parts.0 parts.1, first, second) (ap (λ (n : ℕ). statement_read (If line test b (ElseBlock d)) n rest) left)
   statement_again free (While line test b) ls rest h is few other =
       let m : Meaning = Fixed' (fixed.Word words.While) in
       let es : List Spelled = tested_tail (expression test) ++ mark marks.OpenBrace ∷ inside b in

@@ -7,7 +7,8 @@ use Rattle.std.proofs.lemmas.Bool.{and_from, and_parts, false≢true, le-leb, le
 use Rattle.std.proofs.lemmas.List.{length-append, length-map}
 use Rattle.std.proofs.lemmas.List.Folds.{list_all-append}
 use Rattle.scan.specs.declared.token.Mark.TheVariants as marks
-use Rattle.syntax.specs.Tree.{Expr, Number, Named, Variable, Element, Prefix, Binary, Paren, Argument, Value, Text, AddressOf, Call, RightSide, FromExpr, FromCall, Test, TestExpr, TestCall, Stmt, Declare, DeclareBuffer, DeclareChars, DeclareArray, Assign, AssignElement, Perform, PutJint, If, IfElse, While, Return, ReturnValue, Block, End, Next, Function, Item, StaticItem, FunctionItem, SourceUnit}
+use Rattle.syntax.specs.declared.declared_type.DeclaredType.TheVariants.{Simple, Pointer, ConstChars}
+use Rattle.syntax.specs.Tree.{Expr, Number, Named, Variable, Element, Prefix, Binary, Paren, Argument, Value, Text, AddressOf, Call, RightSide, FromExpr, FromCall, Test, TestExpr, TestCall, Stmt, Plain, Declare, DeclareArray, Assign, AssignElement, Perform, PutJint, If, Else, NoElse, ElseBlock, While, Return, Block, End, Next, Function, Item, StaticItem, FunctionItem, SourceUnit}
 use Rattle.syntax.specs.Parts.{functions_of, statements_within, statements_of, call_of_right_side, own_arguments, argument_expressions, right_side_expressions, test_expressions, own_expressions, names_declared, parameter_names}
 use Rattle.syntax.specs.Limits.{operator_level, prefix_level, level, levelled, numbers_in_range, text_of_bytes, height, highest, own_height, statement_height, block_height, well_formed, block_well_formed, IsTree}
 use Rattle.scan.specs.declared.reserved.Word.TheVariants as words
@@ -170,13 +171,9 @@ test_facts room (TestCall c) is =
     record { levels = facts.levels; range = λ h. call_in_range room c facts (range_left (call c) (mark marks.Equal ∷ Anywhere (Number' 0 false) ∷ []) h); low = facts.low }
 
 -- what an `if` gives to the call that it tests
-if_arguments : (line : ℕ) (t : Test) (b : Block) → own_arguments (If line t b) ≡ arguments_of (tested_call t)
-if_arguments line (TestExpr e) b = refl
-if_arguments line (TestCall c) b = refl
-
-else_arguments : (line : ℕ) (t : Test) (b d : Block) → own_arguments (IfElse line t b d) ≡ arguments_of (tested_call t)
-else_arguments line (TestExpr e) b d = refl
-else_arguments line (TestCall c) b d = refl
+if_arguments : (line : ℕ) (t : Test) (b : Block) (d : Else) → own_arguments (If line t b d) ≡ arguments_of (tested_call t)
+if_arguments line (TestExpr e) b d = refl
+if_arguments line (TestCall c) b d = refl
 
 to_test : (room : ℕ) (t : Test) → list_all levelled (test_expressions t) ≡ true → highest (map height (test_expressions t)) ≤ room → IsTest room t
 to_test room (TestExpr e) h low = record { levelled = to_levelled e 0 (and_parts (levelled e) true h).0 (omega arith); low = omega (arith, low) }
@@ -244,20 +241,20 @@ one_expression : (e : Expr) → levelled e ≡ true → list_all levelled (e ∷
 one_expression e h = and_from (levelled e) true h refl
 
 own_facts : (room : ℕ) (s : Stmt) → IsForm room s → OwnFacts room s
-own_facts room (Declare line t x r) is =
+own_facts room (Plain line (Declare (Simple t) x r)) is =
     let facts = right_facts room r is in
     record { levels = facts.levels; range = λ h. facts.range (range_left (right r) (mark marks.Semicolon ∷ []) h.1.1.1); low = facts.low }
-own_facts room (DeclareBuffer line t x r) is =
+own_facts room (Plain line (Declare (Pointer t) x r)) is =
     let facts = right_facts room r is in
     record { levels = facts.levels; range = λ h. facts.range (range_left (right r) (mark marks.Semicolon ∷ []) h.1.1.1.1); low = facts.low }
-own_facts room (DeclareChars line x r) is =
+own_facts room (Plain line (Declare ConstChars x r)) is =
     let facts = right_facts room r is in
     record { levels = facts.levels; range = λ h. facts.range (range_left (right r) (mark marks.Semicolon ∷ []) h.1.1.1.1.1); low = facts.low }
-own_facts room (DeclareArray line t x size) is = record { levels = refl; range = λ h. refl; low = omega arith }
-own_facts room (Assign line x r) is =
+own_facts room (Plain line (DeclareArray t x size)) is = record { levels = refl; range = λ h. refl; low = omega arith }
+own_facts room (Plain line (Assign x r)) is =
     let facts = right_facts room r is in
     record { levels = facts.levels; range = λ h. facts.range (range_left (right r) (mark marks.Semicolon ∷ []) h.1.1); low = facts.low }
-own_facts room (AssignElement line x i e) is =
+own_facts room (Plain line (AssignElement x i e)) is =
     let closing : List Spelled = expression e ++ mark marks.Semicolon ∷ [] in
     let low_i = is.0.low in
     let low_e = is.1.low in
@@ -270,24 +267,24 @@ own_facts room (AssignElement line x i e) is =
           without_call (i ∷ e ∷ []) (and_from (numbers_in_range i) _ index (and_from (numbers_in_range e) true value refl));
       low = omega (arith, low_i, low_e);
     }
-own_facts room (Perform line c) is =
+own_facts room (Plain line (Perform c)) is =
     let facts = argument_facts room c.arguments is in
     record { levels = facts.levels; range = λ h. call_in_range room c facts (range_left (call c) (mark marks.Semicolon ∷ []) h); low = facts.low }
-own_facts room (PutJint line e) is = record {
+own_facts room (Plain line (PutJint e)) is = record {
   levels = one_expression e (levelled_of 0 e is.levelled);
   range = λ h. one_number e (range_left (expression e) (mark marks.CloseParen ∷ mark marks.Semicolon ∷ []) h.1.1);
   low = let low = is.low in omega (arith, low);
 }
-own_facts room (If line test b) is =
+own_facts room (If line test b NoElse) is =
     let facts = test_facts room test is.1 in
-    record { levels = facts.levels; range = λ h. ap (in_range (test_expressions test)) (if_arguments line test b) ∙ facts.range (tested_range (test_tokens test) (mark marks.OpenBrace ∷ inside b) h.1); low = facts.low }
-own_facts room (IfElse line test b d) is =
+    record { levels = facts.levels; range = λ h. ap (in_range (test_expressions test)) (if_arguments line test b NoElse) ∙ facts.range (tested_range (test_tokens test) (mark marks.OpenBrace ∷ inside b) h.1); low = facts.low }
+own_facts room (If line test b (ElseBlock d)) is =
     let facts = test_facts room test is.1 in
     record {
       levels = facts.levels;
       range = λ h.
-          let tested = tested_range (test_tokens test) (mark marks.OpenBrace ∷ inside b) (range_left (statement (If line test b)) (word words.Else ∷ mark marks.OpenBrace ∷ inside d) h).1 in
-          ap (in_range (test_expressions test)) (else_arguments line test b d) ∙ facts.range tested;
+          let tested = tested_range (test_tokens test) (mark marks.OpenBrace ∷ inside b) (range_left (statement (If line test b NoElse)) (word words.Else ∷ mark marks.OpenBrace ∷ inside d) h).1 in
+          ap (in_range (test_expressions test)) (if_arguments line test b (ElseBlock d)) ∙ facts.range tested;
       low = facts.low;
     }
 own_facts room (While line test b) is = record {
@@ -295,8 +292,8 @@ own_facts room (While line test b) is = record {
   range = λ h. one_number test (tested_range (expression test) (mark marks.OpenBrace ∷ inside b) h.1);
   low = let low = is.1.low in omega (arith, low);
 }
-own_facts room (Return line) is = record { levels = refl; range = λ h. refl; low = omega arith }
-own_facts room (ReturnValue line e) is = record {
+own_facts room (Return line None) is = record { levels = refl; range = λ h. refl; low = omega arith }
+own_facts room (Return line (Some e)) is = record {
   levels = one_expression e (levelled_of 0 e is.levelled);
   range = λ h. one_number e (range_left (expression e) (mark marks.Semicolon ∷ []) h.1);
   low = let low = is.low in omega (arith, low);
@@ -315,41 +312,28 @@ alone room s own within same formed = record {
 block_range : (first : Spelled) (test : List Spelled) (b : Block) → AreInRange (first ∷ (tested_tail test ++ mark marks.OpenBrace ∷ inside b)) → AreInRange (inside b)
 block_range first test b h = (range_right (tested_tail test) (mark marks.OpenBrace ∷ inside b) h.1).1
 
-else_range : (line : ℕ) (test : Test) (b d : Block) → AreInRange (statement (IfElse line test b d)) → AreInRange (inside d)
-else_range line test b d h = (range_right (statement (If line test b)) (word words.Else ∷ mark marks.OpenBrace ∷ inside d) h).1.1
+else_range : (line : ℕ) (test : Test) (b d : Block) → AreInRange (statement (If line test b (ElseBlock d))) → AreInRange (inside d)
+else_range line test b d h = (range_right (statement (If line test b NoElse)) (word words.Else ∷ mark marks.OpenBrace ∷ inside d) h).1.1
 
 -- a statement, and a block after it that may follow
 well_formed_of : (s : Stmt) (rest : Block) → MayFollow (is_return s) rest → well_formed s ≡ true → block_well_formed rest ≡ true → block_well_formed (Next s rest) ≡ true
-well_formed_of (Declare line t x r) rest follows own h = and_from (well_formed (Declare line t x r)) (block_well_formed rest) own h
-well_formed_of (DeclareBuffer line t x r) rest follows own h = and_from (well_formed (DeclareBuffer line t x r)) (block_well_formed rest) own h
-well_formed_of (DeclareChars line x r) rest follows own h = and_from (well_formed (DeclareChars line x r)) (block_well_formed rest) own h
-well_formed_of (DeclareArray line t x size) rest follows own h = and_from (well_formed (DeclareArray line t x size)) (block_well_formed rest) own h
-well_formed_of (Assign line x r) rest follows own h = and_from (well_formed (Assign line x r)) (block_well_formed rest) own h
-well_formed_of (AssignElement line x i e) rest follows own h = and_from (well_formed (AssignElement line x i e)) (block_well_formed rest) own h
-well_formed_of (Perform line c) rest follows own h = and_from (well_formed (Perform line c)) (block_well_formed rest) own h
-well_formed_of (PutJint line e) rest follows own h = and_from (well_formed (PutJint line e)) (block_well_formed rest) own h
-well_formed_of (If line test b) rest follows own h = and_from (well_formed (If line test b)) (block_well_formed rest) own h
-well_formed_of (IfElse line test b d) rest follows own h = and_from (well_formed (IfElse line test b d)) (block_well_formed rest) own h
+well_formed_of (Plain line p) rest follows own h = and_from (well_formed (Plain line p)) (block_well_formed rest) own h
+well_formed_of (If line test b d) rest follows own h = and_from (well_formed (If line test b d)) (block_well_formed rest) own h
 well_formed_of (While line test b) rest follows own h = and_from (well_formed (While line test b)) (block_well_formed rest) own h
-well_formed_of (Return line) (End last) follows own h = refl
-well_formed_of (Return line) (Next s rest) follows own h = absurd follows
-well_formed_of (ReturnValue line e) (End last) follows own h = refl
-well_formed_of (ReturnValue line e) (Next s rest) follows own h = absurd follows
+well_formed_of (Return line e) (End last) follows own h = refl
+well_formed_of (Return line e) (Next s rest) follows own h = absurd follows
 
 mutual
   form_facts : (room : ℕ) (s : Stmt) → IsForm room s → FormFacts room s
-  form_facts room (Declare line t x r) is = alone room (Declare line t x r) (own_facts room (Declare line t x r) is) refl refl refl
-  form_facts room (DeclareBuffer line t x r) is = alone room (DeclareBuffer line t x r) (own_facts room (DeclareBuffer line t x r) is) refl refl refl
-  form_facts room (DeclareChars line x r) is = alone room (DeclareChars line x r) (own_facts room (DeclareChars line x r) is) refl refl refl
-  form_facts room (DeclareArray line t x size) is = alone room (DeclareArray line t x size) (own_facts room (DeclareArray line t x size) is) refl refl (and_from (nat_le 1 size) (nat_le size 1024) (le-leb 1 size is.some) (le-leb size 1024 is.bound))
-  form_facts room (Assign line x r) is = alone room (Assign line x r) (own_facts room (Assign line x r) is) refl refl refl
-  form_facts room (AssignElement line x i e) is = alone room (AssignElement line x i e) (own_facts room (AssignElement line x i e) is) refl refl refl
-  form_facts room (Perform line c) is = alone room (Perform line c) (own_facts room (Perform line c) is) refl refl refl
-  form_facts room (PutJint line e) is = alone room (PutJint line e) (own_facts room (PutJint line e) is) refl refl refl
-  form_facts room (Return line) is = alone room (Return line) (own_facts room (Return line) is) refl refl refl
-  form_facts room (ReturnValue line e) is = alone room (ReturnValue line e) (own_facts room (ReturnValue line e) is) refl refl refl
-  form_facts room (If line test b) is =
-      let own = own_facts room (If line test b) is in
+  form_facts room (Plain line (Declare t x r)) is = alone room (Plain line (Declare t x r)) (own_facts room (Plain line (Declare t x r)) is) refl refl refl
+  form_facts room (Plain line (DeclareArray t x size)) is = alone room (Plain line (DeclareArray t x size)) (own_facts room (Plain line (DeclareArray t x size)) is) refl refl (and_from (nat_le 1 size) (nat_le size 1024) (le-leb 1 size is.some) (le-leb size 1024 is.bound))
+  form_facts room (Plain line (Assign x r)) is = alone room (Plain line (Assign x r)) (own_facts room (Plain line (Assign x r)) is) refl refl refl
+  form_facts room (Plain line (AssignElement x i e)) is = alone room (Plain line (AssignElement x i e)) (own_facts room (Plain line (AssignElement x i e)) is) refl refl refl
+  form_facts room (Plain line (Perform c)) is = alone room (Plain line (Perform c)) (own_facts room (Plain line (Perform c)) is) refl refl refl
+  form_facts room (Plain line (PutJint e)) is = alone room (Plain line (PutJint e)) (own_facts room (Plain line (PutJint e)) is) refl refl refl
+  form_facts room (Return line e) is = alone room (Return line e) (own_facts room (Return line e) is) refl refl refl
+  form_facts room (If line test b NoElse) is =
+      let own = own_facts room (If line test b NoElse) is in
       let body = block_facts (room - 1) b is.2 in
       let low_own = own.low in
       let low_body = body.low in
@@ -359,8 +343,8 @@ mutual
         formed = body.formed;
         low = omega (arith, is.0, low_own, low_body);
       }
-  form_facts room (IfElse line test b d) is =
-      let own = own_facts room (IfElse line test b d) is in
+  form_facts room (If line test b (ElseBlock d)) is =
+      let own = own_facts room (If line test b (ElseBlock d)) is in
       let body = block_facts (room - 1) b is.2 in
       let other = block_facts (room - 1) d is.3 in
       let low_own = own.low in
@@ -368,7 +352,7 @@ mutual
       let low_other = other.low in
       record {
         levels = and_from _ (all_levelled (statements_of b ++ statements_of d)) own.levels (both _ (statements_of b) (statements_of d) body.levels other.levels);
-        range = λ h. and_from _ (all_in_range (statements_of b ++ statements_of d)) (own.range h) (both _ (statements_of b) (statements_of d) (body.range (block_range (OnLine line (Fixed' (fixed.Word words.If))) (test_tokens test) b (range_left (statement (If line test b)) (word words.Else ∷ mark marks.OpenBrace ∷ inside d) h))) (other.range (else_range line test b d h)));
+        range = λ h. and_from _ (all_in_range (statements_of b ++ statements_of d)) (own.range h) (both _ (statements_of b) (statements_of d) (body.range (block_range (OnLine line (Fixed' (fixed.Word words.If))) (test_tokens test) b (range_left (statement (If line test b NoElse)) (word words.Else ∷ mark marks.OpenBrace ∷ inside d) h))) (other.range (else_range line test b d h)));
         formed = and_from (block_well_formed b) (block_well_formed d) body.formed other.formed;
         low = omega (arith, is.0, low_own, low_body, low_other);
       }
@@ -399,21 +383,11 @@ mutual
 -- ---- the other way round
 
 to_follows : (s : Stmt) (rest : Block) → block_well_formed (Next s rest) ≡ true → MayFollow (is_return s) rest × (block_well_formed rest ≡ true) × (well_formed s ≡ true)
-to_follows (Declare line t x r) rest h = let p = and_parts (well_formed (Declare line t x r)) (block_well_formed rest) h in (tt, p.1, p.0)
-to_follows (DeclareBuffer line t x r) rest h = let p = and_parts (well_formed (DeclareBuffer line t x r)) (block_well_formed rest) h in (tt, p.1, p.0)
-to_follows (DeclareChars line x r) rest h = let p = and_parts (well_formed (DeclareChars line x r)) (block_well_formed rest) h in (tt, p.1, p.0)
-to_follows (DeclareArray line t x size) rest h = let p = and_parts (well_formed (DeclareArray line t x size)) (block_well_formed rest) h in (tt, p.1, p.0)
-to_follows (Assign line x r) rest h = let p = and_parts (well_formed (Assign line x r)) (block_well_formed rest) h in (tt, p.1, p.0)
-to_follows (AssignElement line x i e) rest h = let p = and_parts (well_formed (AssignElement line x i e)) (block_well_formed rest) h in (tt, p.1, p.0)
-to_follows (Perform line c) rest h = let p = and_parts (well_formed (Perform line c)) (block_well_formed rest) h in (tt, p.1, p.0)
-to_follows (PutJint line e) rest h = let p = and_parts (well_formed (PutJint line e)) (block_well_formed rest) h in (tt, p.1, p.0)
-to_follows (If line test b) rest h = let p = and_parts (well_formed (If line test b)) (block_well_formed rest) h in (tt, p.1, p.0)
-to_follows (IfElse line test b d) rest h = let p = and_parts (well_formed (IfElse line test b d)) (block_well_formed rest) h in (tt, p.1, p.0)
+to_follows (Plain line plain) rest h = let p = and_parts (well_formed (Plain line plain)) (block_well_formed rest) h in (tt, p.1, p.0)
+to_follows (If line test b d) rest h = let p = and_parts (well_formed (If line test b d)) (block_well_formed rest) h in (tt, p.1, p.0)
 to_follows (While line test b) rest h = let p = and_parts (well_formed (While line test b)) (block_well_formed rest) h in (tt, p.1, p.0)
-to_follows (Return line) (End last) h = (tt, refl, refl)
-to_follows (Return line) (Next s rest) h = absurd (false≢true h)
-to_follows (ReturnValue line e) (End last) h = (tt, refl, refl)
-to_follows (ReturnValue line e) (Next s rest) h = absurd (false≢true h)
+to_follows (Return line e) (End last) h = (tt, refl, refl)
+to_follows (Return line e) (Next s rest) h = absurd (false≢true h)
 
 -- the first of a list of statements
 first_part : (test : Stmt → Bool) (s : Stmt) (others : List Stmt) → list_all test (s ∷ others) ≡ true → (test s ≡ true) × (list_all test others ≡ true)
@@ -427,27 +401,25 @@ to_expr room e h low = record { levelled = to_levelled e 0 (and_parts (levelled 
 
 mutual
   to_form : (room : ℕ) (s : Stmt) → all_levelled (statements_within s) ≡ true → well_formed s ≡ true → statement_height s ≤ room → IsForm room s
-  to_form room (Declare line t x r) h formed low = to_right room r (first_part is_levelled (Declare line t x r) [] h).0 low
-  to_form room (DeclareBuffer line t x r) h formed low = to_right room r (first_part is_levelled (DeclareBuffer line t x r) [] h).0 low
-  to_form room (DeclareChars line x r) h formed low = to_right room r (first_part is_levelled (DeclareChars line x r) [] h).0 low
-  to_form room (DeclareArray line t x size) h formed low =
+  to_form room (Plain line (Declare t x r)) h formed low = to_right room r (first_part is_levelled (Plain line (Declare t x r)) [] h).0 low
+  to_form room (Plain line (DeclareArray t x size)) h formed low =
       let p = and_parts (nat_le 1 size) (nat_le size 1024) formed in
       record { some = leb-true 1 size p.0; bound = leb-true size 1024 p.1 }
-  to_form room (Assign line x r) h formed low = to_right room r (first_part is_levelled (Assign line x r) [] h).0 low
-  to_form room (AssignElement line x i e) h formed low =
-      let own = (first_part is_levelled (AssignElement line x i e) [] h).0 in
+  to_form room (Plain line (Assign x r)) h formed low = to_right room r (first_part is_levelled (Plain line (Assign x r)) [] h).0 low
+  to_form room (Plain line (AssignElement x i e)) h formed low =
+      let own = (first_part is_levelled (Plain line (AssignElement x i e)) [] h).0 in
       let p = and_parts (levelled i) (list_all levelled (e ∷ [])) own in
       (record { levelled = to_levelled i 0 p.0 (omega arith); low = omega (arith, low) }, to_expr room e p.1 (omega (arith, low)))
-  to_form room (Perform line c) h formed low = to_arguments room c.arguments (first_part is_levelled (Perform line c) [] h).0 low
-  to_form room (PutJint line e) h formed low = to_expr room e (first_part is_levelled (PutJint line e) [] h).0 (omega (arith, low))
-  to_form room (Return line) h formed low = tt
-  to_form room (ReturnValue line e) h formed low = to_expr room e (first_part is_levelled (ReturnValue line e) [] h).0 (omega (arith, low))
-  to_form room (If line test b) h formed low =
-      let p = first_part is_levelled (If line test b) (statements_of b) h in
+  to_form room (Plain line (Perform c)) h formed low = to_arguments room c.arguments (first_part is_levelled (Plain line (Perform c)) [] h).0 low
+  to_form room (Plain line (PutJint e)) h formed low = to_expr room e (first_part is_levelled (Plain line (PutJint e)) [] h).0 (omega (arith, low))
+  to_form room (Return line None) h formed low = tt
+  to_form room (Return line (Some e)) h formed low = to_expr room e (first_part is_levelled (Return line (Some e)) [] h).0 (omega (arith, low))
+  to_form room (If line test b NoElse) h formed low =
+      let p = first_part is_levelled (If line test b NoElse) (statements_of b) h in
       let some = block_some b in
       (omega (arith, low, some), to_test room test p.0 (omega (arith, low)), to_block (room - 1) b p.1 formed (omega (arith, low, some)))
-  to_form room (IfElse line test b d) h formed low =
-      let p = first_part is_levelled (IfElse line test b d) (statements_of b ++ statements_of d) h in
+  to_form room (If line test b (ElseBlock d)) h formed low =
+      let p = first_part is_levelled (If line test b (ElseBlock d)) (statements_of b ++ statements_of d) h in
       let q = parted is_levelled (statements_of b) (statements_of d) p.1 in
       let f = and_parts (block_well_formed b) (block_well_formed d) formed in
       let some = block_some b in

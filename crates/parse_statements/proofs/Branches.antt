@@ -3,7 +3,7 @@ use Rattle.std.proofs.Common.{◌≡◌, ℕ, ◌-◌, ◌≤◌, Bool, true, fa
 use Rattle.std.specs.Prelude.{◌&&◌, ◌||◌, ◌==◌}
 use Rattle.scan.specs.declared.token.Mark.TheVariants as marks
 use Rattle.scan.specs.declared.reserved.Word.TheVariants as words
-use Rattle.syntax.specs.Tree.{Expr, Test, Block, If}
+use Rattle.syntax.specs.Tree.{Expr, Test, If, NoElse, Block}
 use Rattle.parse_lexemes.specs.declared.first.Fixed.TheVariants as fixed
 use Rattle.parse_lexemes.specs.declared.fault.ParseRule.TheVariants.{TooHigh}
 use Rattle.parse_lexemes.specs.declared.fault.ParseError.{ParseError}
@@ -33,7 +33,7 @@ module _ (deep : BlockReader) (line : ℕ) (test : Test) where
   unfolding else_by other_at made
   else_is body free ls = chosen (starts_with (fixed.Word words.Else) ls)
     where
-      chosen : (b : Bool) → (if b then (expect (fixed.Mark marks.OpenBrace) (rest_of ls) >>= λ within. deep free within >>= λ o. made body (Some o.0, o.1, o.2)) else Ok (If line test body, free, ls))
+      chosen : (b : Bool) → (if b then (expect (fixed.Mark marks.OpenBrace) (rest_of ls) >>= λ within. deep free within >>= λ o. made body (Some o.0, o.1, o.2)) else Ok (If line test body NoElse, free, ls))
           ≡ ((if b then (expect (fixed.Mark marks.OpenBrace) (rest_of ls) >>= λ within. second_of (deep free within)) else Ok (None, free, ls)) >>= made body)
       chosen true = last_two (expect (fixed.Mark marks.OpenBrace) (rest_of ls)) (λ within. deep free within) (λ within (o : ReadBlock). (Some o.0, o.1, o.2)) (made body)
       chosen false = refl

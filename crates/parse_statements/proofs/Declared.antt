@@ -8,7 +8,8 @@ use Rattle.base.specs.declared.element.ElementType.{ElementType}
 use Rattle.base.specs.declared.element.ElementType.TheVariants.{Int as JInt, Short as JShort, Byte as JByte, Char as JChar}
 use Rattle.syntax.specs.declared.declared_type.VariableType.{VariableType}
 use Rattle.syntax.specs.declared.declared_type.VariableType.TheVariants.{Jint as JIntVariable}
-use Rattle.syntax.specs.Tree.{RightSide, Stmt, Declare, DeclareBuffer, DeclareChars, DeclareArray, Assign, AssignElement, Perform, PutJint, If, IfElse, While, Return, ReturnValue}
+use Rattle.syntax.specs.declared.declared_type.DeclaredType.TheVariants.{Simple, Pointer, ConstChars}
+use Rattle.syntax.specs.Tree.{RightSide, Stmt, Plain, Declare, DeclareArray, Assign, AssignElement, Perform, PutJint, If, While, Return}
 use Rattle.parse_lexemes.specs.declared.fault.ParseError.{ParseError}
 use Rattle.scan.specs.declared.reserved.Word.TheVariants as words
 use Rattle.scan.proofs.Grammar.{chosen}
@@ -59,7 +60,7 @@ zeros_take ls rest h =
     then_takes (fixed.Mark marks.Assign) (mark marks.OpenBrace ∷ Anywhere (Number' 0 false) ∷ mark marks.CloseBrace ∷ mark marks.Semicolon ∷ []) ls a.0 rest a.1 t1
 
 abbrev array_step3 : ℕ → ElementType → Identifier → ℕ → List Lexed → Result ReadPlain ParseError
-array_step3 line t x size b = zeros_at b >>= λ rest. Ok (DeclareArray line t x size, rest)
+array_step3 line t x size b = zeros_at b >>= λ rest. Ok (Plain line (DeclareArray t x size), rest)
 
 abbrev array_step2 : ℕ → ElementType → Identifier → ℕ × List Lexed → Result ReadPlain ParseError
 array_step2 line t x size = expect (fixed.Mark marks.CloseBracket) size.1 >>= array_step3 line t x size.0
@@ -77,14 +78,14 @@ array_takes room line t ls x h =
     let b = bind_ok (expect (fixed.Mark marks.OpenBracket) a.0.1) (array_step1 line t a.0.0) x a.2 in
     let c = bind_ok (number_at 1 1024 b.0) (array_step2 line t a.0.0) x b.2 in
     let d = bind_ok (expect (fixed.Mark marks.CloseBracket) c.0.1) (array_step3 line t a.0.0 c.0.0) x c.2 in
-    let e = bind_ok (zeros_at d.0) (λ rest. Ok (DeclareArray line t a.0.0 c.0.0, rest)) x d.2 in
+    let e = bind_ok (zeros_at d.0) (λ rest. Ok (Plain line (DeclareArray t a.0.0 c.0.0), rest)) x d.2 in
     let n = number_takes 1 1024 b.0 c.0 c.1 in
     let es2 : List Spelled = Anywhere (Number' c.0.0 false) ∷ mark marks.CloseBracket ∷ zeros_tokens in
     let t3 = then_takes (fixed.Mark marks.CloseBracket) zeros_tokens c.0.1 d.0 e.0 d.1 (zeros_take d.0 e.0 e.1) in
     let t2 = begins_append (Anywhere (Number' c.0.0 false) ∷ []) (mark marks.CloseBracket ∷ zeros_tokens) b.0 c.0.1 e.0 n.parts t3 in
     let t1 = then_takes (fixed.Mark marks.OpenBracket) es2 a.0.1 b.0 e.0 b.1 t2 in
     let t0 = begins_append (Anywhere (Name' a.0.0) ∷ []) (mark marks.OpenBracket ∷ es2) ls a.0.1 e.0 (name_takes ls a.0 a.1) t1 in
-    let made : ReadPlain = (DeclareArray line t a.0.0 c.0.0, e.0) in
+    let made : ReadPlain = (Plain line (DeclareArray t a.0.0 c.0.0), e.0) in
     subst (λ (y : ReadPlain). TakesAfter room line (on_word line t) ls y) (ok_is made x e.2) (record {
       tokens = Anywhere (Name' a.0.0) ∷ mark marks.OpenBracket ∷ es2;
       parts = t0;
@@ -94,15 +95,15 @@ array_takes room line t ls x h =
     })
 
 -- a variable after its type
-scalar_takes : (room line : ℕ) (t : VariableType) (ls : List Lexed) (x : ReadPlain) → (setting_at room ls >>= λ s. Ok (Declare line t s.0 s.1, s.2)) ≡ Ok x → TakesAfter room line (OnLine line (Fixed' (fixed.Word (variable_word t)))) ls x
+scalar_takes : (room line : ℕ) (t : VariableType) (ls : List Lexed) (x : ReadPlain) → (setting_at room ls >>= λ s. Ok (Plain line (Declare (Simple t) s.0 s.1), s.2)) ≡ Ok x → TakesAfter room line (OnLine line (Fixed' (fixed.Word (variable_word t)))) ls x
 scalar_takes room line t ls x e =
-    let a = bind_ok (setting_at room ls) (λ s. Ok (Declare line t s.0 s.1, s.2)) x e in
+    let a = bind_ok (setting_at room ls) (λ s. Ok (Plain line (Declare (Simple t) s.0 s.1), s.2)) x e in
     let s = setting_takes room ls a.0 a.1 in
-    let made : ReadPlain = (Declare line t a.0.0 a.0.1, a.0.2) in
+    let made : ReadPlain = (Plain line (Declare (Simple t) a.0.0 a.0.1), a.0.2) in
     subst (λ (y : ReadPlain). TakesAfter room line (OnLine line (Fixed' (fixed.Word (variable_word t)))) ls y) (ok_is made x a.2) (record { tokens = setting a.0.0 a.0.1; parts = s.0; spelled = refl; formed = s.1; one = refl })
 
 -- what is read as a variable after an element's type is of that type
-element_scalar_takes : (room line : ℕ) (t : ElementType) (ls : List Lexed) (x : ReadPlain) → is_array t ls ≡ false → (setting_at room ls >>= λ s. Ok (Declare line JIntVariable s.0 s.1, s.2)) ≡ Ok x → TakesAfter room line (on_word line t) ls x
+element_scalar_takes : (room line : ℕ) (t : ElementType) (ls : List Lexed) (x : ReadPlain) → is_array t ls ≡ false → (setting_at room ls >>= λ s. Ok (Plain line (Declare (Simple JIntVariable) s.0 s.1), s.2)) ≡ Ok x → TakesAfter room line (on_word line t) ls x
 element_scalar_takes room line JInt ls x none e = scalar_takes room line JIntVariable ls x e
 element_scalar_takes room line JShort ls x none e = absurd cc
 element_scalar_takes room line JByte ls x none e = absurd cc
@@ -113,9 +114,9 @@ unfolding after_element
 element_takes room line t ls x e =
     elim (chosen (starts_with (fixed.Mark marks.Star) ls) _ _ (Ok x) e) [
       | inl w ↦
-          let a = bind_ok (setting_at room (rest_of ls)) (λ s. Ok (DeclareBuffer line t s.0 s.1, s.2)) x w.1 in
+          let a = bind_ok (setting_at room (rest_of ls)) (λ s. Ok (Plain line (Declare (Pointer t) s.0 s.1), s.2)) x w.1 in
           let s = setting_takes room (rest_of ls) a.0 a.1 in
-          let made : ReadPlain = (DeclareBuffer line t a.0.0 a.0.1, a.0.2) in
+          let made : ReadPlain = (Plain line (Declare (Pointer t) a.0.0 a.0.1), a.0.2) in
           subst (λ (y : ReadPlain). TakesAfter room line (on_word line t) ls y) (ok_is made x a.2) (record {
             tokens = mark marks.Star ∷ setting a.0.0 a.0.1;
             parts = first_takes (Fixed' (fixed.Mark marks.Star)) (setting a.0.0 a.0.1) ls a.0.2 (starts_takes (fixed.Mark marks.Star) ls w.0) s.0;
@@ -135,12 +136,12 @@ on_const line = OnLine line (Fixed' (fixed.Word words.Const))
 const_takes : (room line : ℕ) (ls : List Lexed) (x : ReadPlain) → after_const room line ls ≡ Ok x → TakesAfter room line (on_const line) ls x
 unfolding after_const
 const_takes room line ls x h =
-    let a = bind_ok (expect (fixed.Word words.Jchar) ls) (λ a. expect (fixed.Mark marks.Star) a >>= λ b. setting_at room b >>= λ s. Ok (DeclareChars line s.0 s.1, s.2)) x h in
-    let b = bind_ok (expect (fixed.Mark marks.Star) a.0) (λ b. setting_at room b >>= λ s. Ok (DeclareChars line s.0 s.1, s.2)) x a.2 in
-    let c = bind_ok (setting_at room b.0) (λ s. Ok (DeclareChars line s.0 s.1, s.2)) x b.2 in
+    let a = bind_ok (expect (fixed.Word words.Jchar) ls) (λ a. expect (fixed.Mark marks.Star) a >>= λ b. setting_at room b >>= λ s. Ok (Plain line (Declare ConstChars s.0 s.1), s.2)) x h in
+    let b = bind_ok (expect (fixed.Mark marks.Star) a.0) (λ b. setting_at room b >>= λ s. Ok (Plain line (Declare ConstChars s.0 s.1), s.2)) x a.2 in
+    let c = bind_ok (setting_at room b.0) (λ s. Ok (Plain line (Declare ConstChars s.0 s.1), s.2)) x b.2 in
     let s = setting_takes room b.0 c.0 c.1 in
     let es : List Spelled = setting c.0.0 c.0.1 in
-    let made : ReadPlain = (DeclareChars line c.0.0 c.0.1, c.0.2) in
+    let made : ReadPlain = (Plain line (Declare ConstChars c.0.0 c.0.1), c.0.2) in
     subst (λ (y : ReadPlain). TakesAfter room line (on_const line) ls y) (ok_is made x c.2) (record {
       tokens = word words.Jchar ∷ mark marks.Star ∷ es;
       parts = then_takes (fixed.Word words.Jchar) (mark marks.Star ∷ es) ls a.0 c.0.2 a.1 (then_takes (fixed.Mark marks.Star) es a.0 b.0 c.0.2 b.1 s.0);
@@ -210,7 +211,7 @@ zeros_again ls rest h =
 abbrev pub array_tail : ℕ → List Spelled
 array_tail size = mark marks.OpenBracket ∷ Anywhere (Number' size false) ∷ mark marks.CloseBracket ∷ zeros_tokens
 
-array_again : (line : ℕ) (t : ElementType) (x : Identifier) (size : ℕ) (ls rest : List Lexed) → Begins (Anywhere (Name' x) ∷ array_tail size) ls rest → IsSize size → array_at line t ls ≡ Ok (DeclareArray line t x size, rest)
+array_again : (line : ℕ) (t : ElementType) (x : Identifier) (size : ℕ) (ls rest : List Lexed) → Begins (Anywhere (Name' x) ∷ array_tail size) ls rest → IsSize size → array_at line t ls ≡ Ok (Plain line (DeclareArray t x size), rest)
 unfolding array_at
 array_again line t x size ls rest h is =
     let es2 : List Spelled = mark marks.CloseBracket ∷ zeros_tokens in
@@ -253,14 +254,12 @@ variable_declares t = elim (variable_word_in t) [
 
 -- each of these statements
 abbrev pub IsDeclared : Stmt → Type 0
-IsDeclared (Declare line t x r) = Unit {0}
-IsDeclared (DeclareBuffer line t x r) = Unit {0}
-IsDeclared (DeclareChars line x r) = Unit {0}
-IsDeclared (DeclareArray line t x size) = Unit {0}
+IsDeclared (Plain line (Declare t x r)) = Unit {0}
+IsDeclared (Plain line (DeclareArray t x size)) = Unit {0}
 IsDeclared s = ⊥
 
 module _ (room : ℕ) where
-  buffer_declared : (line : ℕ) (t : ElementType) (x : Identifier) (r : RightSide) (ls rest : List Lexed) → Begins (statement (DeclareBuffer line t x r)) ls rest → IsRight room r → declared_at room ls ≡ Ok (DeclareBuffer line t x r, rest)
+  buffer_declared : (line : ℕ) (t : ElementType) (x : Identifier) (r : RightSide) (ls rest : List Lexed) → Begins (statement (Plain line (Declare (Pointer t) x r))) ls rest → IsRight room r → declared_at room ls ≡ Ok (Plain line (Declare (Pointer t) x r), rest)
   unfolding declared_at after_element
   buffer_declared line t x r ls rest h is =
       let m : Meaning = Fixed' (fixed.Word (element_word t)) in
@@ -269,7 +268,7 @@ module _ (room : ℕ) where
       let s = first_is (Fixed' (fixed.Mark marks.Star)) (setting x r) (rest_of ls) rest (fixed.Mark marks.Star) within in
       rw (first_element line m es ls rest h ∙ element_word_in t, on_line_is line m es ls rest h, s, setting_again room x r (rest_of (rest_of ls)) rest (first_rest (mark marks.Star) (setting x r) (rest_of ls) rest within) is) refl
 
-  array_declared : (line : ℕ) (t : ElementType) (x : Identifier) (size : ℕ) (ls rest : List Lexed) → Begins (statement (DeclareArray line t x size)) ls rest → IsSize size → declared_at room ls ≡ Ok (DeclareArray line t x size, rest)
+  array_declared : (line : ℕ) (t : ElementType) (x : Identifier) (size : ℕ) (ls rest : List Lexed) → Begins (statement (Plain line (DeclareArray t x size))) ls rest → IsSize size → declared_at room ls ≡ Ok (Plain line (DeclareArray t x size), rest)
   unfolding declared_at after_element
   array_declared line t x size ls rest h is =
       let m : Meaning = Fixed' (fixed.Word (element_word t)) in
@@ -279,7 +278,7 @@ module _ (room : ℕ) where
       let b = is_array_again t x (Anywhere (Number' size false) ∷ mark marks.CloseBracket ∷ zeros_tokens) (rest_of ls) rest within in
       rw (first_element line m es ls rest h ∙ element_word_in t, on_line_is line m es ls rest h, s, b, array_again line t x size (rest_of ls) rest within is) refl
 
-  jint_declared : (line : ℕ) (x : Identifier) (r : RightSide) (ls rest : List Lexed) → Begins (statement (Declare line JIntVariable x r)) ls rest → IsRight room r → declared_at room ls ≡ Ok (Declare line JIntVariable x r, rest)
+  jint_declared : (line : ℕ) (x : Identifier) (r : RightSide) (ls rest : List Lexed) → Begins (statement (Plain line (Declare (Simple JIntVariable) x r))) ls rest → IsRight room r → declared_at room ls ≡ Ok (Plain line (Declare (Simple JIntVariable) x r), rest)
   unfolding declared_at after_element
   jint_declared line x r ls rest h is =
       let m : Meaning = Fixed' (fixed.Word words.Jint) in
@@ -289,7 +288,7 @@ module _ (room : ℕ) where
       let b = first_is (Fixed' (fixed.Mark marks.Assign)) (right r ++ mark marks.Semicolon ∷ []) (rest_of (rest_of ls)) rest (fixed.Mark marks.OpenBracket) (first_rest (Anywhere (Name' x)) (setting_tail r) (rest_of ls) rest within) in
       rw (first_element line m es ls rest h, on_line_is line m es ls rest h, s, b, setting_again room x r (rest_of ls) rest within is) refl
 
-  other_declared : (line : ℕ) (t : VariableType) (x : Identifier) (r : RightSide) (ls rest : List Lexed) → element_in (Fixed' (fixed.Word (variable_word t))) ≡ None → variable_in (Fixed' (fixed.Word (variable_word t))) ≡ Some t → Begins (statement (Declare line t x r)) ls rest → IsRight room r → declared_at room ls ≡ Ok (Declare line t x r, rest)
+  other_declared : (line : ℕ) (t : VariableType) (x : Identifier) (r : RightSide) (ls rest : List Lexed) → element_in (Fixed' (fixed.Word (variable_word t))) ≡ None → variable_in (Fixed' (fixed.Word (variable_word t))) ≡ Some t → Begins (statement (Plain line (Declare (Simple t) x r))) ls rest → IsRight room r → declared_at room ls ≡ Ok (Plain line (Declare (Simple t) x r), rest)
   unfolding declared_at after_variable
   other_declared line t x r ls rest no_element is_variable h is =
       let m : Meaning = Fixed' (fixed.Word (variable_word t)) in
@@ -297,7 +296,7 @@ module _ (room : ℕ) where
       let within = first_rest (OnLine line m) es ls rest h in
       rw (first_element line m es ls rest h ∙ no_element, first_variable line m es ls rest h ∙ is_variable, on_line_is line m es ls rest h, setting_again room x r (rest_of ls) rest within is) refl
 
-  chars_declared : (line : ℕ) (x : Identifier) (r : RightSide) (ls rest : List Lexed) → Begins (statement (DeclareChars line x r)) ls rest → IsRight room r → declared_at room ls ≡ Ok (DeclareChars line x r, rest)
+  chars_declared : (line : ℕ) (x : Identifier) (r : RightSide) (ls rest : List Lexed) → Begins (statement (Plain line (Declare ConstChars x r))) ls rest → IsRight room r → declared_at room ls ≡ Ok (Plain line (Declare ConstChars x r), rest)
   unfolding declared_at after_const
   chars_declared line x r ls rest h is =
       let m : Meaning = Fixed' (fixed.Word words.Const) in
@@ -307,19 +306,17 @@ module _ (room : ℕ) where
       rw (first_element line m es ls rest h, first_variable line m es ls rest h, on_line_is line m es ls rest h, a.1, b.1, setting_again room x r b.0 rest b.2 is) refl
 
   pub declared_again : (s : Stmt) (ls rest : List Lexed) → Begins (statement s) ls rest → IsForm room s → IsDeclared s → declared_at room ls ≡ Ok (s, rest)
-  declared_again (Declare line t x r) ls rest h is declared = elim (variable_word_in t) [
-    | inl same ↦ subst (λ (v : VariableType). Begins (statement (Declare line v x r)) ls rest → declared_at room ls ≡ plain_read (Declare line v x r) rest) (sym same) (λ k. jint_declared line x r ls rest k is) h
+  declared_again (Plain line (Declare (Simple t) x r)) ls rest h is declared = elim (variable_word_in t) [
+    | inl same ↦ subst (λ (v : VariableType). Begins (statement (Plain line (Declare (Simple v) x r))) ls rest → declared_at room ls ≡ plain_read (Plain line (Declare (Simple v) x r)) rest) (sym same) (λ k. jint_declared line x r ls rest k is) h
     | inr other ↦ other_declared line t x r ls rest other.0 other.1 h is
   ]
-  declared_again (DeclareBuffer line t x r) ls rest h is declared = buffer_declared line t x r ls rest h is
-  declared_again (DeclareChars line x r) ls rest h is declared = chars_declared line x r ls rest h is
-  declared_again (DeclareArray line t x size) ls rest h is declared = array_declared line t x size ls rest h is
-  declared_again (Assign line x r) ls rest h is declared = absurd declared
-  declared_again (AssignElement line x i e) ls rest h is declared = absurd declared
-  declared_again (Perform line c) ls rest h is declared = absurd declared
-  declared_again (PutJint line e) ls rest h is declared = absurd declared
-  declared_again (If line test b) ls rest h is declared = absurd declared
-  declared_again (IfElse line test b d) ls rest h is declared = absurd declared
+  declared_again (Plain line (Declare (Pointer t) x r)) ls rest h is declared = buffer_declared line t x r ls rest h is
+  declared_again (Plain line (Declare ConstChars x r)) ls rest h is declared = chars_declared line x r ls rest h is
+  declared_again (Plain line (DeclareArray t x size)) ls rest h is declared = array_declared line t x size ls rest h is
+  declared_again (Plain line (Assign x r)) ls rest h is declared = absurd declared
+  declared_again (Plain line (AssignElement x i e)) ls rest h is declared = absurd declared
+  declared_again (Plain line (Perform c)) ls rest h is declared = absurd declared
+  declared_again (Plain line (PutJint e)) ls rest h is declared = absurd declared
+  declared_again (If line test b d) ls rest h is declared = absurd declared
   declared_again (While line test b) ls rest h is declared = absurd declared
-  declared_again (Return line) ls rest h is declared = absurd declared
-  declared_again (ReturnValue line e) ls rest h is declared = absurd declared
+  declared_again (Return line e) ls rest h is declared = absurd declared

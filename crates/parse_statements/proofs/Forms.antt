@@ -1,6 +1,6 @@
 -- Which statements are read: of the forms that have room.
-use Rattle.std.proofs.Common.{ℕ, ◌-◌, ◌<◌, ◌≤◌, Bool, true, false, length}
-use Rattle.syntax.specs.Tree.{Expr, Stmt, Declare, DeclareBuffer, DeclareChars, DeclareArray, Assign, AssignElement, Perform, PutJint, If, IfElse, While, Return, ReturnValue, Block, End, Next}
+use Rattle.std.proofs.Common.{ℕ, ◌-◌, ◌<◌, ◌≤◌, Bool, true, false, length, Some, None}
+use Rattle.syntax.specs.Tree.{Expr, Stmt, Plain, Declare, DeclareArray, Assign, AssignElement, Perform, PutJint, If, NoElse, ElseBlock, While, Return, Block, End, Next}
 use Rattle.syntax.specs.Parts.{statements_within, statements_of, names_declared}
 use Rattle.syntax.specs.Limits.{height}
 use Rattle.parse_statements.specs.Reading.{is_return}
@@ -25,19 +25,17 @@ MayFollow true (Next s b) = ⊥
 -- Statements and blocks in which there is this room. The block itself counts one in the height.
 abbrev mutual
   pub IsForm : ℕ → Stmt → Type 0
-  IsForm room (Declare line t x r) = IsRight room r
-  IsForm room (DeclareBuffer line t x r) = IsRight room r
-  IsForm room (DeclareChars line x r) = IsRight room r
-  IsForm room (DeclareArray line t x size) = IsSize size
-  IsForm room (Assign line x r) = IsRight room r
-  IsForm room (AssignElement line x i e) = IsIndex room i × IsExpr room e
-  IsForm room (Perform line c) = AreArguments room c.arguments
-  IsForm room (PutJint line e) = IsExpr room e
-  IsForm room (If line test b) = (1 ≤ room) × IsTest room test × IsBlock (room - 1) b
-  IsForm room (IfElse line test b d) = (1 ≤ room) × IsTest room test × IsBlock (room - 1) b × IsBlock (room - 1) d
+  IsForm room (Plain line (Declare t x r)) = IsRight room r
+  IsForm room (Plain line (DeclareArray t x size)) = IsSize size
+  IsForm room (Plain line (Assign x r)) = IsRight room r
+  IsForm room (Plain line (AssignElement x i e)) = IsIndex room i × IsExpr room e
+  IsForm room (Plain line (Perform c)) = AreArguments room c.arguments
+  IsForm room (Plain line (PutJint e)) = IsExpr room e
+  IsForm room (If line test b NoElse) = (1 ≤ room) × IsTest room test × IsBlock (room - 1) b
+  IsForm room (If line test b (ElseBlock d)) = (1 ≤ room) × IsTest room test × IsBlock (room - 1) b × IsBlock (room - 1) d
   IsForm room (While line test b) = (1 ≤ room) × IsExpr room test × IsBlock (room - 1) b
-  IsForm room (Return line) = Unit {0}
-  IsForm room (ReturnValue line e) = IsExpr room e
+  IsForm room (Return line None) = Unit {0}
+  IsForm room (Return line (Some e)) = IsExpr room e
 
   pub IsBlock : ℕ → Block → Type 0
   IsBlock room (End line) = Unit {0}

@@ -5,7 +5,7 @@ use Rattle.std.proofs.lemmas.Bool.{eqb-false}
 use Rattle.std.proofs.lemmas.List.{length-append}
 use Rattle.std.proofs.lemmas.List.Elements.{filter_map-append}
 use Rattle.scan.specs.declared.token.Mark.TheVariants as marks
-use Rattle.syntax.specs.Tree.{Expr, Test, Stmt, If, IfElse, While, Block, End, Next}
+use Rattle.syntax.specs.Tree.{Expr, Test, Stmt, If, NoElse, ElseBlock, While, Block, End, Next}
 use Rattle.syntax.specs.Parts.{statements_within, statements_of, declared_name, names_declared}
 use Rattle.parse_lexemes.specs.declared.fault.ParseError.{ParseError}
 use Rattle.scan.specs.declared.reserved.Word.{Word}
@@ -147,19 +147,19 @@ module _ (deep : BlockReader) (room : ℕ) (all : AllTakeBlocks deep room) where
       on_takes (fixed.Word w) (tested_tail test) ls c s (then_takes (fixed.Mark marks.OpenParen) (test ++ mark marks.CloseParen ∷ []) (rest_of ls) a c opened (begins_append test (mark marks.CloseParen ∷ []) a b c h (expect_takes (fixed.Mark marks.CloseParen) b c closed)))
 
   -- after the first block of an `if`, whose tokens up to that block's end are these
-  else_takes : (free line : ℕ) (test : Test) (b : Block) (count : ℕ) (ls mid : List Lexed) (x : ReadStmt) → 1 ≤ room → IsTest room test → IsBlock (room - 1) b → names_in b + count ≡ free → Begins (statement (If line test b)) ls mid → else_by deep line test b count mid ≡ Ok x → TakesStmt room free ls x
+  else_takes : (free line : ℕ) (test : Test) (b : Block) (count : ℕ) (ls mid : List Lexed) (x : ReadStmt) → 1 ≤ room → IsTest room test → IsBlock (room - 1) b → names_in b + count ≡ free → Begins (statement (If line test b NoElse)) ls mid → else_by deep line test b count mid ≡ Ok x → TakesStmt room free ls x
   unfolding else_by
   else_takes free line test b count ls mid x some is_test is_block is_count h e =
       elim (chosen (starts_with (fixed.Word words.Else) mid) _ _ (Ok x) e) [
         | inl w ↦
-            let c = bind_ok (expect (fixed.Mark marks.OpenBrace) (rest_of mid)) (λ within. deep count within >>= λ d. Ok (IfElse line test b d.0, d.1, d.2)) x w.1 in
-            let d = bind_ok (deep count c.0) (λ d. Ok (IfElse line test b d.0, d.1, d.2)) x c.2 in
+            let c = bind_ok (expect (fixed.Mark marks.OpenBrace) (rest_of mid)) (λ within. deep count within >>= λ d. Ok (If line test b (ElseBlock d.0), d.1, d.2)) x w.1 in
+            let d = bind_ok (deep count c.0) (λ d. Ok (If line test b (ElseBlock d.0), d.1, d.2)) x c.2 in
             let t = all count c.0 d.0 d.1 in
             let split = names_split (statements_of b) (statements_of d.0.0) in
             let other_count = t.count in
-            let made : ReadStmt = (IfElse line test b d.0.0, d.0.1, d.0.2) in
+            let made : ReadStmt = (If line test b (ElseBlock d.0.0), d.0.1, d.0.2) in
             let other = first_takes (Fixed' (fixed.Word words.Else)) (mark marks.OpenBrace ∷ inside d.0.0) mid d.0.2 (starts_takes (fixed.Word words.Else) mid w.0) (braced count (rest_of mid) c.0 d.0 c.1 d.1) in
-            let parts = begins_append (statement (If line test b)) (word words.Else ∷ mark marks.OpenBrace ∷ inside d.0.0) ls mid d.0.2 h other in
+            let parts = begins_append (statement (If line test b NoElse)) (word words.Else ∷ mark marks.OpenBrace ∷ inside d.0.0) ls mid d.0.2 h other in
             subst (λ (y : ReadStmt). TakesStmt room free ls y) (ok_is made x d.2) (record {
               parts = parts;
               formed = (some, is_test, is_block, t.formed);
@@ -167,7 +167,7 @@ module _ (deep : BlockReader) (room : ℕ) (all : AllTakeBlocks deep room) where
               shorter = shortens (OnLine line (Fixed' (fixed.Word words.If))) (tested_tail (test_tokens test) ++ mark marks.OpenBrace ∷ inside b ++ word words.Else ∷ mark marks.OpenBrace ∷ inside d.0.0) ls d.0.2 parts;
             })
         | inr w ↦
-            let made : ReadStmt = (If line test b, count, mid) in
+            let made : ReadStmt = (If line test b NoElse, count, mid) in
             subst (λ (y : ReadStmt). TakesStmt room free ls y) (ok_is made x w.1) (record {
               parts = h;
               formed = (some, is_test, is_block);

@@ -2,7 +2,7 @@
 use Rattle.std.proofs.Common.{◌≡◌, ℕ, ◌<◌, Bool, true, false, List, [], ◌∷◌, ◌++◌, length, Option, Some, None, Result, Ok, refl, ap, subst, inl, inr}
 use Rattle.scan.specs.declared.token.Mark.TheVariants as marks
 use Rattle.base.specs.Bytes.{Identifier}
-use Rattle.syntax.specs.Tree.{Expr, Call, RightSide, Stmt, Declare, DeclareBuffer, DeclareChars, DeclareArray, Assign, AssignElement, Perform, PutJint, If, IfElse, While, Return, ReturnValue}
+use Rattle.syntax.specs.Tree.{Expr, Call, RightSide, Stmt, Plain, Declare, DeclareArray, Assign, AssignElement, Perform, PutJint, If, While, Return}
 use Rattle.parse_lexemes.specs.declared.fault.ParseError.{ParseError}
 use Rattle.scan.specs.declared.reserved.Word.TheVariants as words
 use Rattle.scan.proofs.Grammar.{chosen}
@@ -23,14 +23,14 @@ use Rattle.parse_expressions.proofs.Table.{closes_mark}
 use Rattle.parse_expressions.proofs.Levels.{index_tokens, index_more, index_split, index_reads, index_reads_again, expr_reads, expr_reads_again, no_first, no_first_mark}
 use Rattle.parse_expressions.proofs.JniCalls.{argument_tokens, call_takes, call_again, right_takes, right_again}
 
-put_takes : (room line : ℕ) (ls : List Lexed) (x : ReadPlain) → put_at room line ls ≡ Ok x → (e : Expr) × (PutJint line e ≡ x.0) × IsExpr room e × Begins (mark marks.OpenParen ∷ (expression e ++ (mark marks.CloseParen ∷ mark marks.Semicolon ∷ []))) ls x.1
+put_takes : (room line : ℕ) (ls : List Lexed) (x : ReadPlain) → put_at room line ls ≡ Ok x → (e : Expr) × (Plain line (PutJint e) ≡ x.0) × IsExpr room e × Begins (mark marks.OpenParen ∷ (expression e ++ (mark marks.CloseParen ∷ mark marks.Semicolon ∷ []))) ls x.1
 unfolding put_at
 put_takes room line ls x e =
-    let a = bind_ok (expect (fixed.Mark marks.OpenParen) ls) (λ within. expr_at room 0 within >>= λ y. expect (fixed.Mark marks.CloseParen) y.2 >>= λ after. expect (fixed.Mark marks.Semicolon) after >>= λ rest. Ok (PutJint line y.0, rest)) x e in
-    let b = bind_ok (expr_at room 0 a.0) (λ y. expect (fixed.Mark marks.CloseParen) y.2 >>= λ after. expect (fixed.Mark marks.Semicolon) after >>= λ rest. Ok (PutJint line y.0, rest)) x a.2 in
-    let c = bind_ok (expect (fixed.Mark marks.CloseParen) b.0.2) (λ after. expect (fixed.Mark marks.Semicolon) after >>= λ rest. Ok (PutJint line b.0.0, rest)) x b.2 in
-    let d = bind_ok (expect (fixed.Mark marks.Semicolon) c.0) (λ rest. Ok (PutJint line b.0.0, rest)) x c.2 in
-    let made : ReadPlain = (PutJint line b.0.0, d.0) in
+    let a = bind_ok (expect (fixed.Mark marks.OpenParen) ls) (λ within. expr_at room 0 within >>= λ y. expect (fixed.Mark marks.CloseParen) y.2 >>= λ after. expect (fixed.Mark marks.Semicolon) after >>= λ rest. Ok (Plain line (PutJint y.0), rest)) x e in
+    let b = bind_ok (expr_at room 0 a.0) (λ y. expect (fixed.Mark marks.CloseParen) y.2 >>= λ after. expect (fixed.Mark marks.Semicolon) after >>= λ rest. Ok (Plain line (PutJint y.0), rest)) x a.2 in
+    let c = bind_ok (expect (fixed.Mark marks.CloseParen) b.0.2) (λ after. expect (fixed.Mark marks.Semicolon) after >>= λ rest. Ok (Plain line (PutJint b.0.0), rest)) x b.2 in
+    let d = bind_ok (expect (fixed.Mark marks.Semicolon) c.0) (λ rest. Ok (Plain line (PutJint b.0.0), rest)) x c.2 in
+    let made : ReadPlain = (Plain line (PutJint b.0.0), d.0) in
     let same : made ≡ x = ok_is made x d.2 in
     let t = expr_reads room a.0 b.0 b.1 in
     let closing = begins_append (mark marks.CloseParen ∷ []) (mark marks.Semicolon ∷ []) b.0.2 c.0 d.0 (expect_takes (fixed.Mark marks.CloseParen) b.0.2 c.0 c.1) (expect_takes (fixed.Mark marks.Semicolon) c.0 d.0 d.1) in
@@ -40,8 +40,8 @@ put_takes room line ls x e =
 
 -- a return's value, and its tokens
 abbrev pub return_of : ℕ → Option Expr → Stmt
-return_of line None = Return line
-return_of line (Some e) = ReturnValue line e
+return_of line None = Return line None
+return_of line (Some e) = Return line (Some e)
 
 abbrev pub operand_tokens : Option Expr → List Spelled
 operand_tokens None = []
@@ -56,13 +56,13 @@ unfolding return_at
 return_takes room line ls x e =
     elim (chosen (starts_with (fixed.Mark marks.Semicolon) ls) _ _ (Ok x) e) [
       | inl w ↦
-          let made : ReadPlain = (Return line, rest_of ls) in
+          let made : ReadPlain = (Return line None, rest_of ls) in
           let same : made ≡ x = ok_is made x w.1 in
           (None, ap (λ (p : ReadPlain). p.0) same, tt, subst (λ (p : ReadPlain). Begins (mark marks.Semicolon ∷ []) ls p.1) same (starts_takes (fixed.Mark marks.Semicolon) ls w.0))
       | inr w ↦
-          let b = bind_ok (expr_at room 0 ls) (λ y. expect (fixed.Mark marks.Semicolon) y.2 >>= λ rest. Ok (ReturnValue line y.0, rest)) x w.1 in
-          let d = bind_ok (expect (fixed.Mark marks.Semicolon) b.0.2) (λ rest. Ok (ReturnValue line b.0.0, rest)) x b.2 in
-          let made : ReadPlain = (ReturnValue line b.0.0, d.0) in
+          let b = bind_ok (expr_at room 0 ls) (λ y. expect (fixed.Mark marks.Semicolon) y.2 >>= λ rest. Ok (Return line (Some y.0), rest)) x w.1 in
+          let d = bind_ok (expect (fixed.Mark marks.Semicolon) b.0.2) (λ rest. Ok (Return line (Some b.0.0), rest)) x b.2 in
+          let made : ReadPlain = (Return line (Some b.0.0), d.0) in
           let same : made ≡ x = ok_is made x d.2 in
           let t = expr_reads room ls b.0 b.1 in
           (Some b.0.0, ap (λ (p : ReadPlain). p.0) same, t.1, subst (λ (p : ReadPlain). Begins (expression b.0.0 ++ mark marks.Semicolon ∷ []) ls p.1) same (begins_append (expression b.0.0) (mark marks.Semicolon ∷ []) ls b.0.2 d.0 t.0 (expect_takes (fixed.Mark marks.Semicolon) b.0.2 d.0 d.1)))
@@ -120,13 +120,13 @@ call_tail c = mark marks.Star ∷ word words.Env ∷ mark marks.CloseParen ∷ m
 perform_takes : (room : ℕ) (ls : List Lexed) (x : ReadPlain) → perform_at room (line_at ls) ls ≡ Ok x → TakesPlain room ls x
 unfolding perform_at
 perform_takes room ls x e =
-    let a = bind_ok (call_at room ls) (λ c. expect (fixed.Mark marks.Semicolon) c.1 >>= λ rest. Ok (Perform (line_at ls) c.0, rest)) x e in
-    let b = bind_ok (expect (fixed.Mark marks.Semicolon) a.0.1) (λ rest. Ok (Perform (line_at ls) a.0.0, rest)) x a.2 in
+    let a = bind_ok (call_at room ls) (λ c. expect (fixed.Mark marks.Semicolon) c.1 >>= λ rest. Ok (Plain (line_at ls) (Perform c.0), rest)) x e in
+    let b = bind_ok (expect (fixed.Mark marks.Semicolon) a.0.1) (λ rest. Ok (Plain (line_at ls) (Perform a.0.0), rest)) x a.2 in
     let t = call_takes room ls a.0 a.1 in
     let all = begins_append (call a.0.0) (mark marks.Semicolon ∷ []) ls a.0.1 b.0 t.0 (expect_takes (fixed.Mark marks.Semicolon) a.0.1 b.0 b.1) in
     let es : List Spelled = call_tail a.0.0 ++ mark marks.Semicolon ∷ [] in
     let parts = on_first (Fixed' (fixed.Mark marks.OpenParen)) es ls b.0 all in
-    let made : ReadPlain = (Perform (line_at ls) a.0.0, b.0) in
+    let made : ReadPlain = (Plain (line_at ls) (Perform a.0.0), b.0) in
     subst (λ (y : ReadPlain). TakesPlain room ls y) (ok_is made x b.2) (record {
       parts = parts;
       formed = t.1;
@@ -139,7 +139,7 @@ abbrev pub element_tail : Expr → Expr → List Spelled
 element_tail i e = mark marks.OpenBracket ∷ (expression i ++ mark marks.CloseBracket ∷ mark marks.Assign ∷ (expression e ++ mark marks.Semicolon ∷ []))
 
 abbrev set_step3 : (line : ℕ) → Identifier → Expr → ReadExpr → Result ReadPlain ParseError
-set_step3 line x i e = expect (fixed.Mark marks.Semicolon) e.2 >>= λ rest. Ok (AssignElement line x i e.0, rest)
+set_step3 line x i e = expect (fixed.Mark marks.Semicolon) e.2 >>= λ rest. Ok (Plain line (AssignElement x i e.0), rest)
 
 abbrev set_step2 : (room line : ℕ) → Identifier → Expr → List Lexed → Result ReadPlain ParseError
 set_step2 room line x i within = expr_at room 0 within >>= set_step3 line x i
@@ -158,7 +158,7 @@ set_element_takes room ls x h =
     let b = bind_ok (index_at room a.0.1) (set_step1 room line a.0.0) x a.2 in
     let c = bind_ok (expect (fixed.Mark marks.Assign) b.0.2) (set_step2 room line a.0.0 b.0.0) x b.2 in
     let d = bind_ok (expr_at room 0 c.0) (set_step3 line a.0.0 b.0.0) x c.2 in
-    let e = bind_ok (expect (fixed.Mark marks.Semicolon) d.0.2) (λ rest. Ok (AssignElement line a.0.0 b.0.0 d.0.0, rest)) x d.2 in
+    let e = bind_ok (expect (fixed.Mark marks.Semicolon) d.0.2) (λ rest. Ok (Plain line (AssignElement a.0.0 b.0.0 d.0.0), rest)) x d.2 in
     let i = index_reads room a.0.1 b.0 b.1 in
     let t = expr_reads room c.0 d.0 d.1 in
     let closing : List Spelled = expression d.0.0 ++ mark marks.Semicolon ∷ [] in
@@ -167,7 +167,7 @@ set_element_takes room ls x h =
     let t1 = index_more b.0.0 (mark marks.Assign ∷ closing) a.0.1 e.0 (begins_append (index_tokens b.0.0) (mark marks.Assign ∷ closing) a.0.1 b.0.2 e.0 i.parts t2) in
     let t0 = begins_append (Anywhere (Name' a.0.0) ∷ []) (element_tail b.0.0 d.0.0) ls a.0.1 e.0 (name_takes ls a.0 a.1) t1 in
     let parts = on_first (Name' a.0.0) (element_tail b.0.0 d.0.0) ls e.0 t0 in
-    let made : ReadPlain = (AssignElement line a.0.0 b.0.0 d.0.0, e.0) in
+    let made : ReadPlain = (Plain line (AssignElement a.0.0 b.0.0 d.0.0), e.0) in
     subst (λ (y : ReadPlain). TakesPlain room ls y) (ok_is made x e.2) (record {
       parts = parts;
       formed = (record { levelled = i.levelled; low = i.low }, t.1);
@@ -185,10 +185,10 @@ set_takes room ls x e =
     elim (chosen (starts_element ls) _ _ (Ok x) e) [
       | inl w ↦ set_element_takes room ls x w.1
       | inr w ↦
-          let a = bind_ok (setting_at room ls) (λ s. Ok (Assign (line_at ls) s.0 s.1, s.2)) x w.1 in
+          let a = bind_ok (setting_at room ls) (λ s. Ok (Plain (line_at ls) (Assign s.0 s.1), s.2)) x w.1 in
           let t = setting_takes room ls a.0 a.1 in
           let parts = on_first (Name' a.0.0) (setting_tail a.0.1) ls a.0.2 t.0 in
-          let made : ReadPlain = (Assign (line_at ls) a.0.0 a.0.1, a.0.2) in
+          let made : ReadPlain = (Plain (line_at ls) (Assign a.0.0 a.0.1), a.0.2) in
           subst (λ (y : ReadPlain). TakesPlain room ls y) (ok_is made x a.2) (record {
             parts = parts;
             formed = t.1;
@@ -223,7 +223,7 @@ plain_takes room ls x e =
 abbrev plain_read : Stmt → List Lexed → Result ReadPlain ParseError
 plain_read s ls = Ok (s, ls)
 
-put_again : (room line : ℕ) (e : Expr) (ls rest : List Lexed) → Begins (mark marks.OpenParen ∷ (expression e ++ (mark marks.CloseParen ∷ mark marks.Semicolon ∷ []))) ls rest → IsExpr room e → put_at room line ls ≡ Ok (PutJint line e, rest)
+put_again : (room line : ℕ) (e : Expr) (ls rest : List Lexed) → Begins (mark marks.OpenParen ∷ (expression e ++ (mark marks.CloseParen ∷ mark marks.Semicolon ∷ []))) ls rest → IsExpr room e → put_at room line ls ≡ Ok (Plain line (PutJint e), rest)
 unfolding put_at
 put_again room line e ls rest h is =
     let closing : List Spelled = mark marks.CloseParen ∷ mark marks.Semicolon ∷ [] in
@@ -232,22 +232,22 @@ put_again room line e ls rest h is =
     let d = expr_reads_again room a.0 parts.0 e parts.1 is (closes_mark marks.CloseParen refl refl (mark marks.Semicolon ∷ []) parts.0 rest parts.2) in
     let b = expect_again (fixed.Mark marks.CloseParen) (mark marks.Semicolon ∷ []) parts.0 rest parts.2 in
     let c = expect_again (fixed.Mark marks.Semicolon) [] b.0 rest b.2 in
-    rw (a.1, d, b.1, c.1) (ap (plain_read (PutJint line e)) c.2)
+    rw (a.1, d, b.1, c.1) (ap (plain_read (Plain line (PutJint e))) c.2)
 
-return_again : (room line : ℕ) (ls rest : List Lexed) → Begins (mark marks.Semicolon ∷ []) ls rest → return_at room line ls ≡ Ok (Return line, rest)
+return_again : (room line : ℕ) (ls rest : List Lexed) → Begins (mark marks.Semicolon ∷ []) ls rest → return_at room line ls ≡ Ok (Return line None, rest)
 unfolding return_at
 return_again room line ls rest h =
     let s = first_is (Fixed' (fixed.Mark marks.Semicolon)) [] ls rest (fixed.Mark marks.Semicolon) h in
-    rw s (ap (plain_read (Return line)) (first_rest (mark marks.Semicolon) [] ls rest h))
+    rw s (ap (plain_read (Return line None)) (first_rest (mark marks.Semicolon) [] ls rest h))
 
-value_again : (room line : ℕ) (e : Expr) (ls rest : List Lexed) → Begins (expression e ++ mark marks.Semicolon ∷ []) ls rest → IsExpr room e → return_at room line ls ≡ Ok (ReturnValue line e, rest)
+value_again : (room line : ℕ) (e : Expr) (ls rest : List Lexed) → Begins (expression e ++ mark marks.Semicolon ∷ []) ls rest → IsExpr room e → return_at room line ls ≡ Ok (Return line (Some e), rest)
 unfolding return_at
 value_again room line e ls rest h is =
     let parts = begins_split (expression e) (mark marks.Semicolon ∷ []) ls rest h in
     let s = no_first (fixed.Mark marks.Semicolon) (no_first_mark marks.Semicolon refl refl refl) 0 e is.levelled ls parts.0 parts.1 in
     let d = expr_reads_again room ls parts.0 e parts.1 is (closes_mark marks.Semicolon refl refl [] parts.0 rest parts.2) in
     let c = expect_again (fixed.Mark marks.Semicolon) [] parts.0 rest parts.2 in
-    rw (s, d, c.1) (ap (plain_read (ReturnValue line e)) c.2)
+    rw (s, d, c.1) (ap (plain_read (Return line (Some e))) c.2)
 
 abbrev setting_read : Identifier → RightSide → List Lexed → Result Setting ParseError
 setting_read x r ls = Ok (x, r, ls)
@@ -263,15 +263,15 @@ setting_again room x r ls rest h is =
     let c = expect_again (fixed.Mark marks.Semicolon) [] parts.0 rest parts.2 in
     rw (n, a.1, d, c.1) (ap (setting_read x r) c.2)
 
-perform_again : (room line : ℕ) (c : Call) (ls rest : List Lexed) → Begins (call c ++ mark marks.Semicolon ∷ []) ls rest → AreArguments room c.arguments → perform_at room line ls ≡ Ok (Perform line c, rest)
+perform_again : (room line : ℕ) (c : Call) (ls rest : List Lexed) → Begins (call c ++ mark marks.Semicolon ∷ []) ls rest → AreArguments room c.arguments → perform_at room line ls ≡ Ok (Plain line (Perform c), rest)
 unfolding perform_at
 perform_again room line c ls rest h is =
     let parts = begins_split (call c) (mark marks.Semicolon ∷ []) ls rest h in
     let d = call_again room c ls parts.0 parts.1 is in
     let e = expect_again (fixed.Mark marks.Semicolon) [] parts.0 rest parts.2 in
-    rw (d, e.1) (ap (plain_read (Perform line c)) e.2)
+    rw (d, e.1) (ap (plain_read (Plain line (Perform c))) e.2)
 
-set_element_again : (room line : ℕ) (x : Identifier) (i e : Expr) (ls rest : List Lexed) → Begins (Anywhere (Name' x) ∷ element_tail i e) ls rest → IsIndex room i → IsExpr room e → set_element_at room line ls ≡ Ok (AssignElement line x i e, rest)
+set_element_again : (room line : ℕ) (x : Identifier) (i e : Expr) (ls rest : List Lexed) → Begins (Anywhere (Name' x) ∷ element_tail i e) ls rest → IsIndex room i → IsExpr room e → set_element_at room line ls ≡ Ok (Plain line (AssignElement x i e), rest)
 unfolding set_element_at
 set_element_again room line x i e ls rest h is_index is =
     let closing : List Spelled = expression e ++ mark marks.Semicolon ∷ [] in
@@ -282,7 +282,7 @@ set_element_again room line x i e ls rest h is_index is =
     let last = begins_split (expression e) (mark marks.Semicolon ∷ []) a.0 rest a.2 in
     let d = expr_reads_again room a.0 last.0 e last.1 is (closes_mark marks.Semicolon refl refl [] last.0 rest last.2) in
     let c = expect_again (fixed.Mark marks.Semicolon) [] last.0 rest last.2 in
-    rw (n, k, a.1, d, c.1) (ap (plain_read (AssignElement line x i e)) c.2)
+    rw (n, k, a.1, d, c.1) (ap (plain_read (Plain line (AssignElement x i e))) c.2)
 
 -- a name that is set is no element
 not_bracket : (ls : List Lexed) → starts_with (fixed.Mark marks.OpenBracket) (rest_of ls) ≡ false → starts_element ls ≡ false
@@ -300,58 +300,54 @@ element_starts x i e ls rest h =
 
 -- each of these statements
 abbrev pub IsPlain : Stmt → Type 0
-IsPlain (Assign line x r) = Unit {0}
-IsPlain (AssignElement line x i e) = Unit {0}
-IsPlain (Perform line c) = Unit {0}
-IsPlain (PutJint line e) = Unit {0}
-IsPlain (Return line) = Unit {0}
-IsPlain (ReturnValue line e) = Unit {0}
+IsPlain (Plain line (Assign x r)) = Unit {0}
+IsPlain (Plain line (AssignElement x i e)) = Unit {0}
+IsPlain (Plain line (Perform c)) = Unit {0}
+IsPlain (Plain line (PutJint e)) = Unit {0}
+IsPlain (Return line e) = Unit {0}
 IsPlain s = ⊥
 
 pub plain_again : (room : ℕ) (s : Stmt) (ls rest : List Lexed) → Begins (statement s) ls rest → IsForm room s → IsPlain s → plain_at room ls ≡ Ok (s, rest)
 unfolding plain_at set_at
-plain_again room (PutJint line e) ls rest h is plain =
+plain_again room (Plain line (PutJint e)) ls rest h is plain =
     let m : Meaning = Fixed' (fixed.Word words.PutJint) in
     let es : List Spelled = mark marks.OpenParen ∷ (expression e ++ (mark marks.CloseParen ∷ mark marks.Semicolon ∷ [])) in
     let s = on_is line m es ls rest (fixed.Word words.PutJint) h in
     rw (s, on_line_is line m es ls rest h, put_again room line e (rest_of ls) rest (first_rest (OnLine line m) es ls rest h) is) refl
-plain_again room (Return line) ls rest h is plain =
+plain_again room (Return line None) ls rest h is plain =
     let m : Meaning = Fixed' (fixed.Word words.Return) in
     let es : List Spelled = mark marks.Semicolon ∷ [] in
     let s = on_is line m es ls rest (fixed.Word words.PutJint) h in
     let t = on_is line m es ls rest (fixed.Word words.Return) h in
     rw (s, t, on_line_is line m es ls rest h, return_again room line (rest_of ls) rest (first_rest (OnLine line m) es ls rest h)) refl
-plain_again room (ReturnValue line e) ls rest h is plain =
+plain_again room (Return line (Some e)) ls rest h is plain =
     let m : Meaning = Fixed' (fixed.Word words.Return) in
     let es : List Spelled = expression e ++ mark marks.Semicolon ∷ [] in
     let s = on_is line m es ls rest (fixed.Word words.PutJint) h in
     let t = on_is line m es ls rest (fixed.Word words.Return) h in
     rw (s, t, on_line_is line m es ls rest h, value_again room line e (rest_of ls) rest (first_rest (OnLine line m) es ls rest h) is) refl
-plain_again room (Perform line c) ls rest h is plain =
+plain_again room (Plain line (Perform c)) ls rest h is plain =
     let m : Meaning = Fixed' (fixed.Mark marks.OpenParen) in
     let es : List Spelled = call_tail c ++ mark marks.Semicolon ∷ [] in
     let s = on_is line m es ls rest (fixed.Word words.PutJint) h in
     let t = on_is line m es ls rest (fixed.Word words.Return) h in
     let u = on_is line m es ls rest (fixed.Mark marks.OpenParen) h in
     rw (s, t, u, on_line_is line m es ls rest h, perform_again room line c ls rest (off_first line m es ls rest h) is) refl
-plain_again room (Assign line x r) ls rest h is plain =
+plain_again room (Plain line (Assign x r)) ls rest h is plain =
     let es : List Spelled = setting_tail r in
     let s = on_is line (Name' x) es ls rest (fixed.Word words.PutJint) h in
     let t = on_is line (Name' x) es ls rest (fixed.Word words.Return) h in
     let u = on_is line (Name' x) es ls rest (fixed.Mark marks.OpenParen) h in
     let b = first_is (Fixed' (fixed.Mark marks.Assign)) (right r ++ mark marks.Semicolon ∷ []) (rest_of ls) rest (fixed.Mark marks.OpenBracket) (first_rest (OnLine line (Name' x)) es ls rest h) in
     rw (s, t, u, not_bracket ls b, on_line_is line (Name' x) es ls rest h, setting_again room x r ls rest (off_first line (Name' x) es ls rest h) is) refl
-plain_again room (AssignElement line x i e) ls rest h is plain =
+plain_again room (Plain line (AssignElement x i e)) ls rest h is plain =
     let es : List Spelled = element_tail i e in
     let s = on_is line (Name' x) es ls rest (fixed.Word words.PutJint) h in
     let t = on_is line (Name' x) es ls rest (fixed.Word words.Return) h in
     let u = on_is line (Name' x) es ls rest (fixed.Mark marks.OpenParen) h in
     let named = off_first line (Name' x) es ls rest h in
     rw (s, t, u, element_starts x i e ls rest named, on_line_is line (Name' x) es ls rest h, set_element_again room line x i e ls rest named is.0 is.1) refl
-plain_again room (Declare line t x r) ls rest h is plain = absurd plain
-plain_again room (DeclareBuffer line t x r) ls rest h is plain = absurd plain
-plain_again room (DeclareChars line x r) ls rest h is plain = absurd plain
-plain_again room (DeclareArray line t x size) ls rest h is plain = absurd plain
-plain_again room (If line test b) ls rest h is plain = absurd plain
-plain_again room (IfElse line test b d) ls rest h is plain = absurd plain
+plain_again room (Plain line (Declare t x r)) ls rest h is plain = absurd plain
+plain_again room (Plain line (DeclareArray t x size)) ls rest h is plain = absurd plain
+plain_again room (If line test b d) ls rest h is plain = absurd plain
 plain_again room (While line test b) ls rest h is plain = absurd plain

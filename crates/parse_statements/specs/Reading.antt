@@ -6,7 +6,8 @@ use Rattle.base.specs.declared.element.ElementType.{ElementType}
 use Rattle.base.specs.declared.element.ElementType.TheVariants.{Int as JInt, Short as JShort, Byte as JByte, Char as JChar}
 use Rattle.syntax.specs.declared.declared_type.VariableType.{VariableType}
 use Rattle.syntax.specs.declared.declared_type.VariableType.TheVariants.{Jint as JIntVariable}
-use Rattle.syntax.specs.Tree.{Expr, Test, Stmt, Declare, DeclareBuffer, DeclareChars, DeclareArray, Assign, AssignElement, Perform, PutJint, If, IfElse, While, Return, ReturnValue, Block, End, Next}
+use Rattle.syntax.specs.declared.declared_type.DeclaredType.TheVariants.{Simple, Pointer, ConstChars}
+use Rattle.syntax.specs.Tree.{Expr, Test, Stmt, Plain, Declare, DeclareArray, Assign, AssignElement, Perform, PutJint, If, NoElse, ElseBlock, While, Return, Block, End, Next}
 use Rattle.parse_lexemes.specs.declared.fault.ParseRule.TheVariants.{NoForm, TooHigh, TooMany}
 use Rattle.parse_lexemes.specs.declared.fault.ParseError.{ParseError}
 use Rattle.scan.specs.declared.reserved.Word.TheVariants as words
@@ -25,18 +26,18 @@ put_at room line ls = do
   e ← expr_at room 0 within
   after ← expect (fixed.Mark marks.CloseParen) e.2
   rest ← expect (fixed.Mark marks.Semicolon) after
-  Ok (PutJint line e.0, rest)
+  Ok (Plain line (PutJint e.0), rest)
 
 unfoldable pub return_at : (room line : ℕ) → List Lexed → Result ReadPlain ParseError
 return_at room line ls =
-    if starts_with (fixed.Mark marks.Semicolon) ls then Ok (Return line, rest_of ls)
-    else (expr_at room 0 ls >>= λ e. expect (fixed.Mark marks.Semicolon) e.2 >>= λ rest. Ok (ReturnValue line e.0, rest))
+    if starts_with (fixed.Mark marks.Semicolon) ls then Ok (Return line None, rest_of ls)
+    else (expr_at room 0 ls >>= λ e. expect (fixed.Mark marks.Semicolon) e.2 >>= λ rest. Ok (Return line (Some e.0), rest))
 
 unfoldable pub perform_at : (room line : ℕ) → List Lexed → Result ReadPlain ParseError
 perform_at room line ls = do
   c ← call_at room ls
   rest ← expect (fixed.Mark marks.Semicolon) c.1
-  Ok (Perform line c.0, rest)
+  Ok (Plain line (Perform c.0), rest)
 
 unfoldable pub set_element_at : (room line : ℕ) → List Lexed → Result ReadPlain ParseError
 set_element_at room line ls = do
@@ -45,12 +46,12 @@ set_element_at room line ls = do
   within ← expect (fixed.Mark marks.Assign) i.2
   e ← expr_at room 0 within
   rest ← expect (fixed.Mark marks.Semicolon) e.2
-  Ok (AssignElement line name.0 i.0 e.0, rest)
+  Ok (Plain line (AssignElement name.0 i.0 e.0), rest)
 
 unfoldable pub set_at : (room line : ℕ) → List Lexed → Result ReadPlain ParseError
 set_at room line ls =
     if starts_element ls then set_element_at room line ls
-    else (setting_at room ls >>= λ s. Ok (Assign line s.0 s.1, s.2))
+    else (setting_at room ls >>= λ s. Ok (Plain line (Assign s.0 s.1), s.2))
 
 -- a statement that declares no name and has no block
 unfoldable pub plain_at : ℕ → List Lexed → Result ReadPlain ParseError
@@ -79,7 +80,7 @@ array_at line t ls = do
   size ← number_at 1 most_elements a
   b ← expect (fixed.Mark marks.CloseBracket) size.1
   rest ← zeros_at b
-  Ok (DeclareArray line t name.0 size.0, rest)
+  Ok (Plain line (DeclareArray t name.0 size.0), rest)
 
 -- whether an array is declared after an element's type, of which `jint` alone is a variable's too
 abbrev pub is_array : ElementType → List Lexed → Bool
@@ -91,14 +92,14 @@ is_array JChar ls = true
 -- what comes after an element's type
 unfoldable pub after_element : (room line : ℕ) → ElementType → List Lexed → Result ReadPlain ParseError
 after_element room line t ls =
-    if starts_with (fixed.Mark marks.Star) ls then (setting_at room (rest_of ls) >>= λ s. Ok (DeclareBuffer line t s.0 s.1, s.2))
+    if starts_with (fixed.Mark marks.Star) ls then (setting_at room (rest_of ls) >>= λ s. Ok (Plain line (Declare (Pointer t) s.0 s.1), s.2))
     else if is_array t ls then array_at line t ls
-    else (setting_at room ls >>= λ s. Ok (Declare line JIntVariable s.0 s.1, s.2))
+    else (setting_at room ls >>= λ s. Ok (Plain line (Declare (Simple JIntVariable) s.0 s.1), s.2))
 
 unfoldable pub after_variable : (room line : ℕ) → VariableType → List Lexed → Result ReadPlain ParseError
 after_variable room line t ls = do
   s ← setting_at room ls
-  Ok (Declare line t s.0 s.1, s.2)
+  Ok (Plain line (Declare (Simple t) s.0 s.1), s.2)
 
 -- const jchar *
 unfoldable pub after_const : (room line : ℕ) → List Lexed → Result ReadPlain ParseError
@@ -106,7 +107,7 @@ after_const room line ls = do
   a ← expect (fixed.Word words.Jchar) ls
   b ← expect (fixed.Mark marks.Star) a
   s ← setting_at room b
-  Ok (DeclareChars line s.0 s.1, s.2)
+  Ok (Plain line (Declare ConstChars s.0 s.1), s.2)
 
 -- a declaration that begins with one of these types, or with `const`
 abbrev pub declared_by : ℕ → Option ElementType → Option VariableType → List Lexed → Result ReadPlain ParseError
@@ -145,8 +146,8 @@ BlockReader = ℕ → List Lexed → Result ReadBlock ParseError
 unfoldable pub else_by : BlockReader → (line : ℕ) → Test → Block → (free : ℕ) → List Lexed → Result ReadStmt ParseError
 else_by deep line test then' free ls =
     if starts_with (fixed.Word words.Else) ls
-    then (expect (fixed.Mark marks.OpenBrace) (rest_of ls) >>= λ within. deep free within >>= λ b. Ok (IfElse line test then' b.0, b.1, b.2))
-    else Ok (If line test then', free, ls)
+    then (expect (fixed.Mark marks.OpenBrace) (rest_of ls) >>= λ within. deep free within >>= λ b. Ok (If line test then' (ElseBlock b.0), b.1, b.2))
+    else Ok (If line test then' NoElse, free, ls)
 
 -- what an `if` tests, in its parentheses, and the brace after them
 unfoldable pub if_test_at : ℕ → List Lexed → Result (Test × List Lexed) ParseError
@@ -185,8 +186,7 @@ statement_by deep room free ls =
     else simple_at room free ls
 
 abbrev pub is_return : Stmt → Bool
-is_return (Return line) = true
-is_return (ReturnValue line e) = true
+is_return (Return line e) = true
 is_return s = false
 
 -- statements up to the closing brace, of which there are fewer than `steps`, where `free` more names

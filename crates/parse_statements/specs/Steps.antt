@@ -3,7 +3,7 @@ use Rattle.std.specs.Prelude.{ℕ, ◌==◌, Bool, true, false, ◌&&◌, ◌||�
 use Rattle.base.specs.Bytes.{Identifier}
 use Rattle.scan.specs.declared.token.Mark.TheVariants as marks
 use Rattle.scan.specs.declared.reserved.Word.TheVariants as words
-use Rattle.syntax.specs.Tree.{Expr, AssignElement, Test, Stmt, If, IfElse, While, Block}
+use Rattle.syntax.specs.Tree.{Expr, Test, Stmt, Plain, AssignElement, If, NoElse, ElseBlock, While, Block}
 use Rattle.syntax.specs.Views.{expr_tree, test_tree}
 use Rattle.parse_lexemes.specs.declared.fault.ParseRule.TheVariants.{TooHigh}
 use Rattle.parse_lexemes.specs.declared.fault.ParseError.{ParseError}
@@ -22,7 +22,7 @@ element_set_at room line x i ls = do
   within ← expect (fixed.Mark marks.Assign) ls
   e ← expr_at room 0 within
   rest ← expect (fixed.Mark marks.Semicolon) e.2
-  Ok (AssignElement line x i e.0, rest)
+  Ok (Plain line (AssignElement x i e.0), rest)
 
 -- what comes in a statement before its first block
 pub data Head : Type 0 where
@@ -55,8 +55,8 @@ takes_other (WhileHead test) = false
 -- a statement with its blocks
 abbrev pub nested_made : (line : ℕ) → Head → Block → Option Block → Stmt
 nested_made line (WhileHead test) body other = While line test body
-nested_made line (IfHead test) body None = If line test body
-nested_made line (IfHead test) body (Some other) = IfElse line test body other
+nested_made line (IfHead test) body None = If line test body NoElse
+nested_made line (IfHead test) body (Some other) = If line test body (ElseBlock other)
 
 abbrev pub BlockRead : Type 0
 BlockRead = Block × ℕ × List Lexed

@@ -11,7 +11,7 @@ use parse_expressions::setting;
 use parse_lexemes::{Cursor, Fixed, ParseError};
 use scan::{Mark, Word};
 use std::alloc::Global;
-use syntax::{ElementType, ExprStack, Form, Name, Stmt, VariableType};
+use syntax::{DeclaredType, ElementType, ExprStack, Form, Name, PlainStmt, Stmt, VariableType};
 
 /// What comes after the zeros of a local array.
 #[tactic(auto, unfolding(crate::specs::Reading::zeros_at))]
@@ -41,7 +41,7 @@ fn array(
     let (size, rest) = rest.number(1, MOST_ELEMENTS)?;
     let rest = zeros(rest.expect(Fixed::Mark(Mark::CloseBracket))?)?;
     let name = Name::new(alloc, name)?;
-    let form = Form::DeclareArray(element, name, size);
+    let form = Form::Plain(PlainStmt::DeclareArray(element, name, size));
     Ok((Stmt { line, form }, rest))
 }
 
@@ -69,7 +69,8 @@ fn after_element<'t>(
 {
     if lexemes.starts_with(Fixed::Mark(Mark::Star)) {
         let (name, right, rest) = setting(stack, room, lexemes.skip())?;
-        let form = Form::DeclareBuffer(element, name, right);
+        let kind = DeclaredType::Pointer(element);
+        let form = Form::Plain(PlainStmt::Declare(kind, name, right));
         return Ok((Stmt { line, form }, rest));
     }
     if is_array(element, lexemes) {
@@ -91,7 +92,7 @@ fn after_variable<'t>(
     ensures { Gives (λ x. (stmt_tree x.0, views x.1)) result (after_variable room line kind (views lexemes.entry)) }
 {
     let (name, right, rest) = setting(stack, room, lexemes)?;
-    let form = Form::Declare(kind, name, right);
+    let form = Form::Plain(PlainStmt::Declare(DeclaredType::Simple(kind), name, right));
     Ok((Stmt { line, form }, rest))
 }
 
@@ -110,7 +111,7 @@ fn after_const<'t>(
         .expect(Fixed::Word(Word::Jchar))?
         .expect(Fixed::Mark(Mark::Star))?;
     let (name, right, rest) = setting(stack, room, rest)?;
-    let form = Form::DeclareChars(name, right);
+    let form = Form::Plain(PlainStmt::Declare(DeclaredType::ConstChars, name, right));
     Ok((Stmt { line, form }, rest))
 }
 

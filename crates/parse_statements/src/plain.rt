@@ -10,7 +10,7 @@ ghost use Rattle.parse_statements.specs.Reading.{put_at, return_at, perform_at, 
 use parse_expressions::{call, expression, index, setting, starts_element};
 use parse_lexemes::{Cursor, Fixed, ParseError};
 use scan::{Mark, Word};
-use syntax::{Expr, ExprStack, Form, Name, Stmt};
+use syntax::{Expr, ExprStack, Form, Name, PlainStmt, Stmt};
 
 /// A statement whose `put_jint`, in this line, is read.
 #[tactic(auto, unfolding(crate::specs::Reading::put_at))]
@@ -28,7 +28,7 @@ fn put<'t>(
     let rest = rest
         .expect(Fixed::Mark(Mark::CloseParen))?
         .expect(Fixed::Mark(Mark::Semicolon))?;
-    let form = Form::PutJint(operand);
+    let form = Form::Plain(PlainStmt::PutJint(operand));
     Ok((Stmt { line, form }, rest))
 }
 
@@ -66,7 +66,7 @@ fn perform<'t>(
 {
     let (call, rest) = call(stack, room, lexemes)?;
     let rest = rest.expect(Fixed::Mark(Mark::Semicolon))?;
-    let form = Form::Perform(call);
+    let form = Form::Plain(PlainStmt::Perform(call));
     Ok((Stmt { line, form }, rest))
 }
 
@@ -86,7 +86,7 @@ fn set_to<'t>(
     let rest = lexemes.expect(Fixed::Mark(Mark::Assign))?;
     let (value, _, rest) = expression(stack, room, 0, rest)?;
     let rest = rest.expect(Fixed::Mark(Mark::Semicolon))?;
-    let form = Form::AssignElement(name, index, value);
+    let form = Form::Plain(PlainStmt::AssignElement(name, index, value));
     Ok((Stmt { line, form }, rest))
 }
 
@@ -122,7 +122,7 @@ fn set<'t>(
         return set_element(stack, room, line, lexemes);
     }
     let (name, right, rest) = setting(stack, room, lexemes)?;
-    let form = Form::Assign(name, right);
+    let form = Form::Plain(PlainStmt::Assign(name, right));
     Ok((Stmt { line, form }, rest))
 }
 

@@ -14,7 +14,7 @@ use crate::plain::plain;
 use parse_expressions::{expression, test};
 use parse_lexemes::{Cursor, Fixed, ParseError, ParseRule};
 use scan::{Mark, Word};
-use syntax::{Block, Expr, ExprStack, Form, Stmt, Test};
+use syntax::{Block, Else, Expr, ExprStack, Form, Stmt, Test};
 
 /// A statement, how many more names may be declared after it, and what comes after it.
 type ReadStmt<'t> = (Stmt, usize, Cursor<'t>);
@@ -149,8 +149,8 @@ fn nested_form(head: Head, body: Block, other: Option<Block>) -> Form
     match head {
         Head::While(test) => Form::While(test, body),
         Head::If(test) => match other {
-            None => Form::If(test, body),
-            Some(other) => Form::IfElse(test, body, other),
+            None => Form::If(test, body, Else::Nothing),
+            Some(other) => Form::If(test, body, Else::Block(other)),
         },
     }
 }

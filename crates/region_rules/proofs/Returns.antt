@@ -1,7 +1,7 @@
 -- An accepted function ends by returns.
-use Rattle.std.proofs.Common.{◌≡◌, inl, inr, List, [], ◌∷◌, refl, subst}
+use Rattle.std.proofs.Common.{◌≡◌, inl, inr, List, [], ◌∷◌, refl, sym, subst, ◌∙◌}
 use Rattle.std.specs.List.{AllByRecursion}
-use Rattle.syntax.specs.Tree.{Stmt, Declare, DeclareBuffer, DeclareChars, DeclareArray, Assign, AssignElement, Perform, PutJint, If, IfElse, While, Return, ReturnValue, Block, End, Next, Function}
+use Rattle.syntax.specs.Tree.{Stmt, Plain, If, NoElse, ElseBlock, While, Return, Block, End, Next, Function}
 use Rattle.region_rules.specs.Endings.{EndsByReturn}
 use Rattle.region_rules.specs.RegionStates.{RegionState, state_at_entry}
 use Rattle.region_rules.specs.Regions.{Path, On, Returned, Join, IsEnd, Keeps, KeepsBlock, AcceptedFunction, where_true, where_false}
@@ -21,18 +21,16 @@ both_return (On a) (On b) h = absurd (returns_not a h.1)
 
 -- a statement after which a path goes on
 later : (before middle : RegionState) (s : Stmt) (rest : Block) → Keeps before s (On middle) → EndsByReturn rest → EndsByReturn (Next s rest)
-later before middle (Return line) rest h e = absurd (goes_on middle h.1)
-later before middle (ReturnValue line x) rest h e = absurd (goes_on middle h.1)
-later before middle (IfElse line test then' else') rest h e = inr e
+later before middle (Return line x) rest h e = absurd (goes_on middle h.1)
+later before middle (If line test then' (ElseBlock else')) rest h e = inr e
 later before middle s rest h e = e
 
 mutual
   -- a statement after which no path goes on
   last : (before : RegionState) (s : Stmt) (rest : Block) → Keeps before s Returned → IsEnd rest → EndsByReturn (Next s rest)
-  last before (Return line) rest h end = end
-  last before (ReturnValue line x) rest h end = end
-  last before (If line test then') rest h end = absurd (goes_on (where_false before test) (both_return h.1 (On (where_false before test)) h.3).1)
-  last before (IfElse line test then' else') rest h end =
+  last before (Return line x) rest h end = end
+  last before (If line test then' NoElse) rest h end = absurd (goes_on (where_false before test) (sym h.4 ∙ (both_return h.1 h.2 h.5).1))
+  last before (If line test then' (ElseBlock else')) rest h end =
       let both = both_return h.1 h.2 h.5 in
       inl (
         ends_block before (where_true before test) then' (subst (λ w. KeepsBlock before (where_true before test) then' w) both.0 h.3),
@@ -40,14 +38,7 @@ mutual
         end,
       )
   last before (While line test body) rest h end = absurd (returns_not before h.4)
-  last before (Declare line t x r) rest h end = absurd (returns_not _ h.1)
-  last before (DeclareBuffer line t x r) rest h end = absurd (returns_not _ h.1)
-  last before (DeclareChars line x r) rest h end = absurd (returns_not _ h.1)
-  last before (DeclareArray line t x size) rest h end = absurd (returns_not _ h.1)
-  last before (Assign line x r) rest h end = absurd (returns_not _ h.1)
-  last before (AssignElement line x i e) rest h end = absurd (returns_not _ h.1)
-  last before (Perform line c) rest h end = absurd (returns_not _ h.1)
-  last before (PutJint line e) rest h end = absurd (returns_not _ h.1)
+  last before (Plain line p) rest h end = absurd (returns_not _ h.1)
 
   pub ends_block : (outer before : RegionState) (b : Block) → KeepsBlock outer before b Returned → EndsByReturn b
   ends_block outer before (End line) h = absurd (returns_not _ h.1)

@@ -1,12 +1,12 @@
 -- Which fault of a unit is answered: the first in text order, and at one place the least number.
 use Rattle.std.specs.Prelude.{◌≡◌, ℕ, ◌⊎◌, List, [], ◌∷◌, Option, Some, find, IsTrue}
 use Rattle.syntax.specs.Parts.{line_of, functions_of}
-use Rattle.syntax.specs.Tree.{Stmt, If, IfElse, While, Block, End, Next, Function, SourceUnit}
+use Rattle.syntax.specs.Tree.{Stmt, If, While, Else, NoElse, ElseBlock, Block, End, Next, Function, SourceUnit}
 use Rattle.region_rules.specs.declared.rule.RegionRule.{RegionRule}
 use Rattle.region_rules.specs.declared.rule.RegionRule.TheVariants.{HeldBuffer, PathsDiffer, NoReturn}
 use Rattle.region_rules.specs.RegionRules.{breaks_region_rule, own_rules, Obeys}
 use Rattle.region_rules.specs.RegionStates.{RegionState, state_at_entry}
-use Rattle.region_rules.specs.Regions.{Path, On, Returned, Keeps, KeepsBlock, AcceptedFunction, where_true, where_false, holds_own, Differ, EndLine, BreaksAfter, BreaksFunction, BreaksRegionRule, HasRegions}
+use Rattle.region_rules.specs.Regions.{Path, On, Returned, Keeps, KeepsElse, KeepsBlock, AcceptedFunction, where_true, where_false, holds_own, Differ, EndLine, BreaksAfter, BreaksFunction, BreaksRegionRule, HasRegions}
 
 -- the rule of least number that a statement breaks by itself
 abbrev pub first_broken : RegionState → Stmt → Option RegionRule
@@ -19,24 +19,24 @@ FirstHere rule l before s = (first_broken before s ≡ Some rule) × (l ≡ line
 -- a join's fault is first only where both paths keep the rules; a second path's only where the first one does
 abbrev mutual
   pub FirstIn : RegionRule → ℕ → RegionState → Stmt → Type 0
-  FirstIn rule l before (If line test then') =
-      FirstHere rule l before (If line test then')
-      ⊎ Obeys before (If line test then') × FirstBlock rule l before (where_true before test) then'
-      ⊎ Obeys before (If line test then') × (rule ≡ PathsDiffer) × (l ≡ line)
-      × ((yes : Path) × KeepsBlock before (where_true before test) then' yes × Differ yes (On (where_false before test)))
-  FirstIn rule l before (IfElse line test then' else') =
-      FirstHere rule l before (IfElse line test then' else')
-      ⊎ Obeys before (IfElse line test then' else')
+  FirstIn rule l before (If line test then' else') =
+      FirstHere rule l before (If line test then' else')
+      ⊎ Obeys before (If line test then' else')
       × (FirstBlock rule l before (where_true before test) then'
       ⊎ ((yes : Path) × KeepsBlock before (where_true before test) then' yes
-      × FirstBlock rule l before (where_false before test) else'))
-      ⊎ Obeys before (IfElse line test then' else') × (rule ≡ PathsDiffer) × (l ≡ line)
-      × ((yes no : Path) × KeepsBlock before (where_true before test) then' yes × KeepsBlock before (where_false before test) else' no × Differ yes no)
+      × FirstElse rule l before (where_false before test) else'))
+      ⊎ Obeys before (If line test then' else') × (rule ≡ PathsDiffer) × (l ≡ line)
+      × ((yes no : Path) × KeepsBlock before (where_true before test) then' yes × KeepsElse before (where_false before test) else' no × Differ yes no)
   FirstIn rule l before (While line test body) =
       FirstHere rule l before (While line test body)
       ⊎ Obeys before (While line test body) × FirstBlock rule l before before body
       ⊎ Obeys before (While line test body) × (rule ≡ PathsDiffer) × (l ≡ line) × ((turn : Path) × KeepsBlock before before body turn × Differ turn (On before))
   FirstIn rule l before s = FirstHere rule l before s
+
+  -- the same of the second block of an `if`, where it has one
+  pub FirstElse : RegionRule → ℕ → RegionState → RegionState → Else → Type 0
+  FirstElse rule l outer before NoElse = ⊥
+  FirstElse rule l outer before (ElseBlock b) = FirstBlock rule l outer before b
 
   -- the same of the rest of a block
   pub FirstBlock : RegionRule → ℕ → RegionState → RegionState → Block → Type 0

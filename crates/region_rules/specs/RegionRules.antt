@@ -5,7 +5,7 @@ use Rattle.std.specs.Option.{option_to_list, is_some}
 use Rattle.base.specs.Bytes.{Identifier}
 use Rattle.base.specs.Options.{some_passes}
 use Rattle.syntax.specs.Parts.{own_expressions, used_names, written_name, assigned_name, elements_in}
-use Rattle.syntax.specs.Tree.{Stmt, PutJint, Return, ReturnValue}
+use Rattle.syntax.specs.Tree.{Stmt, Plain, PutJint, Return}
 use Rattle.jni.specs.Access.{is_critical, same_access}
 use Rattle.jni.specs.declared.function.JniFunction.{JniFunction}
 use Rattle.jni.specs.declared.function.JniFunction.TheVariants.{GetBuffer, ReleaseBuffer}
@@ -17,13 +17,12 @@ use Rattle.region_rules.specs.RegionStates.{VariableState, RegionState, state_of
 
 -- whether a statement returns
 abbrev pub is_return : Stmt → Bool
-is_return (Return line) = true
-is_return (ReturnValue line e) = true
+is_return (Return line e) = true
 is_return s = false
 
 -- whether a statement prints
 abbrev pub is_put_jint : Stmt → Bool
-is_put_jint (PutJint line e) = true
+is_put_jint (Plain line (PutJint e)) = true
 is_put_jint s = false
 
 -- whether a call may be made while a buffer is critical

@@ -6,7 +6,8 @@ use Rattle.syntax.specs.declared.declared_type.ParameterType.TheVariants.{Jint a
 use Rattle.syntax.specs.declared.declared_type.VariableType.TheVariants.{Reference as ReferenceVariable}
 use Rattle.syntax.specs.declared.expr.Constant.TheVariants.{Commit}
 use Rattle.syntax.specs.Parts.{own_call, call_of_right_side}
-use Rattle.syntax.specs.Tree.{Named, Variable, Argument, Value, Call, RightSide, Stmt, Declare, DeclareBuffer, DeclareChars, Assign, Parameter, Function}
+use Rattle.syntax.specs.declared.declared_type.DeclaredType.TheVariants.{Simple, Pointer, ConstChars}
+use Rattle.syntax.specs.Tree.{Named, Variable, Argument, Value, Call, RightSide, Stmt, Plain, Declare, Assign, Parameter, Function}
 use Rattle.jni.specs.declared.access.Access.{Access}
 use Rattle.jni.specs.declared.function.JniFunction.{JniFunction}
 use Rattle.jni.specs.declared.function.JniFunction.TheVariants.{GetBuffer, ReleaseBuffer, DeleteLocalRef, PopLocalFrame}
@@ -175,10 +176,10 @@ set_to r (BufferIn b) = BufferIn (buffer_set_to r)
 
 -- after a variable is set or declared; a reference's level is the number of frames at its declaration
 abbrev pub with_set : RegionState → Stmt → RegionState
-with_set state (Declare line (ReferenceVariable t) x r) = with_new state x (ReferenceAt state.frames true)
-with_set state (DeclareBuffer line t x r) = with_new state x (BufferIn (buffer_set_to r))
-with_set state (DeclareChars line x r) = with_new state x (BufferIn (buffer_set_to r))
-with_set state (Assign line x r) = with_changed state x (set_to r)
+with_set state (Plain line (Declare (Simple (ReferenceVariable t)) x r)) = with_new state x (ReferenceAt state.frames true)
+with_set state (Plain line (Declare (Pointer t) x r)) = with_new state x (BufferIn (buffer_set_to r))
+with_set state (Plain line (Declare ConstChars x r)) = with_new state x (BufferIn (buffer_set_to r))
+with_set state (Plain line (Assign x r)) = with_changed state x (set_to r)
 with_set state s = state
 
 -- the state after a statement without blocks

@@ -5,7 +5,7 @@ use Rattle.base.specs.Bytes.{Identifier}
 use Rattle.syntax.specs.declared.expr.BinaryOp.TheVariants.{Equal, NotEqual}
 use Rattle.syntax.specs.declared.expr.Constant.TheVariants.{Null}
 use Rattle.syntax.specs.Parts.{line_of, functions_of}
-use Rattle.syntax.specs.Tree.{Named, Variable, Binary, Test, TestExpr, TestCall, Stmt, If, IfElse, While, Return, ReturnValue, Block, End, Next, Function, SourceUnit}
+use Rattle.syntax.specs.Tree.{Named, Variable, Binary, Test, TestExpr, TestCall, Stmt, Plain, If, While, Return, Else, NoElse, ElseBlock, Block, End, Next, Function, SourceUnit}
 use Rattle.region_rules.specs.declared.rule.RegionRule.{RegionRule}
 use Rattle.region_rules.specs.declared.rule.RegionRule.TheVariants.{HeldBuffer, PathsDiffer, NoReturn}
 use Rattle.region_rules.specs.RegionRules.{holds_buffer, breaks_region_rule, Obeys}
@@ -69,17 +69,18 @@ IsEnd (Next s rest) = ⊥
 abbrev mutual
   -- with this state before it, the statement keeps the rules, and this is its path after it
   pub Keeps : RegionState → Stmt → Path → Type 0
-  Keeps before (If line test then') path =
-      Obeys before (If line test then')
-      × (yes : Path) × KeepsBlock before (where_true before test) then' yes × Join yes (On (where_false before test)) path
-  Keeps before (IfElse line test then' else') path =
-      Obeys before (IfElse line test then' else')
-      × (yes no : Path) × KeepsBlock before (where_true before test) then' yes × KeepsBlock before (where_false before test) else' no × Join yes no path
+  Keeps before (If line test then' else') path =
+      Obeys before (If line test then' else')
+      × (yes no : Path) × KeepsBlock before (where_true before test) then' yes × KeepsElse before (where_false before test) else' no × Join yes no path
   Keeps before (While line test body) path =
       Obeys before (While line test body) × (turn : Path) × KeepsBlock before before body turn × ComesBack before turn × (path ≡ On before)
-  Keeps before (Return line) path = Obeys before (Return line) × (path ≡ Returned)
-  Keeps before (ReturnValue line e) path = Obeys before (ReturnValue line e) × (path ≡ Returned)
-  Keeps before s path = Obeys before s × (path ≡ On (state_after before s))
+  Keeps before (Return line e) path = Obeys before (Return line e) × (path ≡ Returned)
+  Keeps before (Plain line p) path = Obeys before (Plain line p) × (path ≡ On (state_after before (Plain line p)))
+
+  -- the same of the second block of an `if`; without one the path goes on as it is
+  pub KeepsElse : RegionState → RegionState → Else → Path → Type 0
+  KeepsElse outer before NoElse path = path ≡ On before
+  KeepsElse outer before (ElseBlock b) path = KeepsBlock outer before b path
 
   -- the same of the rest of a block; the variables of the outer state are not the block's own
   pub KeepsBlock : RegionState → RegionState → Block → Path → Type 0
@@ -120,23 +121,23 @@ BreaksHere rule l before s = IsTrue (breaks_region_rule rule before s) × (l ≡
 abbrev mutual
   -- the rule is broken at this line, by the statement or inside it
   pub BreaksIn : RegionRule → ℕ → RegionState → Stmt → Type 0
-  BreaksIn rule l before (If line test then') =
-      BreaksHere rule l before (If line test then')
-      ⊎ Obeys before (If line test then') × BreaksBlock rule l before (where_true before test) then'
-      ⊎ Obeys before (If line test then') × (rule ≡ PathsDiffer) × (l ≡ line)
-      × ((yes : Path) × KeepsBlock before (where_true before test) then' yes × Differ yes (On (where_false before test)))
-  BreaksIn rule l before (IfElse line test then' else') =
-      BreaksHere rule l before (IfElse line test then' else')
-      ⊎ Obeys before (IfElse line test then' else')
+  BreaksIn rule l before (If line test then' else') =
+      BreaksHere rule l before (If line test then' else')
+      ⊎ Obeys before (If line test then' else')
       × (BreaksBlock rule l before (where_true before test) then'
-      ⊎ BreaksBlock rule l before (where_false before test) else')
-      ⊎ Obeys before (IfElse line test then' else') × (rule ≡ PathsDiffer) × (l ≡ line)
-      × ((yes no : Path) × KeepsBlock before (where_true before test) then' yes × KeepsBlock before (where_false before test) else' no × Differ yes no)
+      ⊎ BreaksElse rule l before (where_false before test) else')
+      ⊎ Obeys before (If line test then' else') × (rule ≡ PathsDiffer) × (l ≡ line)
+      × ((yes no : Path) × KeepsBlock before (where_true before test) then' yes × KeepsElse before (where_false before test) else' no × Differ yes no)
   BreaksIn rule l before (While line test body) =
       BreaksHere rule l before (While line test body)
       ⊎ Obeys before (While line test body) × BreaksBlock rule l before before body
       ⊎ Obeys before (While line test body) × (rule ≡ PathsDiffer) × (l ≡ line) × ((turn : Path) × KeepsBlock before before body turn × Differ turn (On before))
   BreaksIn rule l before s = BreaksHere rule l before s
+
+  -- the same of the second block of an `if`, where it has one
+  pub BreaksElse : RegionRule → ℕ → RegionState → RegionState → Else → Type 0
+  BreaksElse rule l outer before NoElse = ⊥
+  BreaksElse rule l outer before (ElseBlock b) = BreaksBlock rule l outer before b
 
   -- the same of the rest of a block
   pub BreaksBlock : RegionRule → ℕ → RegionState → RegionState → Block → Type 0

@@ -6,7 +6,8 @@ use Rattle.jni.specs.Access.{is_critical}
 use Rattle.base.specs.Options.{some_passes}
 use Rattle.syntax.specs.Parts.{assigned_name, call_of_right_side}
 use Rattle.syntax.specs.declared.declared_type.VariableType.TheVariants.{Reference as ReferenceVariable}
-use Rattle.syntax.specs.Tree.{RightSide, Declare, DeclareBuffer, DeclareChars, Assign, Stmt}
+use Rattle.syntax.specs.declared.declared_type.DeclaredType.TheVariants.{Simple, Pointer, ConstChars}
+use Rattle.syntax.specs.Tree.{RightSide, Stmt, Plain, Declare, Assign}
 use Rattle.region_states.specs.declared.states.Condition.TheVariants as condition
 use Rattle.region_states.specs.StateEffects.{EffectCall, call_state_effect, got, released, popped}
 use Rattle.region_rules.specs.FirstFaults.{first_broken}
@@ -71,10 +72,10 @@ set_is r (ReferenceAt level live) = refl
 set_is r (BufferIn b) = ap (λ g. BufferIn (buffer_from g)) (get_is (call_of (call_of_right_side (Some r))))
 
 settled_is : (state : RegionState) (s : Stmt) → with_set state s ≡ settled state s (option_map call_state_effect (function_called s))
-settled_is state (Declare line (ReferenceVariable t) x r) = refl
-settled_is state (DeclareBuffer line t x r) = ap (λ g. with_new state x (BufferIn (buffer_from g))) (get_is (call_of (call_of_right_side (Some r))))
-settled_is state (DeclareChars line x r) = ap (λ g. with_new state x (BufferIn (buffer_from g))) (get_is (call_of (call_of_right_side (Some r))))
-settled_is state (Assign line x r) = λ i. with_changed state x (λ v. set_is r v i)
+settled_is state (Plain line (Declare (Simple (ReferenceVariable t)) x r)) = refl
+settled_is state (Plain line (Declare (Pointer t) x r)) = ap (λ g. with_new state x (BufferIn (buffer_from g))) (get_is (call_of (call_of_right_side (Some r))))
+settled_is state (Plain line (Declare ConstChars x r)) = ap (λ g. with_new state x (BufferIn (buffer_from g))) (get_is (call_of (call_of_right_side (Some r))))
+settled_is state (Plain line (Assign x r)) = λ i. with_changed state x (λ v. set_is r v i)
 settled_is state s = refl
 
 pub behind_is : (state : RegionState) (s : Stmt) → state_after state s ≡ after_judged state s (option_map call_state_effect (function_called s))

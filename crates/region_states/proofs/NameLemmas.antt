@@ -4,7 +4,8 @@ use Rattle.std.specs.Prelude.{reverse}
 use Rattle.std.proofs.lemmas.List.{reverse-append}
 use Rattle.base.specs.Bytes.{Identifier}
 use Rattle.syntax.specs.declared.declared_type.VariableType.TheVariants.{Reference as ReferenceVariable}
-use Rattle.syntax.specs.Tree.{Test, TestExpr, TestCall, Stmt, Declare, DeclareBuffer, DeclareChars, Assign}
+use Rattle.syntax.specs.declared.declared_type.DeclaredType.TheVariants.{Simple, Pointer, ConstChars}
+use Rattle.syntax.specs.Tree.{Test, TestExpr, TestCall, Stmt, Plain, Declare, Assign}
 use Rattle.syntax.specs.NullTests.{NullTest, null_test_of}
 use Rattle.region_states.specs.Changes.{taught_true, taught_false}
 use Rattle.region_rules.specs.RegionStates.{RegionState, VariableState, ReferenceAt, BufferIn, buffer_set_to, FunctionCall, Release, with_each, with_changed, with_some_changed, with_new, with_set, after_pop, after_release, after_call, release_of, deleted_name, pops, killed, killed_from, made_free, function_called, state_after}
@@ -71,10 +72,10 @@ new_names : (state : RegionState) (x : Identifier) (v : VariableState) → names
 new_names state x v = reverse-append (x ∷ []) (map (λ (w : NamedState). w.0) state.variables)
 
 set_names : (state : RegionState) (s : Stmt) → names_of (with_set state s) ≡ names_of state ++ own_names s
-set_names state (Declare line (ReferenceVariable t) x r) = new_names state x (ReferenceAt state.frames true)
-set_names state (DeclareBuffer line t x r) = new_names state x (BufferIn (buffer_set_to r))
-set_names state (DeclareChars line x r) = new_names state x (BufferIn (buffer_set_to r))
-set_names state (Assign line x r) = changed_names state x _ ∙ sym (append-nil (names_of state))
+set_names state (Plain line (Declare (Simple (ReferenceVariable t)) x r)) = new_names state x (ReferenceAt state.frames true)
+set_names state (Plain line (Declare (Pointer t) x r)) = new_names state x (BufferIn (buffer_set_to r))
+set_names state (Plain line (Declare ConstChars x r)) = new_names state x (BufferIn (buffer_set_to r))
+set_names state (Plain line (Assign x r)) = changed_names state x _ ∙ sym (append-nil (names_of state))
 set_names state s = sym (append-nil (names_of state))
 
 -- a statement adds its own name

@@ -5,7 +5,7 @@ use Rattle.std.specs.Str.{bytes_eq}
 use Rattle.std.proofs.lemmas.Bool.{or_parts}
 use Rattle.base.specs.Bytes.{Identifier, lookup}
 use Rattle.syntax.specs.Parts.{names_in, elements_in}
-use Rattle.syntax.specs.Tree.{Expr, Argument, Value, Text, AddressOf, RightSide, FromExpr, FromCall, Test, TestExpr, TestCall, Stmt, Declare, DeclareBuffer, DeclareChars, DeclareArray, Assign, AssignElement, Perform, PutJint, If, IfElse, While, Return, ReturnValue}
+use Rattle.syntax.specs.Tree.{Expr, Argument, Value, Text, AddressOf, RightSide, FromExpr, FromCall, Test, TestExpr, TestCall, Stmt, Plain, Declare, DeclareArray, Assign, AssignElement, Perform, PutJint, If, While, Return}
 use Rattle.type_rules.specs.Uses.{expr_uses, argument_uses, right_uses, test_uses, uses}
 use Rattle.region_states.specs.Reads.{expr_reads, argument_reads, right_reads, test_reads, reads}
 use Rattle.region_rules.specs.RegionStates.{RegionState, VariableState}
@@ -65,19 +65,16 @@ module _ (q : Condition) (state : RegionState) (none : any_asked q state ≡ fal
   test_uses_no (TestCall c) = call_uses_no c.arguments
 
   pub none_uses : (s : Stmt) → uses (asks q state) s ≡ false
-  none_uses (Declare line t x r) = right_uses_no r
-  none_uses (DeclareBuffer line t x r) = right_uses_no r
-  none_uses (DeclareChars line x r) = right_uses_no r
-  none_uses (DeclareArray line t x size) = refl
-  none_uses (Assign line x r) = right_uses_no r
-  none_uses (AssignElement line x i e) = (λ j. (no x j || expr_uses_no i j) || expr_uses_no e j)
-  none_uses (Perform line c) = call_uses_no c.arguments
-  none_uses (PutJint line e) = expr_uses_no e
-  none_uses (If line test then') = test_uses_no test
-  none_uses (IfElse line test then' else') = test_uses_no test
+  none_uses (Plain line (Declare t x r)) = right_uses_no r
+  none_uses (Plain line (DeclareArray t x size)) = refl
+  none_uses (Plain line (Assign x r)) = right_uses_no r
+  none_uses (Plain line (AssignElement x i e)) = (λ j. (no x j || expr_uses_no i j) || expr_uses_no e j)
+  none_uses (Plain line (Perform c)) = call_uses_no c.arguments
+  none_uses (Plain line (PutJint e)) = expr_uses_no e
+  none_uses (If line test then' else') = test_uses_no test
   none_uses (While line test body) = expr_uses_no test
-  none_uses (Return line) = refl
-  none_uses (ReturnValue line e) = expr_uses_no e
+  none_uses (Return line None) = refl
+  none_uses (Return line (Some e)) = expr_uses_no e
 
   -- ---- what is read
 
@@ -102,16 +99,13 @@ module _ (q : Condition) (state : RegionState) (none : any_asked q state ≡ fal
   test_reads_no (TestCall c) = call_reads_no c.arguments
 
   pub none_reads : (s : Stmt) → reads (asks q state) s ≡ false
-  none_reads (Declare line t x r) = right_reads_no r
-  none_reads (DeclareBuffer line t x r) = right_reads_no r
-  none_reads (DeclareChars line x r) = right_reads_no r
-  none_reads (DeclareArray line t x size) = refl
-  none_reads (Assign line x r) = right_reads_no r
-  none_reads (AssignElement line x i e) = (λ j. (expr_reads_no i j || expr_reads_no e j) || no x j)
-  none_reads (Perform line c) = call_reads_no c.arguments
-  none_reads (PutJint line e) = expr_reads_no e
-  none_reads (If line test then') = test_reads_no test
-  none_reads (IfElse line test then' else') = test_reads_no test
+  none_reads (Plain line (Declare t x r)) = right_reads_no r
+  none_reads (Plain line (DeclareArray t x size)) = refl
+  none_reads (Plain line (Assign x r)) = right_reads_no r
+  none_reads (Plain line (AssignElement x i e)) = (λ j. (expr_reads_no i j || expr_reads_no e j) || no x j)
+  none_reads (Plain line (Perform c)) = call_reads_no c.arguments
+  none_reads (Plain line (PutJint e)) = expr_reads_no e
+  none_reads (If line test then' else') = test_reads_no test
   none_reads (While line test body) = expr_reads_no test
-  none_reads (Return line) = refl
-  none_reads (ReturnValue line e) = expr_reads_no e
+  none_reads (Return line None) = refl
+  none_reads (Return line (Some e)) = expr_reads_no e

@@ -1,11 +1,11 @@
 -- What is asked of the elements of a statement part by part is asked of all of them.
-use Rattle.std.proofs.Common.{◌≡◌, Bool, true, false, ◌||◌, List, [], ◌∷◌, ◌++◌, refl, ap, ap₂, ◌∙◌, flat_map}
+use Rattle.std.proofs.Common.{◌≡◌, Bool, true, false, ◌||◌, List, [], ◌∷◌, ◌++◌, refl, ap, ap₂, ◌∙◌, flat_map, Some, None}
 use Rattle.std.specs.List.{list_any}
 use Rattle.std.specs.Option.{option_to_list}
 use Rattle.std.proofs.lemmas.List.Folds.{list_any-append}
 use Rattle.base.specs.Bytes.{Identifier}
 use Rattle.syntax.specs.Parts.{argument_expressions, call_expressions, own_expressions, elements_in, written_name}
-use Rattle.syntax.specs.Tree.{Expr, Argument, Value, Text, AddressOf, Call, FromExpr, FromCall, TestExpr, TestCall, Stmt, Declare, DeclareBuffer, DeclareChars, DeclareArray, Assign, AssignElement, Perform, PutJint, If, IfElse, While, Return, ReturnValue}
+use Rattle.syntax.specs.Tree.{Expr, Argument, Value, Text, AddressOf, Call, FromExpr, FromCall, TestExpr, TestCall, Stmt, Plain, Declare, DeclareArray, Assign, AssignElement, Perform, PutJint, If, While, Return}
 use Rattle.region_states.specs.Reads.{expr_reads, argument_reads, call_reads, reads}
 
 or_false : (a : Bool) → (a || false) ≡ a
@@ -35,22 +35,16 @@ element_read p x i e =
     ∙ ap₂ (λ a b. a || b) (list_any-append p (elements_in i) (elements_in e ++ []) ∙ ap (λ b. expr_reads p i || b) (any_end p (elements_in e))) (or_false (p x))
 
 pub reads_is : (p : Identifier → Bool) (s : Stmt) → list_any p (flat_map elements_in (own_expressions s) ++ option_to_list (written_name s)) ≡ reads p s
-reads_is p (Declare line t x (FromExpr e)) = one_reads p e
-reads_is p (Declare line t x (FromCall c)) = call_read p c
-reads_is p (DeclareBuffer line t x (FromExpr e)) = one_reads p e
-reads_is p (DeclareBuffer line t x (FromCall c)) = call_read p c
-reads_is p (DeclareChars line x (FromExpr e)) = one_reads p e
-reads_is p (DeclareChars line x (FromCall c)) = call_read p c
-reads_is p (DeclareArray line t x size) = refl
-reads_is p (Assign line x (FromExpr e)) = one_reads p e
-reads_is p (Assign line x (FromCall c)) = call_read p c
-reads_is p (AssignElement line x i e) = element_read p x i e
-reads_is p (Perform line c) = call_read p c
-reads_is p (PutJint line e) = one_reads p e
-reads_is p (If line (TestExpr e) then') = one_reads p e
-reads_is p (If line (TestCall c) then') = call_read p c
-reads_is p (IfElse line (TestExpr e) then' else') = one_reads p e
-reads_is p (IfElse line (TestCall c) then' else') = call_read p c
+reads_is p (Plain line (Declare t x (FromExpr e))) = one_reads p e
+reads_is p (Plain line (Declare t x (FromCall c))) = call_read p c
+reads_is p (Plain line (DeclareArray t x size)) = refl
+reads_is p (Plain line (Assign x (FromExpr e))) = one_reads p e
+reads_is p (Plain line (Assign x (FromCall c))) = call_read p c
+reads_is p (Plain line (AssignElement x i e)) = element_read p x i e
+reads_is p (Plain line (Perform c)) = call_read p c
+reads_is p (Plain line (PutJint e)) = one_reads p e
+reads_is p (If line (TestExpr e) then' else') = one_reads p e
+reads_is p (If line (TestCall c) then' else') = call_read p c
 reads_is p (While line e body) = one_reads p e
-reads_is p (Return line) = refl
-reads_is p (ReturnValue line e) = one_reads p e
+reads_is p (Return line None) = refl
+reads_is p (Return line (Some e)) = one_reads p e

@@ -1,10 +1,13 @@
 -- The rules on one statement and the state after it, by what the statement's call does.
 use Rattle.std.specs.Prelude.{ℕ, ◌-◌, Bool, true, false, not, ◌&&◌, ◌||◌, Option, nat_lt, nat_le, if◌then◌else◌, find}
 use Rattle.std.specs.Option.{is_some}
+use Rattle.base.specs.Bytes.{Identifier}
 use Rattle.base.specs.Options.{some_passes}
 use Rattle.syntax.specs.Parts.{assigned_name}
 use Rattle.syntax.specs.declared.declared_type.VariableType.TheVariants.{Reference as ReferenceVariable}
-use Rattle.syntax.specs.Tree.{Declare, DeclareBuffer, DeclareChars, Assign, Stmt}
+use Rattle.syntax.specs.declared.declared_type.DeclaredType.{DeclaredType}
+use Rattle.syntax.specs.declared.declared_type.DeclaredType.TheVariants.{Simple}
+use Rattle.syntax.specs.Tree.{Stmt, Plain, Declare, Assign}
 use Rattle.jni.specs.Access.{is_critical}
 use Rattle.region_states.specs.declared.states.Condition.TheVariants as condition
 use Rattle.region_states.specs.StateEffects.{EffectCall, got, released, deleted, popped, is_forbidden}
@@ -64,10 +67,14 @@ first_judged state s call = find (λ rule. judged rule state s call) own_rules
 abbrev pub effected : RegionState → Option EffectCall → RegionState
 effected state call = if popped call then after_pop state else with_some_changed (after_release state (released call)) (deleted call) killed
 
+-- after a variable of this type is declared
+abbrev pub declared : RegionState → DeclaredType → Identifier → Option EffectCall → RegionState
+declared state (Simple (ReferenceVariable t)) x call = with_new state x (ReferenceAt state.frames true)
+declared state (Simple t) x call = state
+declared state t x call = with_new state x (BufferIn (buffer_from (got call)))
+
 -- after a variable is set or declared
 abbrev pub settled : RegionState → Stmt → Option EffectCall → RegionState
-settled state (Declare line (ReferenceVariable t) x r) call = with_new state x (ReferenceAt state.frames true)
-settled state (DeclareBuffer line t x r) call = with_new state x (BufferIn (buffer_from (got call)))
-settled state (DeclareChars line x r) call = with_new state x (BufferIn (buffer_from (got call)))
-settled state (Assign line x r) call = with_changed state x (set_from (got call))
+settled state (Plain line (Declare t x r)) call = declared state t x call
+settled state (Plain line (Assign x r)) call = with_changed state x (set_from (got call))
 settled state s call = state

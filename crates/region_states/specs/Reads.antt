@@ -2,8 +2,9 @@
 use Rattle.std.specs.Prelude.{Bool, false, ◌||◌}
 use Rattle.std.specs.List.{list_any}
 use Rattle.base.specs.Bytes.{Identifier}
+use Rattle.base.specs.Options.{some_passes}
 use Rattle.syntax.specs.Parts.{elements_in}
-use Rattle.syntax.specs.Tree.{Expr, Argument, Value, Text, AddressOf, Call, RightSide, FromExpr, FromCall, Test, TestExpr, TestCall, Stmt, Declare, DeclareBuffer, DeclareChars, DeclareArray, Assign, AssignElement, Perform, PutJint, If, IfElse, While, Return, ReturnValue}
+use Rattle.syntax.specs.Tree.{Expr, Argument, Value, Text, AddressOf, Call, RightSide, FromExpr, FromCall, Test, TestExpr, TestCall, PlainStmt, Declare, DeclareArray, Assign, AssignElement, Perform, PutJint, Stmt, Plain, If, While, Return}
 
 -- of the names whose elements an expression reads
 abbrev pub expr_reads : (Identifier → Bool) → Expr → Bool
@@ -29,18 +30,18 @@ abbrev pub test_reads : (Identifier → Bool) → Test → Bool
 test_reads asked (TestExpr e) = expr_reads asked e
 test_reads asked (TestCall c) = call_reads asked c
 
--- of a statement, also of the name whose element it sets
+-- of a plain statement, also of the name whose element it sets
+abbrev pub plain_reads : (Identifier → Bool) → PlainStmt → Bool
+plain_reads asked (Declare t x r) = right_reads asked r
+plain_reads asked (DeclareArray t x size) = false
+plain_reads asked (Assign x r) = right_reads asked r
+plain_reads asked (AssignElement x i e) = expr_reads asked i || expr_reads asked e || asked x
+plain_reads asked (Perform c) = call_reads asked c
+plain_reads asked (PutJint e) = expr_reads asked e
+
+-- of a statement
 abbrev pub reads : (Identifier → Bool) → Stmt → Bool
-reads asked (Declare line t x r) = right_reads asked r
-reads asked (DeclareBuffer line t x r) = right_reads asked r
-reads asked (DeclareChars line x r) = right_reads asked r
-reads asked (DeclareArray line t x size) = false
-reads asked (Assign line x r) = right_reads asked r
-reads asked (AssignElement line x i e) = expr_reads asked i || expr_reads asked e || asked x
-reads asked (Perform line c) = call_reads asked c
-reads asked (PutJint line e) = expr_reads asked e
-reads asked (If line test then') = test_reads asked test
-reads asked (IfElse line test then' else') = test_reads asked test
+reads asked (Plain line p) = plain_reads asked p
+reads asked (If line test then' else') = test_reads asked test
 reads asked (While line test body) = expr_reads asked test
-reads asked (Return line) = false
-reads asked (ReturnValue line e) = expr_reads asked e
+reads asked (Return line e) = some_passes (expr_reads asked) e

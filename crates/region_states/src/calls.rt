@@ -2,14 +2,15 @@
 
 ghost use Rattle.std.specs.Prelude.{◌≡◌, ℕ, [], ◌∷◌, map, Some};
 ghost use Rattle.std.specs.Option.{option_map};
-ghost use Rattle.syntax.specs.Views.{argument_tree, form_tree};
-ghost use Rattle.region_rules.specs.RegionStates.{argument_name, first_name, has_commit, function_called};
+ghost use Rattle.syntax.specs.Tree.{Plain};
+ghost use Rattle.syntax.specs.Views.{argument_tree, call_tree, plain_tree, form_tree};
+ghost use Rattle.region_rules.specs.RegionStates.{argument_name, first_name, has_commit, call_of, function_called};
 ghost use Rattle.jni.specs.declared.kinds.StateEffect.TheVariants.{Releases};
 ghost use Rattle.region_states.specs.StateEffects.{call_state_effect, made_value, release_value, got, released, deleted, popped, is_forbidden};
 
 use jni::{Access, JniFunction, StateEffect, function_named};
-use syntax::{Argument, Constant, Form, Shape};
-use type_rules::own_call;
+use syntax::{Argument, Call, Constant, Form, PlainStmt, Shape};
+use type_rules::{own_call, plain_call};
 
 /// A call: what it does, and its arguments.
 #[derive(Clone, Copy)]
@@ -41,15 +42,31 @@ fn made(function: Option<JniFunction>, arguments: &[Argument]) -> Option<MadeCal
     }
 }
 
+/// What is called by a call, where there is one.
+fn called_by(call: Option<&Call>) -> Option<MadeCall<'_>>
+    ensures { option_map made_value result
+        ≡ option_map call_state_effect (call_of (option_map (λ c. call_tree c.now) call.entry)) }
+{
+    match call {
+        Some(call) => made(function_named(call.function.as_bytes()), &call.arguments),
+        None => None,
+    }
+}
+
 /// What a statement calls.
 pub fn called(form: &Form) -> Option<MadeCall<'_>>
     ensures { (line : ℕ) → option_map made_value result
         ≡ option_map call_state_effect (function_called (form_tree line form.now)) }
 {
-    match own_call(form) {
-        Some(call) => made(function_named(call.function.as_bytes()), &call.arguments),
-        None => None,
-    }
+    called_by(own_call(form))
+}
+
+/// What a plain statement calls.
+pub(crate) fn plain_called(plain: &PlainStmt) -> Option<MadeCall<'_>>
+    ensures { (line : ℕ) → option_map made_value result
+        ≡ option_map call_state_effect (function_called (Plain line (plain_tree plain.now))) }
+{
+    called_by(plain_call(plain))
 }
 
 /// The bare name that an argument is.

@@ -4,21 +4,22 @@ ghost use Rattle.std.specs.Prelude.{◌≡◌, ℕ, true, false, bytes_eq, OnOk}
 ghost use Rattle.std.specs.List.{list_any};
 ghost use Rattle.std.specs.Option.{option_map};
 ghost use Rattle.syntax.specs.NullTests.{null_test_value};
-ghost use Rattle.syntax.specs.Views.{test_tree, form_tree};
+ghost use Rattle.syntax.specs.Tree.{Plain};
+ghost use Rattle.syntax.specs.Views.{test_tree, plain_tree};
 ghost use Rattle.region_rules.specs.Regions.{where_true, where_false};
 ghost use Rattle.region_rules.specs.RegionStates.{ReferenceAt, BufferIn, buffer_from, with_new, with_changed, with_some_changed, after_release, killed, state_after};
 ghost use Rattle.region_states.specs.StatesInMemory.{names_of};
 ghost use Rattle.region_states.specs.VariableChanges.{set_from};
-ghost use Rattle.region_states.specs.NewNames.{own_names, AreNew};
+ghost use Rattle.region_states.specs.NewNames.{tracked_name, plain_names, AreNew};
 ghost use Rattle.region_states.specs.StateEffects.{got, made_value, release_value};
-ghost use Rattle.region_states.specs.Judgements.{effected, settled};
+ghost use Rattle.region_states.specs.Judgements.{effected, declared, settled};
 ghost use Rattle.region_states.specs.Changes.{made, taught_true, taught_false};
 
-use crate::calls::{MadeCall, Release, called, deleted, got, popped, released};
+use crate::calls::{MadeCall, Release, deleted, got, plain_called, popped, released};
 use crate::states::{FlowState, VariableState};
 use crate::variables::Change;
 use std::alloc::AllocError;
-use syntax::{Form, Name, NullTest, Test, VariableType};
+use syntax::{DeclaredType, Form, Name, NullTest, PlainStmt, Test, VariableType};
 
 impl<'a> FlowState<'a> {
     /// A release frees its buffer, but not a copy that is committed.
@@ -93,45 +94,55 @@ impl<'a> FlowState<'a> {
         self.set(name.as_bytes(), got(call))
     }
 
-    /// What is left when a variable is set or declared by a statement with this call.
-    fn settle(&mut self, form: &'a Form, call: Option<MadeCall<'a>>) -> Result<(), AllocError>
-        requires { (line : ℕ) → AreNew (names_of self.old) (own_names (form_tree line form.now)) }
-        ensures { OnOk result ((line : ℕ) → self.new
-            ≡ settled self.old (form_tree line form.now) (option_map made_value call.entry)) }
+    /// A variable of this type is declared by a statement with this call.
+    fn declare(
+        &mut self,
+        kind: DeclaredType,
+        name: &'a Name,
+        call: Option<MadeCall<'a>>,
+    ) -> Result<(), AllocError>
+        requires { AreNew (names_of self.old) (tracked_name kind name.now) }
+        ensures { OnOk result (self.new ≡ declared self.old kind name.now (option_map made_value call.entry)) }
     {
-        match form {
-            Form::Declare(kind, x, _) => match kind {
-                VariableType::Reference(_) => self.declare_reference(x),
-                VariableType::Uint32 => Ok(()),
-                VariableType::Jint => Ok(()),
-                VariableType::Jsize => Ok(()),
-                VariableType::Jboolean => Ok(()),
-                VariableType::JfieldId => Ok(()),
-                VariableType::JmethodId => Ok(()),
+        match kind {
+            DeclaredType::Simple(kind) => match kind {
+                VariableType::Reference(_) => self.declare_reference(name),
+                VariableType::Uint32
+                | VariableType::Jint
+                | VariableType::Jsize
+                | VariableType::Jboolean
+                | VariableType::JfieldId
+                | VariableType::JmethodId => Ok(()),
             },
-            Form::DeclareBuffer(_, x, _) => self.declare_buffer(x, call),
-            Form::DeclareChars(x, _) => self.declare_buffer(x, call),
-            Form::Assign(x, _) => self.assign(x, call),
-            Form::Return(None) => Ok(()),
-            Form::Return(Some(_)) => Ok(()),
-            Form::DeclareArray(..)
-            | Form::AssignElement(..)
-            | Form::Perform(_)
-            | Form::PutJint(_)
-            | Form::If(..)
-            | Form::IfElse(..)
-            | Form::While(..) => Ok(()),
+            DeclaredType::Pointer(_) => self.declare_buffer(name, call),
+            DeclaredType::ConstChars => self.declare_buffer(name, call),
         }
     }
 
-    /// The state after a statement without blocks.
-    pub fn pass(&mut self, form: &'a Form) -> Result<(), AllocError>
-        requires { (line : ℕ) → AreNew (names_of self.old) (own_names (form_tree line form.now)) }
-        ensures { OnOk result ((line : ℕ) → self.new ≡ state_after self.old (form_tree line form.now)) }
+    /// What is left when a variable is set or declared by a statement with this call.
+    fn settle(&mut self, plain: &'a PlainStmt, call: Option<MadeCall<'a>>) -> Result<(), AllocError>
+        requires { AreNew (names_of self.old) (plain_names (plain_tree plain.now)) }
+        ensures { OnOk result ((line : ℕ) → self.new
+            ≡ settled self.old (Plain line (plain_tree plain.now)) (option_map made_value call.entry)) }
     {
-        let call = called(form);
+        match plain {
+            PlainStmt::Declare(kind, x, _) => self.declare(*kind, x, call),
+            PlainStmt::Assign(x, _) => self.assign(x, call),
+            PlainStmt::DeclareArray(..)
+            | PlainStmt::AssignElement(..)
+            | PlainStmt::Perform(_)
+            | PlainStmt::PutJint(_) => Ok(()),
+        }
+    }
+
+    /// The state after a plain statement.
+    pub fn pass(&mut self, plain: &'a PlainStmt) -> Result<(), AllocError>
+        requires { AreNew (names_of self.old) (plain_names (plain_tree plain.now)) }
+        ensures { OnOk result ((line : ℕ) → self.new ≡ state_after self.old (Plain line (plain_tree plain.now))) }
+    {
+        let call = plain_called(plain);
         self.take_effect(call);
-        self.settle(form, call)
+        self.settle(plain, call)
     }
 
     /// What is known of a variable that turned out to be NULL, or not.

@@ -2,13 +2,13 @@
 
 ghost use Rattle.std.specs.Prelude.{◌≡◌, ℕ};
 ghost use Rattle.syntax.specs.Shapes.{ref_tree};
-ghost use Rattle.syntax.specs.Views.{argument_tree, call_tree, right_side_tree, test_tree, form_tree};
+ghost use Rattle.syntax.specs.Views.{argument_tree, call_tree, right_side_tree, test_tree, plain_tree, form_tree};
 ghost use Rattle.region_states.specs.StatesInMemory.{asks};
-ghost use Rattle.type_rules.specs.Uses.{expr_uses, argument_uses, call_uses, right_uses, test_uses, uses};
-ghost use Rattle.region_states.specs.Reads.{expr_reads, argument_reads, call_reads, right_reads, test_reads, reads};
+ghost use Rattle.type_rules.specs.Uses.{expr_uses, argument_uses, call_uses, right_uses, test_uses, plain_uses, uses};
+ghost use Rattle.region_states.specs.Reads.{expr_reads, argument_reads, call_reads, right_reads, test_reads, plain_reads, reads};
 
 use crate::states::{Condition, FlowState};
-use syntax::{Argument, Call, ExprRef, Form, RightSide, Shape, Test};
+use syntax::{Argument, Call, ExprRef, Form, PlainStmt, RightSide, Shape, Test};
 
 /// Whether some name of an expression meets the condition.
 fn expr_uses(state: &FlowState, condition: Condition, e: ExprRef<'_>) -> bool
@@ -68,25 +68,31 @@ fn test_uses(state: &FlowState, condition: Condition, test: &Test) -> bool
     }
 }
 
+/// Whether some name that a plain statement uses meets the condition.
+fn plain_uses(state: &FlowState, condition: Condition, plain: &PlainStmt) -> bool
+    ensures { result ≡ plain_uses (asks condition state.now) (plain_tree plain.now) }
+{
+    match plain {
+        PlainStmt::Declare(_, _, r) => right_uses(state, condition, r),
+        PlainStmt::DeclareArray(..) => false,
+        PlainStmt::Assign(_, r) => right_uses(state, condition, r),
+        PlainStmt::AssignElement(x, i, e) => {
+            state.meets(condition, x.as_bytes())
+                || expr_uses(state, condition, i.whole())
+                || expr_uses(state, condition, e.whole())
+        }
+        PlainStmt::Perform(c) => call_uses(state, condition, c),
+        PlainStmt::PutJint(e) => expr_uses(state, condition, e.whole()),
+    }
+}
+
 /// Whether some name that a statement uses meets the condition. The statements of its blocks aren't looked at.
 fn form_uses(state: &FlowState, condition: Condition, form: &Form) -> bool
     ensures { (line : ℕ) → result ≡ uses (asks condition state.now) (form_tree line form.now) }
 {
     match form {
-        Form::Declare(_, _, r) => right_uses(state, condition, r),
-        Form::DeclareBuffer(_, _, r) => right_uses(state, condition, r),
-        Form::DeclareChars(_, r) => right_uses(state, condition, r),
-        Form::DeclareArray(..) => false,
-        Form::Assign(_, r) => right_uses(state, condition, r),
-        Form::AssignElement(x, i, e) => {
-            state.meets(condition, x.as_bytes())
-                || expr_uses(state, condition, i.whole())
-                || expr_uses(state, condition, e.whole())
-        }
-        Form::Perform(c) => call_uses(state, condition, c),
-        Form::PutJint(e) => expr_uses(state, condition, e.whole()),
-        Form::If(test, _) => test_uses(state, condition, test),
-        Form::IfElse(test, _, _) => test_uses(state, condition, test),
+        Form::Plain(plain) => plain_uses(state, condition, plain),
+        Form::If(test, _, _) => test_uses(state, condition, test),
         Form::While(e, _) => expr_uses(state, condition, e.whole()),
         Form::Return(None) => false,
         Form::Return(Some(e)) => expr_uses(state, condition, e.whole()),
@@ -148,26 +154,32 @@ fn test_reads(state: &FlowState, condition: Condition, test: &Test) -> bool
     }
 }
 
+/// Whether a plain statement reads or writes an element of a name that meets the condition.
+fn plain_reads(state: &FlowState, condition: Condition, plain: &PlainStmt) -> bool
+    ensures { result ≡ plain_reads (asks condition state.now) (plain_tree plain.now) }
+{
+    match plain {
+        PlainStmt::Declare(_, _, r) => right_reads(state, condition, r),
+        PlainStmt::DeclareArray(..) => false,
+        PlainStmt::Assign(_, r) => right_reads(state, condition, r),
+        PlainStmt::AssignElement(x, i, e) => {
+            expr_reads(state, condition, i.whole())
+                || expr_reads(state, condition, e.whole())
+                || state.meets(condition, x.as_bytes())
+        }
+        PlainStmt::Perform(c) => call_reads(state, condition, c),
+        PlainStmt::PutJint(e) => expr_reads(state, condition, e.whole()),
+    }
+}
+
 /// Whether a statement reads or writes an element of a name that meets the condition. The statements of its blocks aren't looked
 /// at.
 fn form_reads(state: &FlowState, condition: Condition, form: &Form) -> bool
     ensures { (line : ℕ) → result ≡ reads (asks condition state.now) (form_tree line form.now) }
 {
     match form {
-        Form::Declare(_, _, r) => right_reads(state, condition, r),
-        Form::DeclareBuffer(_, _, r) => right_reads(state, condition, r),
-        Form::DeclareChars(_, r) => right_reads(state, condition, r),
-        Form::DeclareArray(..) => false,
-        Form::Assign(_, r) => right_reads(state, condition, r),
-        Form::AssignElement(x, i, e) => {
-            expr_reads(state, condition, i.whole())
-                || expr_reads(state, condition, e.whole())
-                || state.meets(condition, x.as_bytes())
-        }
-        Form::Perform(c) => call_reads(state, condition, c),
-        Form::PutJint(e) => expr_reads(state, condition, e.whole()),
-        Form::If(test, _) => test_reads(state, condition, test),
-        Form::IfElse(test, _, _) => test_reads(state, condition, test),
+        Form::Plain(plain) => plain_reads(state, condition, plain),
+        Form::If(test, _, _) => test_reads(state, condition, test),
         Form::While(e, _) => expr_reads(state, condition, e.whole()),
         Form::Return(None) => false,
         Form::Return(Some(e)) => expr_reads(state, condition, e.whole()),

@@ -1,15 +1,15 @@
 -- A first fault is of a rule that is broken, and where a rule is broken there is no path.
 use Rattle.std.proofs.Common.{ℕ, ◌⊎◌, subst, inl, inr}
-use Rattle.syntax.specs.Tree.{Stmt, Declare, DeclareBuffer, DeclareChars, DeclareArray, Assign, AssignElement, Perform, PutJint, If, IfElse, While, Return, ReturnValue, Block, End, Next, Function}
-use Rattle.region_rules.specs.FirstFaults.{FirstHere, FirstIn, FirstBlock, FirstInFunction}
+use Rattle.syntax.specs.Tree.{Stmt, Plain, If, While, Return, Else, NoElse, ElseBlock, Block, End, Next, Function}
+use Rattle.region_rules.specs.FirstFaults.{FirstHere, FirstIn, FirstElse, FirstBlock, FirstInFunction}
 use Rattle.region_rules.proofs.KeptRules.{kept, not_both}
 use Rattle.region_rules.specs.declared.rule.RegionRule.{RegionRule}
 use Rattle.region_rules.specs.RegionRules.{breaks_region_rule, own_rules}
 use Rattle.region_rules.specs.RegionStates.{RegionState, state_at_entry}
-use Rattle.region_rules.specs.Regions.{Path, On, Returned, Join, ComesBack, IsEnd, Keeps, KeepsBlock, holds_own, where_true, where_false, Differ, BreaksAfter, BreaksHere, BreaksIn, BreaksBlock, BreaksFunction, AcceptedFunction}
+use Rattle.region_rules.specs.Regions.{Path, On, Returned, Join, ComesBack, IsEnd, Keeps, KeepsElse, KeepsBlock, holds_own, where_true, where_false, Differ, BreaksAfter, BreaksHere, BreaksIn, BreaksElse, BreaksBlock, BreaksFunction, AcceptedFunction}
 use Rattle.region_rules.proofs.Returns.{goes_on}
 use Rattle.regions.proofs.Paths.{find_some}
-use Rattle.regions.proofs.FaultLemmas.{one_path, one_end, on_is}
+use Rattle.regions.proofs.FaultLemmas.{one_path, one_else, one_end, on_is}
 use Rattle.regions.proofs.FirstPaths.{first_or_accepted}
 
 -- ---- a first fault is of a rule that is broken at its line
@@ -19,20 +19,14 @@ broken_here before s rule l b = (find_some (λ r. breaks_region_rule r before s)
 
 mutual
   pub broken_in : (before : RegionState) (s : Stmt) (rule : RegionRule) (l : ℕ) → FirstIn rule l before s → BreaksIn rule l before s
-  broken_in before (If line test then') rule l b =
+  broken_in before (If line test then' else') rule l b =
       elim b [
-        | inl own ↦ inl (broken_here before (If line test then') rule l own)
-        | inr (inl inner) ↦ inr (inl (inner.0, broken_block before (where_true before test) then' rule l inner.1))
-        | inr (inr paths) ↦ inr (inr paths)
-      ]
-  broken_in before (IfElse line test then' else') rule l b =
-      elim b [
-        | inl own ↦ inl (broken_here before (IfElse line test then' else') rule l own)
+        | inl own ↦ inl (broken_here before (If line test then' else') rule l own)
         | inr (inl inner) ↦ inr (inl (
           inner.0,
           elim inner.1 [
             | inl one ↦ inl (broken_block before (where_true before test) then' rule l one)
-            | inr two ↦ inr (broken_block before (where_false before test) else' rule l two.2)
+            | inr two ↦ inr (broken_else before (where_false before test) else' rule l two.2)
           ],
         ))
         | inr (inr paths) ↦ inr (inr paths)
@@ -43,16 +37,12 @@ mutual
         | inr (inl inner) ↦ inr (inl (inner.0, broken_block before before body rule l inner.1))
         | inr (inr paths) ↦ inr (inr paths)
       ]
-  broken_in before (Return line) rule l b = broken_here before (Return line) rule l b
-  broken_in before (ReturnValue line e) rule l b = broken_here before (ReturnValue line e) rule l b
-  broken_in before (Declare line t x r) rule l b = broken_here before (Declare line t x r) rule l b
-  broken_in before (DeclareBuffer line t x r) rule l b = broken_here before (DeclareBuffer line t x r) rule l b
-  broken_in before (DeclareChars line x r) rule l b = broken_here before (DeclareChars line x r) rule l b
-  broken_in before (DeclareArray line t x size) rule l b = broken_here before (DeclareArray line t x size) rule l b
-  broken_in before (Assign line x r) rule l b = broken_here before (Assign line x r) rule l b
-  broken_in before (AssignElement line x i e) rule l b = broken_here before (AssignElement line x i e) rule l b
-  broken_in before (Perform line c) rule l b = broken_here before (Perform line c) rule l b
-  broken_in before (PutJint line e) rule l b = broken_here before (PutJint line e) rule l b
+  broken_in before (Return line e) rule l b = broken_here before (Return line e) rule l b
+  broken_in before (Plain line p) rule l b = broken_here before (Plain line p) rule l b
+
+  broken_else : (outer before : RegionState) (b : Else) (rule : RegionRule) (l : ℕ) → FirstElse rule l outer before b → BreaksElse rule l outer before b
+  broken_else outer before NoElse rule l b = b
+  broken_else outer before (ElseBlock d) rule l b = broken_block outer before d rule l b
 
   pub broken_block : (outer before : RegionState) (block : Block) (rule : RegionRule) (l : ℕ) → FirstBlock rule l outer before block → BreaksBlock rule l outer before block
   broken_block outer before (End line) rule l b = b
@@ -85,23 +75,16 @@ not_end rule l (Next s rest) b e = e
 
 mutual
   pub no_path : (before : RegionState) (s : Stmt) (rule : RegionRule) (l : ℕ) (w : Path) → BreaksIn rule l before s → Keeps before s w → ⊥
-  no_path before (If line test then') rule l w b h =
+  no_path before (If line test then' else') rule l w b h =
       elim b [
-        | inl own ↦ kept before (If line test then') rule h.0 own.0
-        | inr (inl inner) ↦ no_end before (where_true before test) then' rule l h.1 inner.1 h.2
-        | inr (inr paths) ↦ apart h.1 (On (where_false before test)) w
-            (subst (λ y. Differ y (On (where_false before test))) (one_end before (where_true before test) then' (paths.3).0 h.1 (paths.3).1 h.2) (paths.3).2) h.3
-      ]
-  no_path before (IfElse line test then' else') rule l w b h =
-      elim b [
-        | inl own ↦ kept before (IfElse line test then' else') rule h.0 own.0
+        | inl own ↦ kept before (If line test then' else') rule h.0 own.0
         | inr (inl inner) ↦ elim inner.1 [
           | inl first ↦ no_end before (where_true before test) then' rule l h.1 first h.3
-          | inr second ↦ no_end before (where_false before test) else' rule l h.2 second h.4
+          | inr second ↦ no_other before (where_false before test) else' rule l h.2 second h.4
         ]
         | inr (inr paths) ↦ apart h.1 h.2 w
             (subst (λ y. Differ y h.2) (one_end before (where_true before test) then' (paths.3).0 h.1 (paths.3).2 h.3)
-            (subst (λ n. Differ (paths.3).0 n) (one_end before (where_false before test) else' (paths.3).1 h.2 (paths.3).3 h.4) (paths.3).4)) h.5
+            (subst (λ n. Differ (paths.3).0 n) (one_else before (where_false before test) else' (paths.3).1 h.2 (paths.3).3 h.4) (paths.3).4)) h.5
       ]
   no_path before (While line test body) rule l w b h =
       elim b [
@@ -109,16 +92,12 @@ mutual
         | inr (inl inner) ↦ no_end before before body rule l h.1 inner.1 h.2
         | inr (inr paths) ↦ not_back h.1 before (subst (λ y. Differ y (On before)) (one_end before before body (paths.3).0 h.1 (paths.3).1 h.2) (paths.3).2) h.3
       ]
-  no_path before (Return line) rule l w b h = kept before (Return line) rule h.0 b.0
-  no_path before (ReturnValue line e) rule l w b h = kept before (ReturnValue line e) rule h.0 b.0
-  no_path before (Declare line t x r) rule l w b h = kept before (Declare line t x r) rule h.0 b.0
-  no_path before (DeclareBuffer line t x r) rule l w b h = kept before (DeclareBuffer line t x r) rule h.0 b.0
-  no_path before (DeclareChars line x r) rule l w b h = kept before (DeclareChars line x r) rule h.0 b.0
-  no_path before (DeclareArray line t x size) rule l w b h = kept before (DeclareArray line t x size) rule h.0 b.0
-  no_path before (Assign line x r) rule l w b h = kept before (Assign line x r) rule h.0 b.0
-  no_path before (AssignElement line x i e) rule l w b h = kept before (AssignElement line x i e) rule h.0 b.0
-  no_path before (Perform line c) rule l w b h = kept before (Perform line c) rule h.0 b.0
-  no_path before (PutJint line e) rule l w b h = kept before (PutJint line e) rule h.0 b.0
+  no_path before (Return line e) rule l w b h = kept before (Return line e) rule h.0 b.0
+  no_path before (Plain line p) rule l w b h = kept before (Plain line p) rule h.0 b.0
+
+  no_other : (outer before : RegionState) (b : Else) (rule : RegionRule) (l : ℕ) (w : Path) → BreaksElse rule l outer before b → KeepsElse outer before b w → ⊥
+  no_other outer before NoElse rule l w b h = b
+  no_other outer before (ElseBlock d) rule l w b h = no_end outer before d rule l w b h
 
   pub no_end : (outer before : RegionState) (block : Block) (rule : RegionRule) (l : ℕ) (w : Path) → BreaksBlock rule l outer before block → KeepsBlock outer before block w → ⊥
   no_end outer before (End line) rule l w b h = not_both (holds_own outer before) h.0 b.2

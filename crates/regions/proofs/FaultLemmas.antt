@@ -1,16 +1,16 @@
 -- Which part of a walk a fault comes from, and that a statement has one path.
 use Rattle.std.proofs.Common.{◌≡◌, ℕ, Bool, true, false, ◌⊎◌, Option, Some, None, Result, Ok, Err, refl, sym, ap, ◌∙◌, inl, inr, true≢false}
 use Rattle.syntax.specs.Parts.{line_of}
-use Rattle.syntax.specs.Tree.{Stmt, Block, End, Next}
+use Rattle.syntax.specs.Tree.{Stmt, Else, Block, End, Next}
 use Rattle.region_rules.specs.declared.rule.RegionRule.{RegionRule}
 use Rattle.region_rules.specs.declared.rule.RegionRule.TheVariants.{PathsDiffer, NoReturn}
 use Rattle.region_rules.specs.RegionStates.{RegionState}
-use Rattle.region_rules.specs.Regions.{Path, On, Returned, Keeps, KeepsBlock, Differ, EndLine, BreaksAfter}
+use Rattle.region_rules.specs.Regions.{Path, On, Returned, Keeps, KeepsElse, KeepsBlock, Differ, EndLine, BreaksAfter}
 use Rattle.region_states.specs.SameStates.{same_state}
 use Rattle.regions.specs.Findings.{end_line_of}
 use Rattle.regions.specs.Paths.{Found, own_path, path_after, path_if, returned_before, join_paths, turn_path}
 use Rattle.region_states.proofs.Same.{state_decides}
-use Rattle.regions.proofs.Paths.{ok_is, answers, answers_block}
+use Rattle.regions.proofs.Paths.{ok_is, answers, answers_else, answers_block}
 
 -- ---- the part that a fault comes from
 
@@ -63,6 +63,9 @@ returned_err (Next s rest) f h = let e = err_is (line_of s, NoReturn) f h in (ap
 -- a function of its tree has one answer, so a statement and a block have one path
 pub one_path : (before : RegionState) (s : Stmt) (v w : Path) → Keeps before s v → Keeps before s w → v ≡ w
 one_path before s v w h k = ok_is w v (sym (answers before s w k) ∙ answers before s v h)
+
+pub one_else : (outer before : RegionState) (b : Else) (v w : Path) → KeepsElse outer before b v → KeepsElse outer before b w → v ≡ w
+one_else outer before b v w h k = ok_is w v (sym (answers_else outer before b w k) ∙ answers_else outer before b v h)
 
 pub one_end : (outer before : RegionState) (b : Block) (v w : Path) → KeepsBlock outer before b v → KeepsBlock outer before b w → v ≡ w
 one_end outer before b v w h k = ok_is w v (sym (answers_block outer before b w k) ∙ answers_block outer before b v h)

@@ -1,10 +1,10 @@
 -- The first fault is the answer, and there is one at most.
-use Rattle.std.proofs.Common.{◌≡◌, ℕ, Bool, true, false, not, ◌⊎◌, List, [], ◌∷◌, Option, Some, Result, Ok, Err, refl, sym, ap, ◌∙◌, subst, inl, inr, true≢false}
+use Rattle.std.proofs.Common.{◌≡◌, ℕ, Bool, true, false, not, ◌⊎◌, List, [], ◌∷◌, Option, Some, Result, Ok, Err, refl, sym, ap, ◌∙◌, inl, inr, true≢false}
 use Rattle.std.specs.List.{AllByRecursion}
 use Rattle.std.proofs.lemmas.Bool.{not-false, not_from_true}
 use Rattle.syntax.specs.Parts.{line_of}
-use Rattle.syntax.specs.Tree.{Stmt, Declare, DeclareBuffer, DeclareChars, DeclareArray, Assign, AssignElement, Perform, PutJint, If, IfElse, While, Return, ReturnValue, Block, End, Next, Function}
-use Rattle.region_rules.specs.FirstFaults.{FirstInFunction, FirstInFunctions, first_broken, FirstHere, FirstIn, FirstBlock}
+use Rattle.syntax.specs.Tree.{Stmt, Plain, If, While, Return, Else, NoElse, ElseBlock, Block, End, Next, Function}
+use Rattle.region_rules.specs.FirstFaults.{FirstInFunction, FirstInFunctions, first_broken, FirstHere, FirstIn, FirstElse, FirstBlock}
 use Rattle.region_rules.specs.declared.rule.RegionRule.{RegionRule}
 use Rattle.region_rules.specs.declared.rule.RegionRule.TheVariants.{HeldBuffer, PathsDiffer, NoReturn}
 use Rattle.region_rules.specs.RegionRules.{Obeys}
@@ -12,9 +12,9 @@ use Rattle.region_rules.specs.RegionStates.{RegionState, state_at_entry}
 use Rattle.region_rules.specs.Regions.{Path, On, Returned, holds_own, left, where_true, where_false, Differ, BreaksAfter, AcceptedFunction}
 use Rattle.region_rules.proofs.Returns.{goes_on}
 use Rattle.region_states.specs.SameStates.{same_state}
-use Rattle.regions.specs.Paths.{Found, own_path, path_after, path_if, returned_before, join_paths, turn_path, path_of, path_of_block}
+use Rattle.regions.specs.Paths.{Found, own_path, path_after, path_if, returned_before, join_paths, turn_path, path_of, path_of_else, path_of_block}
 use Rattle.region_states.proofs.Same.{state_decides}
-use Rattle.regions.proofs.Paths.{ok_is, obeys, unbroken, keeps, keeps_block, answers, answers_block}
+use Rattle.regions.proofs.Paths.{obeys, unbroken, keeps, keeps_else, keeps_block, answers, answers_else, answers_block}
 use Rattle.regions.specs.Findings.{end_line_of}
 use Rattle.regions.proofs.FaultLemmas.{ok_err', err_is, if_err, own_err, join_err, turn_err, after_err, returned_err, one_end, end-line}
 
@@ -60,26 +60,20 @@ after_of (Next s rest) rule l b = ap (λ r. Err (line_of s, r)) (sym b.0) ∙ ap
 
 mutual
   pub first_is : (before : RegionState) (s : Stmt) (rule : RegionRule) (l : ℕ) → FirstIn rule l before s → path_of before s ≡ Err (l, rule)
-  first_is before (If line test then') rule l b =
+  first_is before (If line test then' else') rule l b =
+      let s = If line test then' else' in
+      let yes = path_of_block before (where_true before test) then' in
+      let no = path_of_else before (where_false before test) else' in
       elim b [
-        | inl own ↦ own_first (first_broken before (If line test then')) line _ rule l own.0 own.1
-        | inr (inl inner) ↦ own_later before (If line test then') line _ (l, rule) inner.0
-            (ap (λ r. join_paths line r (Ok (On (where_false before test)))) (first_block_is before (where_true before test) then' rule l inner.1))
-        | inr (inr paths) ↦ own_later before (If line test then') line _ (l, rule) paths.0
-            (ap (λ r. join_paths line r (Ok (On (where_false before test)))) (answers_block before (where_true before test) then' (paths.3).0 (paths.3).1)
-            ∙ differ_paths line (paths.3).0 (On (where_false before test)) (paths.3).2 ∙ fault_of line rule l paths.1 paths.2)
-      ]
-  first_is before (IfElse line test then' else') rule l b =
-      elim b [
-        | inl own ↦ own_first (first_broken before (IfElse line test then' else')) line _ rule l own.0 own.1
-        | inr (inl inner) ↦ own_later before (IfElse line test then' else') line _ (l, rule) inner.0 (elim inner.1 [
-          | inl one ↦ ap (λ r. join_paths line r (path_of_block before (where_false before test) else')) (first_block_is before (where_true before test) then' rule l one)
-          | inr two ↦ ap (λ r. join_paths line r (path_of_block before (where_false before test) else')) (answers_block before (where_true before test) then' two.0 two.1)
-              ∙ ap (join_paths line (Ok two.0)) (first_block_is before (where_false before test) else' rule l two.2) ∙ second_fault line two.0 (l, rule)
+        | inl own ↦ own_first (first_broken before s) line _ rule l own.0 own.1
+        | inr (inl inner) ↦ own_later before s line _ (l, rule) inner.0 (elim inner.1 [
+          | inl one ↦ ap (λ r. join_paths line r no) (first_block_is before (where_true before test) then' rule l one)
+          | inr two ↦ ap (λ r. join_paths line r no) (answers_block before (where_true before test) then' two.0 two.1)
+              ∙ ap (join_paths line (Ok two.0)) (first_else_is before (where_false before test) else' rule l two.2) ∙ second_fault line two.0 (l, rule)
         ])
-        | inr (inr paths) ↦ own_later before (IfElse line test then' else') line _ (l, rule) paths.0
-            (ap (λ r. join_paths line r (path_of_block before (where_false before test) else')) (answers_block before (where_true before test) then' (paths.3).0 (paths.3).2)
-            ∙ ap (join_paths line (Ok (paths.3).0)) (answers_block before (where_false before test) else' (paths.3).1 (paths.3).3)
+        | inr (inr paths) ↦ own_later before s line _ (l, rule) paths.0
+            (ap (λ r. join_paths line r no) (answers_block before (where_true before test) then' (paths.3).0 (paths.3).2)
+            ∙ ap (join_paths line (Ok (paths.3).0)) (answers_else before (where_false before test) else' (paths.3).1 (paths.3).3)
             ∙ differ_paths line (paths.3).0 (paths.3).1 (paths.3).4 ∙ fault_of line rule l paths.1 paths.2)
       ]
   first_is before (While line test body) rule l b =
@@ -89,16 +83,12 @@ mutual
         | inr (inr paths) ↦ own_later before (While line test body) line _ (l, rule) paths.0
             (ap (turn_path line before) (answers_block before before body (paths.3).0 (paths.3).1) ∙ differ_turn line before (paths.3).0 (paths.3).2 ∙ fault_of line rule l paths.1 paths.2)
       ]
-  first_is before (Return line) rule l b = own_first (first_broken before (Return line)) line _ rule l b.0 b.1
-  first_is before (ReturnValue line e) rule l b = own_first (first_broken before (ReturnValue line e)) line _ rule l b.0 b.1
-  first_is before (Declare line t x r) rule l b = own_first (first_broken before (Declare line t x r)) line _ rule l b.0 b.1
-  first_is before (DeclareBuffer line t x r) rule l b = own_first (first_broken before (DeclareBuffer line t x r)) line _ rule l b.0 b.1
-  first_is before (DeclareChars line x r) rule l b = own_first (first_broken before (DeclareChars line x r)) line _ rule l b.0 b.1
-  first_is before (DeclareArray line t x size) rule l b = own_first (first_broken before (DeclareArray line t x size)) line _ rule l b.0 b.1
-  first_is before (Assign line x r) rule l b = own_first (first_broken before (Assign line x r)) line _ rule l b.0 b.1
-  first_is before (AssignElement line x i e) rule l b = own_first (first_broken before (AssignElement line x i e)) line _ rule l b.0 b.1
-  first_is before (Perform line c) rule l b = own_first (first_broken before (Perform line c)) line _ rule l b.0 b.1
-  first_is before (PutJint line e) rule l b = own_first (first_broken before (PutJint line e)) line _ rule l b.0 b.1
+  first_is before (Return line e) rule l b = own_first (first_broken before (Return line e)) line _ rule l b.0 b.1
+  first_is before (Plain line p) rule l b = own_first (first_broken before (Plain line p)) line _ rule l b.0 b.1
+
+  first_else_is : (outer before : RegionState) (b : Else) (rule : RegionRule) (l : ℕ) → FirstElse rule l outer before b → path_of_else outer before b ≡ Err (l, rule)
+  first_else_is outer before NoElse rule l b = absurd b
+  first_else_is outer before (ElseBlock d) rule l b = first_block_is outer before d rule l b
 
   pub first_block_is : (outer before : RegionState) (block : Block) (rule : RegionRule) (l : ℕ) → FirstBlock rule l outer before block → path_of_block outer before block ≡ Err (l, rule)
   first_block_is outer before (End line) rule l b =
@@ -125,37 +115,24 @@ plain_first before s line a f k h =
 
 mutual
   pub firsts : (before : RegionState) (s : Stmt) (f : Found) → path_of before s ≡ Err f → FirstIn f.1 f.0 before s
-  firsts before (If line test then') f h =
-      elim (own_err (first_broken before (If line test then')) line _ f h) [
-        | inl own ↦ inl (first_here before (If line test then') line own.0 f refl own.1 own.2)
-        | inr go ↦ let o = obeys before (If line test then') go.0 in
-            elim (join_err line (path_of_block before (where_true before test) then') (Ok (On (where_false before test))) f go.1) [
-              | inl first ↦ inr (inl (o, firsts_block before (where_true before test) then' f first))
-              | inr (inl second) ↦ absurd (ok_err' (On (where_false before test)) f second)
-              | inr (inr two) ↦ inr (inr (
-                o,
-                ap (λ (g : Found). g.1) two.5,
-                ap (λ (g : Found). g.0) two.5,
-                (two.0, keeps_block before (where_true before test) then' two.0 two.2, subst (λ b. Differ two.0 b) (ok_is (On (where_false before test)) two.1 two.3) two.4),
-              ))
-            ]
-      ]
-  firsts before (IfElse line test then' else') f h =
-      elim (own_err (first_broken before (IfElse line test then' else')) line _ f h) [
-        | inl own ↦ inl (first_here before (IfElse line test then' else') line own.0 f refl own.1 own.2)
-        | inr go ↦ let o = obeys before (IfElse line test then' else') go.0 in
-            elim (join_err line (path_of_block before (where_true before test) then') (path_of_block before (where_false before test) else') f go.1) [
+  firsts before (If line test then' else') f h =
+      let s = If line test then' else' in
+      let yes = path_of_block before (where_true before test) then' in
+      let no = path_of_else before (where_false before test) else' in
+      elim (own_err (first_broken before s) line _ f h) [
+        | inl own ↦ inl (first_here before s line own.0 f refl own.1 own.2)
+        | inr go ↦ let o = obeys before s go.0 in
+            elim (join_err line yes no f go.1) [
               | inl first ↦ inr (inl (o, inl (firsts_block before (where_true before test) then' f first)))
-              | inr (inl second) ↦ let one = first_kept line (path_of_block before (where_true before test) then') (path_of_block before (where_false before test) else') f second go.1 in
-                  elim one [
-                    | inl first' ↦ inr (inl (o, inl (firsts_block before (where_true before test) then' f first')))
-                    | inr keeps' ↦ inr (inl (o, inr (keeps'.0, keeps_block before (where_true before test) then' keeps'.0 keeps'.1, firsts_block before (where_false before test) else' f second)))
-                  ]
+              | inr (inl second) ↦ elim (first_kept line yes no f second go.1) [
+                | inl first ↦ inr (inl (o, inl (firsts_block before (where_true before test) then' f first)))
+                | inr one ↦ inr (inl (o, inr (one.0, keeps_block before (where_true before test) then' one.0 one.1, firsts_else before (where_false before test) else' f second)))
+              ]
               | inr (inr two) ↦ inr (inr (
                 o,
                 ap (λ (g : Found). g.1) two.5,
                 ap (λ (g : Found). g.0) two.5,
-                (two.0, two.1, keeps_block before (where_true before test) then' two.0 two.2, keeps_block before (where_false before test) else' two.1 two.3, two.4),
+                (two.0, two.1, keeps_block before (where_true before test) then' two.0 two.2, keeps_else before (where_false before test) else' two.1 two.3, two.4),
               ))
             ]
       ]
@@ -168,16 +145,12 @@ mutual
               | inr two ↦ inr (inr (o, ap (λ (g : Found). g.1) two.3, ap (λ (g : Found). g.0) two.3, (two.0, keeps_block before before body two.0 two.1, two.2)))
             ]
       ]
-  firsts before (Return line) f h = plain_first before (Return line) line Returned f refl h
-  firsts before (ReturnValue line e) f h = plain_first before (ReturnValue line e) line Returned f refl h
-  firsts before (Declare line t x r) f h = plain_first before (Declare line t x r) line _ f refl h
-  firsts before (DeclareBuffer line t x r) f h = plain_first before (DeclareBuffer line t x r) line _ f refl h
-  firsts before (DeclareChars line x r) f h = plain_first before (DeclareChars line x r) line _ f refl h
-  firsts before (DeclareArray line t x size) f h = plain_first before (DeclareArray line t x size) line _ f refl h
-  firsts before (Assign line x r) f h = plain_first before (Assign line x r) line _ f refl h
-  firsts before (AssignElement line x i e) f h = plain_first before (AssignElement line x i e) line _ f refl h
-  firsts before (Perform line c) f h = plain_first before (Perform line c) line _ f refl h
-  firsts before (PutJint line e) f h = plain_first before (PutJint line e) line _ f refl h
+  firsts before (Return line e) f h = plain_first before (Return line e) line Returned f refl h
+  firsts before (Plain line p) f h = plain_first before (Plain line p) line _ f refl h
+
+  firsts_else : (outer before : RegionState) (b : Else) (f : Found) → path_of_else outer before b ≡ Err f → FirstElse f.1 f.0 outer before b
+  firsts_else outer before NoElse f h = ok_err' (On before) f h
+  firsts_else outer before (ElseBlock d) f h = firsts_block outer before d f h
 
   pub firsts_block : (outer before : RegionState) (b : Block) (f : Found) → path_of_block outer before b ≡ Err f → FirstBlock f.1 f.0 outer before b
   firsts_block outer before (End line) f h =

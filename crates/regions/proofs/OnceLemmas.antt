@@ -12,7 +12,8 @@ use Rattle.syntax.specs.declared.declared_type.ParameterType.TheVariants.{Jint a
 use Rattle.syntax.specs.declared.declared_type.VariableType.TheVariants.{Reference as ReferenceVariable}
 use Rattle.syntax.specs.declared.unit.ResultType.{ResultType}
 use Rattle.syntax.specs.declared.unit.ResultType.TheVariants.{Void}
-use Rattle.syntax.specs.Tree.{Parameter, Stmt, Declare, DeclareBuffer, DeclareChars, If, IfElse, While, Block, End, Next, Function, Item, StaticItem, FunctionItem, SourceUnit}
+use Rattle.syntax.specs.declared.declared_type.DeclaredType.TheVariants.{Simple, Pointer, ConstChars}
+use Rattle.syntax.specs.Tree.{Parameter, Stmt, Plain, Declare, If, NoElse, ElseBlock, While, Block, End, Next, Function, Item, StaticItem, FunctionItem, SourceUnit}
 use Rattle.type_rules.specs.declared.ty.ExprType.TheVariants.{Ref}
 use Rattle.type_rules.specs.ExprTypes.{Scope}
 use Rattle.type_rules.specs.TypeRules.{Place, StaticForm, HeadForm, StatementForm, has_name, has_repeated, broken_at, places_within, places_of, function_places, item_places, with_declared, parameter_type, IsWellTyped, static_type}
@@ -37,15 +38,15 @@ covers_more taken names more own h k x none =
     list_any-append (bytes_eq x) names own ∙ ap₂ (λ a b. a || b) (h x both.0) (k x both.1)
 
 own_new : (s : Stmt) (taken names : List Identifier) → Covers taken names → some_passes (has_name taken) (declared_name s) ≡ false → AreNew names (own_names s)
-own_new (Declare line (ReferenceVariable t) x r) taken names covers none = (covers x none, tt)
-own_new (DeclareBuffer line t x r) taken names covers none = (covers x none, tt)
-own_new (DeclareChars line x r) taken names covers none = (covers x none, tt)
+own_new (Plain line (Declare (Simple (ReferenceVariable t)) x r)) taken names covers none = (covers x none, tt)
+own_new (Plain line (Declare (Pointer t) x r)) taken names covers none = (covers x none, tt)
+own_new (Plain line (Declare ConstChars x r)) taken names covers none = (covers x none, tt)
 own_new s taken names covers none = tt
 
 names_after : (s : Stmt) (taken names : List Identifier) → Covers taken names → Covers (taken ++ names_declared (statements_within s)) (names ++ own_names s)
-names_after (Declare line (ReferenceVariable t) y r) taken names covers = covers_more taken names (y ∷ []) (y ∷ []) covers (λ x h. h)
-names_after (DeclareBuffer line t y r) taken names covers = covers_more taken names (y ∷ []) (y ∷ []) covers (λ x h. h)
-names_after (DeclareChars line y r) taken names covers = covers_more taken names (y ∷ []) (y ∷ []) covers (λ x h. h)
+names_after (Plain line (Declare (Simple (ReferenceVariable t)) y r)) taken names covers = covers_more taken names (y ∷ []) (y ∷ []) covers (λ x h. h)
+names_after (Plain line (Declare (Pointer t) y r)) taken names covers = covers_more taken names (y ∷ []) (y ∷ []) covers (λ x h. h)
+names_after (Plain line (Declare ConstChars y r)) taken names covers = covers_more taken names (y ∷ []) (y ∷ []) covers (λ x h. h)
 names_after s taken names covers = covers_more taken names (names_declared (statements_within s)) [] covers (λ x h. refl)
 
 -- ---- statements and blocks
@@ -56,12 +57,12 @@ module _ (returns : ResultType) where
 
   mutual
     stmt_new : (s : Stmt) (known : Scope) (taken names : List Identifier) → Covers taken names → AreUnbroken (places_within returns known taken s) → DeclaresNew names s
-    stmt_new (If line test then') known taken names covers h =
-        block_new then' known taken names covers (second_empty (broken_at (own_place known taken (If line test then'))) (flat_map broken_at (places_of returns known taken then')) h)
-    stmt_new (IfElse line test then' else') known taken names covers h =
+    stmt_new (If line test then' NoElse) known taken names covers h =
+        (block_new then' known taken names covers (second_empty (broken_at (own_place known taken (If line test then' NoElse))) (flat_map broken_at (places_of returns known taken then')) h), tt)
+    stmt_new (If line test then' (ElseBlock else')) known taken names covers h =
         let first = places_of returns known taken then' in
         let second = places_of returns known (taken ++ names_declared (statements_of then')) else' in
-        let inner = second_empty (broken_at (own_place known taken (IfElse line test then' else'))) (flat_map broken_at (first ++ second)) h in (
+        let inner = second_empty (broken_at (own_place known taken (If line test then' (ElseBlock else')))) (flat_map broken_at (first ++ second)) h in (
           block_new then' known taken names covers (front_unbroken first second inner),
           block_new else' known (taken ++ names_declared (statements_of then')) names (λ x none. covers x (both_none taken (names_declared (statements_of then')) x none).0) (back_unbroken first second inner),
         )

@@ -1,16 +1,12 @@
 -- The walk over the paths in memory is that of the definitions.
 use Rattle.std.proofs.Common.{◌≡◌, ℕ, suc, ◌+◌, ◌<◌, true, false, not, List, [], ◌∷◌, length, get_or, drop, Some, None, Result, Ok, Err, refl, sym, ap, ◌∙◌, subst, add-one, drop-cons}
 use Rattle.std.specs.Prelude.{IfOk}
-use Rattle.base.specs.Bytes.{Identifier}
 use Rattle.base.proofs.Lists.{item_here}
-use Rattle.syntax.specs.declared.call.Test.{Test as TestInMemory}
-use Rattle.syntax.specs.declared.stmt.Form.{Form as FormInMemory}
-use Rattle.syntax.specs.declared.stmt.Form.TheVariants as form
 use Rattle.syntax.specs.declared.stmt.Stmt.{Stmt as StmtInMemory}
 use Rattle.syntax.specs.declared.stmt.Block.{Block as BlockInMemory, out-Block}
 use Rattle.syntax.specs.Parts.{line_of}
-use Rattle.syntax.specs.Tree.{Stmt, If, IfElse, While, Return, ReturnValue, Test, Block, End, Next}
-use Rattle.syntax.specs.Views.{form_tree, stmt_tree, block_tree}
+use Rattle.syntax.specs.Tree.{Stmt, Plain, If, While, Return, Test, Block, End, Next}
+use Rattle.syntax.specs.Views.{stmt_tree, block_tree}
 use Rattle.syntax.proofs.Blocks.{block_is, statements_tree}
 use Rattle.regions.specs.declared.fault.CheckError.{CheckError}
 use Rattle.regions.specs.declared.fault.CheckError.TheVariants.{Memory, Fault}
@@ -22,8 +18,7 @@ use Rattle.region_rules.specs.declared.rule.RegionRule.{RegionRule}
 use Rattle.region_rules.specs.declared.rule.RegionRule.TheVariants.{HeldBuffer, PathsDiffer, NoReturn}
 use Rattle.region_rules.specs.RegionStates.{RegionState}
 use Rattle.region_rules.specs.Regions.{Path, On, Returned, left, where_false}
-use Rattle.region_states.specs.NewNames.{own_names, AreNew, DeclaresNew}
-use Rattle.regions.specs.Walks.{Stops, Goes, Branches, Awaits, go_on, inner_path, plain_path}
+use Rattle.regions.specs.Walks.{Stops, Goes, Branches, Awaits, go_on, inner_path}
 use Rattle.region_states.specs.StatesInMemory.{names_of, holds_other}
 use Rattle.regions.specs.Paths.{Found, path_if, own_path, path_after, returned_before, join_paths, turn_path, path_of, path_of_block}
 use Rattle.syntax.specs.declared.unit.Item.{Item as ItemInMemory}
@@ -62,12 +57,10 @@ passed_names (Err e) now before test expected h = tt
 -- ---- statements
 
 pub path_is : (before : RegionState) (s : Stmt) → path_of before s ≡ own_path (first_broken before s) (line_of s) (inner_path before s)
-path_is before (If line test then') = refl
-path_is before (IfElse line test then' else') = refl
+path_is before (Plain line p) = refl
+path_is before (If line test then' else') = refl
 path_is before (While line test body) = refl
-path_is before (Return line) = refl
-path_is before (ReturnValue line e) = refl
-path_is before s = refl
+path_is before (Return line e) = refl
 
 -- the statement's own fault, and the path after it where it has none
 pub stmt_fault : (r : Result PathInMemory CheckError) (after before : RegionState) (s : StmtInMemory) (rule : RegionRule) → Some rule ≡ first_broken before (stmt_tree s) → Goes r after (Err (s.line, rule)) → Goes r after (path_of before (stmt_tree s))
@@ -77,42 +70,6 @@ stmt_fault r after before s rule h k =
 pub stmt_goes : (r : Result PathInMemory CheckError) (after before : RegionState) (s : StmtInMemory) → None ≡ first_broken before (stmt_tree s) → Goes r after (inner_path before (stmt_tree s)) → Goes r after (path_of before (stmt_tree s))
 stmt_goes r after before s h k =
     Goes-along r after _ _ (path_is before (stmt_tree s) ∙ ap (λ o. own_path o (line_of (stmt_tree s)) (inner_path before (stmt_tree s))) (sym h)) k
-
--- ---- statements without blocks
-
--- the statement in memory has no block
-abbrev pub HasNone : FormInMemory → Type 0
-HasNone f = ((t : TestInMemory) (b : BlockInMemory) → f ≡ form.If t b → ⊥) × ((t : TestInMemory) (b d : BlockInMemory) → f ≡ form.IfElse t b d → ⊥) × ((e : _) (b : BlockInMemory) → f ≡ form.While e b → ⊥)
-
-pub plain_is : (before : RegionState) (line : ℕ) (f : FormInMemory) → HasNone f → inner_path before (form_tree line f) ≡ plain_path before (form_tree line f)
-plain_is before line (form.Declare t x r) h = refl
-plain_is before line (form.DeclareBuffer t x r) h = refl
-plain_is before line (form.DeclareChars x r) h = refl
-plain_is before line (form.DeclareArray t x size) h = refl
-plain_is before line (form.Assign x r) h = refl
-plain_is before line (form.AssignElement x i e) h = refl
-plain_is before line (form.Perform c) h = refl
-plain_is before line (form.PutJint e) h = refl
-plain_is before line (form.If t b) h = absurd (h.0 t b refl)
-plain_is before line (form.IfElse t b d) h = absurd (h.1 t b d refl)
-plain_is before line (form.While e b) h = absurd (h.2 e b refl)
-plain_is before line (form.Return None) h = refl
-plain_is before line (form.Return (Some e)) h = refl
-
-pub plain_new : (names : List Identifier) (line : ℕ) (f : FormInMemory) → HasNone f → DeclaresNew names (form_tree line f) → (at : ℕ) → AreNew names (own_names (form_tree at f))
-plain_new names line (form.Declare t x r) h new at = new
-plain_new names line (form.DeclareBuffer t x r) h new at = new
-plain_new names line (form.DeclareChars x r) h new at = new
-plain_new names line (form.DeclareArray t x size) h new at = new
-plain_new names line (form.Assign x r) h new at = new
-plain_new names line (form.AssignElement x i e) h new at = new
-plain_new names line (form.Perform c) h new at = new
-plain_new names line (form.PutJint e) h new at = new
-plain_new names line (form.If t b) h new at = absurd (h.0 t b refl)
-plain_new names line (form.IfElse t b d) h new at = absurd (h.1 t b d refl)
-plain_new names line (form.While e b) h new at = absurd (h.2 e b refl)
-plain_new names line (form.Return None) h new at = new
-plain_new names line (form.Return (Some e)) h new at = new
 
 -- ---- blocks
 

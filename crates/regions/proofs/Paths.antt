@@ -1,15 +1,15 @@
 -- A path is kept just where it is the answer.
-use Rattle.std.proofs.Common.{◌≡◌, ℕ, zero, suc, Bool, true, false, not, ◌&&◌, ◌⊎◌, List, [], ◌∷◌, Option, Some, None, Result, Ok, Err, refl, sym, ap, ◌∙◌, subst, inl, inr, find, cond, true≢false}
+use Rattle.std.proofs.Common.{◌≡◌, ℕ, zero, suc, Bool, true, false, not, ◌&&◌, ◌⊎◌, List, [], ◌∷◌, Option, Some, None, Result, Ok, Err, refl, sym, ap, ◌∙◌, inl, inr, find, cond, true≢false}
 use Rattle.std.specs.List.{AllByRecursion, list_all, slice_get}
-use Rattle.syntax.specs.Tree.{Stmt, Declare, DeclareBuffer, DeclareChars, DeclareArray, Assign, AssignElement, Perform, PutJint, If, IfElse, While, Return, ReturnValue, Block, End, Next}
+use Rattle.syntax.specs.Tree.{Stmt, Plain, If, While, Return, Else, NoElse, ElseBlock, Block, End, Next}
 use Rattle.region_rules.specs.FirstFaults.{first_broken}
 use Rattle.region_rules.specs.declared.rule.RegionRule.{RegionRule}
 use Rattle.region_rules.specs.declared.rule.RegionRule.TheVariants.{HeldBuffer, PathsDiffer}
 use Rattle.region_rules.specs.RegionRules.{breaks_region_rule, own_rules, Obeys}
 use Rattle.region_rules.specs.RegionStates.{RegionState}
-use Rattle.region_rules.specs.Regions.{Path, On, Returned, Join, ComesBack, IsEnd, Keeps, KeepsBlock, holds_own, left, where_true, where_false}
+use Rattle.region_rules.specs.Regions.{Path, On, Returned, Join, ComesBack, IsEnd, Keeps, KeepsElse, KeepsBlock, holds_own, left, where_true, where_false}
 use Rattle.region_states.specs.SameStates.{same_state}
-use Rattle.regions.specs.Paths.{Found, own_path, path_after, path_if, returned_before, join_paths, turn_path, path_of, path_of_block}
+use Rattle.regions.specs.Paths.{Found, own_path, path_after, path_if, returned_before, join_paths, turn_path, path_of, path_of_else, path_of_block}
 use Rattle.region_states.proofs.Same.{state_decides}
 
 -- ---- the first rule of a list that is broken
@@ -130,28 +130,20 @@ plain_is before s line a w h = own_none (first_broken before s) line (Ok a) w (u
 
 mutual
   pub keeps : (before : RegionState) (s : Stmt) (w : Path) → path_of before s ≡ Ok w → Keeps before s w
-  keeps before (If line test then') w h =
-      let parts = own_ok (first_broken before (If line test then')) line _ w h in
-      let two = joined line (path_of_block before (where_true before test) then') (Ok (On (where_false before test))) w parts.1 in
-      (obeys before (If line test then') parts.0, two.0, keeps_block before (where_true before test) then' two.0 two.2, subst (λ b. Join two.0 b w) (ok_is (On (where_false before test)) two.1 two.3) two.4)
-  keeps before (IfElse line test then' else') w h =
-      let parts = own_ok (first_broken before (IfElse line test then' else')) line _ w h in
-      let two = joined line (path_of_block before (where_true before test) then') (path_of_block before (where_false before test) else') w parts.1 in
-      (obeys before (IfElse line test then' else') parts.0, two.0, two.1, keeps_block before (where_true before test) then' two.0 two.2, keeps_block before (where_false before test) else' two.1 two.3, two.4)
+  keeps before (If line test then' else') w h =
+      let parts = own_ok (first_broken before (If line test then' else')) line _ w h in
+      let two = joined line (path_of_block before (where_true before test) then') (path_of_else before (where_false before test) else') w parts.1 in
+      (obeys before (If line test then' else') parts.0, two.0, two.1, keeps_block before (where_true before test) then' two.0 two.2, keeps_else before (where_false before test) else' two.1 two.3, two.4)
   keeps before (While line test body) w h =
       let parts = own_ok (first_broken before (While line test body)) line _ w h in
       let turn = turned line before (path_of_block before before body) w parts.1 in
       (obeys before (While line test body) parts.0, turn.0, keeps_block before before body turn.0 turn.1, turn.2, turn.3)
-  keeps before (Return line) w h = plain before (Return line) line Returned w h
-  keeps before (ReturnValue line e) w h = plain before (ReturnValue line e) line Returned w h
-  keeps before (Declare line t x r) w h = plain before (Declare line t x r) line _ w h
-  keeps before (DeclareBuffer line t x r) w h = plain before (DeclareBuffer line t x r) line _ w h
-  keeps before (DeclareChars line x r) w h = plain before (DeclareChars line x r) line _ w h
-  keeps before (DeclareArray line t x size) w h = plain before (DeclareArray line t x size) line _ w h
-  keeps before (Assign line x r) w h = plain before (Assign line x r) line _ w h
-  keeps before (AssignElement line x i e) w h = plain before (AssignElement line x i e) line _ w h
-  keeps before (Perform line c) w h = plain before (Perform line c) line _ w h
-  keeps before (PutJint line e) w h = plain before (PutJint line e) line _ w h
+  keeps before (Return line e) w h = plain before (Return line e) line Returned w h
+  keeps before (Plain line p) w h = plain before (Plain line p) line _ w h
+
+  pub keeps_else : (outer before : RegionState) (b : Else) (w : Path) → path_of_else outer before b ≡ Ok w → KeepsElse outer before b w
+  keeps_else outer before NoElse w h = ok_is (On before) w h
+  keeps_else outer before (ElseBlock b) w h = keeps_block outer before b w h
 
   pub keeps_block : (outer before : RegionState) (b : Block) (w : Path) → path_of_block outer before b ≡ Ok w → KeepsBlock outer before b w
   keeps_block outer before (End line) w h = if_ok (not (holds_own outer before)) (On (left outer before)) w (line, HeldBuffer) h
@@ -168,26 +160,19 @@ joined_is line r q a b w e f h = ap (λ x. join_paths line x q) e ∙ ap (λ x. 
 
 mutual
   pub answers : (before : RegionState) (s : Stmt) (w : Path) → Keeps before s w → path_of before s ≡ Ok w
-  answers before (If line test then') w h =
-      own_none (first_broken before (If line test then')) line _ w (unbroken before (If line test then') h.0)
-      (joined_is line (path_of_block before (where_true before test) then') (Ok (On (where_false before test))) h.1 (On (where_false before test)) w (answers_block before (where_true before test) then' h.1 h.2) refl h.3)
-  answers before (IfElse line test then' else') w h =
-      own_none (first_broken before (IfElse line test then' else')) line _ w (unbroken before (IfElse line test then' else') h.0)
-      (joined_is line (path_of_block before (where_true before test) then') (path_of_block before (where_false before test) else') h.1 h.2 w
-      (answers_block before (where_true before test) then' h.1 h.3) (answers_block before (where_false before test) else' h.2 h.4) h.5)
+  answers before (If line test then' else') w h =
+      own_none (first_broken before (If line test then' else')) line _ w (unbroken before (If line test then' else') h.0)
+      (joined_is line (path_of_block before (where_true before test) then') (path_of_else before (where_false before test) else') h.1 h.2 w
+      (answers_block before (where_true before test) then' h.1 h.3) (answers_else before (where_false before test) else' h.2 h.4) h.5)
   answers before (While line test body) w h =
       own_none (first_broken before (While line test body)) line _ w (unbroken before (While line test body) h.0)
       (ap (turn_path line before) (answers_block before before body h.1 h.2) ∙ turn_is line before h.1 h.3 ∙ ap Ok (sym h.4))
-  answers before (Return line) w h = plain_is before (Return line) line Returned w h
-  answers before (ReturnValue line e) w h = plain_is before (ReturnValue line e) line Returned w h
-  answers before (Declare line t x r) w h = plain_is before (Declare line t x r) line _ w h
-  answers before (DeclareBuffer line t x r) w h = plain_is before (DeclareBuffer line t x r) line _ w h
-  answers before (DeclareChars line x r) w h = plain_is before (DeclareChars line x r) line _ w h
-  answers before (DeclareArray line t x size) w h = plain_is before (DeclareArray line t x size) line _ w h
-  answers before (Assign line x r) w h = plain_is before (Assign line x r) line _ w h
-  answers before (AssignElement line x i e) w h = plain_is before (AssignElement line x i e) line _ w h
-  answers before (Perform line c) w h = plain_is before (Perform line c) line _ w h
-  answers before (PutJint line e) w h = plain_is before (PutJint line e) line _ w h
+  answers before (Return line e) w h = plain_is before (Return line e) line Returned w h
+  answers before (Plain line p) w h = plain_is before (Plain line p) line _ w h
+
+  pub answers_else : (outer before : RegionState) (b : Else) (w : Path) → KeepsElse outer before b w → path_of_else outer before b ≡ Ok w
+  answers_else outer before NoElse w h = ap Ok (sym h)
+  answers_else outer before (ElseBlock b) w h = answers_block outer before b w h
 
   pub answers_block : (outer before : RegionState) (b : Block) (w : Path) → KeepsBlock outer before b w → path_of_block outer before b ≡ Ok w
   answers_block outer before (End line) w h = if_true (not (holds_own outer before)) (On (left outer before)) (line, HeldBuffer) h.0 ∙ ap Ok (sym h.1)

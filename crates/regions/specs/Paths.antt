@@ -1,6 +1,6 @@
 -- The path after a statement or its first fault, as a function of the tree.
 use Rattle.std.specs.Prelude.{ℕ, Bool, true, false, not, Option, Some, None, Result, Ok, Err}
-use Rattle.syntax.specs.Tree.{Stmt, If, IfElse, While, Return, ReturnValue, Block, End, Next}
+use Rattle.syntax.specs.Tree.{Stmt, Plain, If, While, Return, Else, NoElse, ElseBlock, Block, End, Next}
 use Rattle.syntax.specs.Parts.{line_of}
 use Rattle.region_rules.specs.RegionStates.{RegionState, state_after}
 use Rattle.region_rules.specs.declared.rule.RegionRule.{RegionRule}
@@ -51,15 +51,16 @@ turn_path line before (Ok (On after)) = path_if (same_state after before) (On be
 abbrev mutual
   -- the path after a statement, or its first fault
   pub path_of : RegionState → Stmt → Result Path Found
-  path_of before (If line test then') = own_path (first_broken before (If line test then')) line
-      (join_paths line (path_of_block before (where_true before test) then') (Ok (On (where_false before test))))
-  path_of before (IfElse line test then' else') = own_path (first_broken before (IfElse line test then' else')) line
-      (join_paths line (path_of_block before (where_true before test) then')
-      (path_of_block before (where_false before test) else'))
+  path_of before (If line test then' else') = own_path (first_broken before (If line test then' else')) line
+      (join_paths line (path_of_block before (where_true before test) then') (path_of_else before (where_false before test) else'))
   path_of before (While line test body) = own_path (first_broken before (While line test body)) line (turn_path line before (path_of_block before before body))
-  path_of before (Return line) = own_path (first_broken before (Return line)) line (Ok Returned)
-  path_of before (ReturnValue line e) = own_path (first_broken before (ReturnValue line e)) line (Ok Returned)
-  path_of before s = own_path (first_broken before s) (line_of s) (Ok (On (state_after before s)))
+  path_of before (Return line e) = own_path (first_broken before (Return line e)) line (Ok Returned)
+  path_of before (Plain line p) = own_path (first_broken before (Plain line p)) line (Ok (On (state_after before (Plain line p))))
+
+  -- the same of the second block of an `if`, where it has one
+  pub path_of_else : RegionState → RegionState → Else → Result Path Found
+  path_of_else outer before NoElse = Ok (On before)
+  path_of_else outer before (ElseBlock b) = path_of_block outer before b
 
   -- the same of the rest of a block
   pub path_of_block : RegionState → RegionState → Block → Result Path Found

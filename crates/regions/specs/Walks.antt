@@ -1,17 +1,16 @@
 -- The walk over the paths of a function, as the code takes it.
-use Rattle.std.specs.Prelude.{◌≡◌, if◌then◌else◌, Result, Ok, Err}
-use Rattle.syntax.specs.Tree.{Stmt, If, IfElse, While, Return, ReturnValue, Block}
+use Rattle.std.specs.Prelude.{◌≡◌, Result, Ok, Err}
+use Rattle.syntax.specs.Tree.{Stmt, Plain, If, While, Return, Block}
 use Rattle.regions.specs.declared.fault.CheckError.{CheckError}
 use Rattle.regions.specs.declared.fault.CheckError.TheVariants.{Memory, Fault}
 use Rattle.regions.specs.declared.joins.Path.{Path as PathInMemory}
 use Rattle.regions.specs.declared.joins.Path.TheVariants as path
 use Rattle.regions.specs.declared.joins.Branch.{Branch}
 use Rattle.regions.specs.Findings.{fault_of}
-use Rattle.region_rules.specs.RegionRules.{is_return}
 use Rattle.region_rules.specs.RegionStates.{RegionState, state_after}
 use Rattle.region_rules.specs.Regions.{Path, On, Returned, where_true, where_false}
 use Rattle.region_states.specs.StatesInMemory.{names_of, IsSaved}
-use Rattle.regions.specs.Paths.{Found, path_after, returned_before, join_paths, turn_path, path_of_block}
+use Rattle.regions.specs.Paths.{Found, path_after, returned_before, join_paths, turn_path, path_of_block, path_of_else}
 
 -- a path of the definitions, or the fault
 abbrev pub PathOrFault : Type 0
@@ -46,16 +45,10 @@ Awaits (Err e) now = Unit {0}
 abbrev pub go_on : RegionState → Path → Block → PathOrFault
 go_on outer path rest = path_after (Ok path) (λ middle. path_of_block outer middle rest) (returned_before rest)
 
--- the path after a statement without blocks
-abbrev pub plain_path : RegionState → Stmt → PathOrFault
-plain_path before s = if is_return s then Ok Returned else Ok (On (state_after before s))
-
 -- the path after a statement that keeps the rules itself
 abbrev pub inner_path : RegionState → Stmt → PathOrFault
-inner_path before (If line test then') = join_paths line (path_of_block before (where_true before test) then') (Ok (On (where_false before test)))
-inner_path before (IfElse line test then' else') = join_paths line (path_of_block before (where_true before test) then')
-    (path_of_block before (where_false before test) else')
+inner_path before (If line test then' else') =
+    join_paths line (path_of_block before (where_true before test) then') (path_of_else before (where_false before test) else')
 inner_path before (While line test body) = turn_path line before (path_of_block before before body)
-inner_path before (Return line) = Ok Returned
-inner_path before (ReturnValue line e) = Ok Returned
-inner_path before s = Ok (On (state_after before s))
+inner_path before (Return line e) = Ok Returned
+inner_path before (Plain line p) = Ok (On (state_after before (Plain line p)))

@@ -21,48 +21,20 @@ use region_states::calls::{
 use region_states::names_used::{reads, uses};
 use region_states::states::{Condition, FlowState, VariableState, is_level};
 use semantics::Level;
-use syntax::Form;
+use syntax::{Form, PlainStmt};
 
 /// Whether a statement returns.
-pub(crate) fn is_return(form: &Form) -> bool
+fn is_return(form: &Form) -> bool
     ensures { (line : ℕ) → result ≡ is_return (form_tree line form.now) }
 {
-    match form {
-        Form::Return(None) => true,
-        Form::Return(Some(_)) => true,
-        Form::Declare(..)
-        | Form::DeclareBuffer(..)
-        | Form::DeclareChars(..)
-        | Form::DeclareArray(..)
-        | Form::AssignElement(..)
-        | Form::Perform(_)
-        | Form::If(..)
-        | Form::IfElse(..)
-        | Form::While(..)
-        | Form::Assign(..)
-        | Form::PutJint(_) => false,
-    }
+    matches!(form, Form::Return(_))
 }
 
 /// Whether a statement prints.
 fn is_put_jint(form: &Form) -> bool
     ensures { (line : ℕ) → result ≡ is_put_jint (form_tree line form.now) }
 {
-    match form {
-        Form::PutJint(_) => true,
-        Form::Return(None) => false,
-        Form::Return(Some(_)) => false,
-        Form::Declare(..)
-        | Form::DeclareBuffer(..)
-        | Form::DeclareChars(..)
-        | Form::DeclareArray(..)
-        | Form::AssignElement(..)
-        | Form::Perform(_)
-        | Form::If(..)
-        | Form::IfElse(..)
-        | Form::While(..)
-        | Form::Assign(..) => false,
-    }
+    matches!(form, Form::Plain(PlainStmt::PutJint(_)))
 }
 
 /// The variable that an assignment sets.
@@ -70,19 +42,8 @@ pub(crate) fn assigned_name(form: &Form) -> Option<&[u8]>
     ensures { (line : ℕ) → option_map (λ x. x.now) result ≡ assigned_name (form_tree line form.now) }
 {
     match form {
-        Form::Assign(x, _) => Some(x.as_bytes()),
-        Form::Return(None) => None,
-        Form::Return(Some(_)) => None,
-        Form::Declare(..)
-        | Form::DeclareBuffer(..)
-        | Form::DeclareChars(..)
-        | Form::DeclareArray(..)
-        | Form::AssignElement(..)
-        | Form::Perform(_)
-        | Form::If(..)
-        | Form::IfElse(..)
-        | Form::While(..)
-        | Form::PutJint(_) => None,
+        Form::Plain(PlainStmt::Assign(x, _)) => Some(x.as_bytes()),
+        _ => None,
     }
 }
 

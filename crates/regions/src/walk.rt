@@ -4,26 +4,26 @@ ghost use Rattle.std.specs.Prelude.{◌≡◌, ◌≤◌, ◌++◌, ℕ, List, O
 ghost use Rattle.std.specs.Option.{option_to_list};
 ghost use Rattle.base.specs.Bytes.{Identifier};
 ghost use Rattle.std.specs.List.{AllByRecursion};
-ghost use Rattle.syntax.specs.Tree.{End};
-ghost use Rattle.syntax.specs.Views.{block_tree, stmt_tree, test_tree, form_tree, function_tree, item_tree};
+ghost use Rattle.syntax.specs.Tree.{End, Plain};
+ghost use Rattle.syntax.specs.Views.{block_tree, stmt_tree, test_tree, plain_tree, form_tree, function_tree, item_tree};
 ghost use Rattle.region_rules.specs.RegionStates.{RegionState, state_at_entry};
 ghost use Rattle.region_rules.specs.Regions.{where_true, where_false};
 ghost use Rattle.regions.specs.Paths.{Found, join_paths, path_of, path_of_block};
 ghost use Rattle.region_states.specs.StatesInMemory.{names_of, Grows};
-ghost use Rattle.region_states.specs.NewNames.{own_names, AreNew, DeclaresNew, DeclareNew, DeclaresOnce, ItemOnce};
+ghost use Rattle.region_states.specs.NewNames.{plain_names, own_names, AreNew, DeclaresNew, DeclareNew, DeclaresOnce, ItemOnce};
 ghost use Rattle.regions.specs.Findings.{Finds, fault_of, function_fault, item_fault, items_fault, items_faults};
-ghost use Rattle.regions.specs.Walks.{PathOrFault, path_value, Goes, Branches, Awaits, go_on, plain_path, inner_path};
+ghost use Rattle.regions.specs.Walks.{PathOrFault, path_value, Goes, Branches, Awaits, go_on, inner_path};
 
 use crate::fault::{CheckError, RegionFault};
 use crate::joins::{Branch, Path, join, no_turn, one_path, refuse, take_else, take_then};
-use crate::rules::{first_broken, is_return};
+use crate::rules::first_broken;
 use crate::telling::{end_detail, held_detail, statement_detail, unreached_detail};
 use places::{Fault, Line};
 use region_rules::RegionRule;
 use region_states::states::{FlowState, VariableState};
 use semantics::CALL_LEVEL;
 use std::alloc::{AllocError, Global};
-use syntax::{Block, Form, Function, Item, ParameterType, Stmt, Test};
+use syntax::{Block, Else, Form, Function, Item, ParameterType, PlainStmt, Stmt, Test};
 
 /// A block's end on this line, where the block began with this many variables and its path so far is this one.
 fn end(state: &mut FlowState, count: usize, path: Path, line: usize) -> Result<Path, CheckError>
@@ -48,18 +48,14 @@ fn end(state: &mut FlowState, count: usize, path: Path, line: usize) -> Result<P
     }
 }
 
-/// The path after a statement without blocks.
+/// The path after a plain statement.
 #[inline(always)]
-fn plain_path<'a>(state: &mut FlowState<'a>, form: &'a Form) -> Result<Path, CheckError>
-    requires { (line : ℕ) → AreNew (names_of state.old) (own_names (form_tree line form.now)) }
-    ensures goes { (line : ℕ) → Goes result state.new (plain_path state.old (form_tree line form.now)) }
-    ensures names { (line : ℕ) → IfOk result (λ _. names_of state.new
-        ≡ names_of state.old ++ own_names (form_tree line form.now)) }
+fn plain_path<'a>(state: &mut FlowState<'a>, plain: &'a PlainStmt) -> Result<Path, CheckError>
+    requires { AreNew (names_of state.old) (plain_names (plain_tree plain.now)) }
+    ensures goes { (line : ℕ) → Goes result state.new (inner_path state.old (Plain line (plain_tree plain.now))) }
+    ensures names { IfOk result (λ _. names_of state.new ≡ names_of state.old ++ plain_names (plain_tree plain.now)) }
 {
-    if is_return(form) {
-        return Ok(Path::Returned);
-    }
-    state.pass(form)?;
+    state.pass(plain)?;
     Ok(Path::On)
 }
 
@@ -124,19 +120,19 @@ fn inner_path<'a>(
     ensures names { IfOk result (λ _. names_of state.new ≡ names_of state.old ++ own_names (form_tree line form.now)) }
 {
     match form {
-        Form::If(test, b) => {
+        Form::Plain(plain) => plain_path(state, plain),
+        Form::If(test, b, other) => {
             let first = then_path(alloc, state, test, b);
-            one_path(state, line, first)
-        }
-        Form::IfElse(test, b, d) => {
-            let first = then_path(alloc, state, test, b);
-            other_path(alloc, state, line, first, d)
+            match other {
+                Else::Nothing => one_path(state, line, first),
+                Else::Block(d) => other_path(alloc, state, line, first, d),
+            }
         }
         Form::While(_, b) => {
             let before = no_turn(alloc, state);
             other_path(alloc, state, line, before, b)
         }
-        _ => plain_path(state, form),
+        Form::Return(_) => Ok(Path::Returned),
     }
 }
 
@@ -163,10 +159,10 @@ fn stmt_path<'a>(
     match first_broken(state, &stmt.form) {
         Some(rule) => refuse_statement(state, stmt, rule),
         None => match &stmt.form {
-            Form::If(..) | Form::IfElse(..) | Form::While(..) => {
+            Form::Plain(plain) => plain_path(state, plain),
+            Form::If(..) | Form::While(..) | Form::Return(_) => {
                 inner_path(alloc, state, stmt.line, &stmt.form)
             }
-            _ => plain_path(state, &stmt.form),
         },
     }
 }

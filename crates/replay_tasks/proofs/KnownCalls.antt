@@ -5,15 +5,15 @@ use Rattle.std.specs.List.{list_any, list_all}
 use Rattle.std.proofs.lemmas.Bool.{and_from}
 use Rattle.std.proofs.lemmas.List.Folds.{list_all-append}
 use Rattle.base.specs.Bytes.{Identifier}
-use Rattle.syntax.specs.Parts.{functions_of, line_of, names_declared, parameter_names, statements_of, statements_within}
+use Rattle.syntax.specs.Parts.{functions_of, line_of, names_declared, parameter_names, statements_inside, statements_of, statements_within}
 use Rattle.syntax.specs.declared.unit.ResultType.{ResultType}
 use Rattle.syntax.specs.declared.unit.ResultType.TheVariants.{Void}
-use Rattle.syntax.specs.Tree.{Stmt, If, IfElse, While, Block, End, Next, Function, Item, StaticItem, FunctionItem, SourceUnit}
+use Rattle.syntax.specs.Tree.{Stmt, If, NoElse, ElseBlock, While, Block, End, Next, Function, Item, StaticItem, FunctionItem, SourceUnit}
 use Rattle.type_rules.specs.declared.ty.ExprType.TheVariants.{Ref}
 use Rattle.type_rules.specs.ExprTypes.{Scope}
 use Rattle.type_rules.specs.declared.rule.TypeRule.{TypeRule}
 use Rattle.type_rules.specs.declared.rule.TypeRule.TheVariants.{UnknownName, DeclaredTwice, TypeMisfit, UnknownFunction, ArgumentCount, ReferenceCopied, BadMode, ReadOnlyWrite}
-use Rattle.type_rules.specs.TypeRules.{typing_rules, Place, StaticForm, HeadForm, StatementForm, breaks, broken_at, parameter_type, with_declared, places_within, places_of, function_places, item_places, IsWellTyped, static_type}
+use Rattle.type_rules.specs.TypeRules.{typing_rules, Place, StaticForm, HeadForm, breaks, broken_at, parameter_type, with_declared, statement_place, places_inside, places_within, places_of, function_places, item_places, IsWellTyped, static_type}
 use Rattle.type_rules.proofs.PlaceLists.{AreUnbroken, first_empty, second_empty, front_unbroken, back_unbroken, none_broken, first_false, second_false}
 use Rattle.replay_tasks.specs.Tasks.{calls_known}
 
@@ -27,13 +27,10 @@ after_types = UnknownFunction ∷ after_functions
 abbrev after_twice : List TypeRule
 after_twice = TypeMisfit ∷ after_types
 
-abbrev place_of : ResultType → Scope → List Identifier → Stmt → Place
-place_of returns known taken s = record { line = line_of s; known = known; taken = taken; returns = returns; form = StatementForm s }
-
 -- a statement that breaks no rule
-here : (returns : ResultType) (known : Scope) (taken : List Identifier) (s : Stmt) → broken_at (place_of returns known taken s) ≡ [] → calls_known s ≡ true
+here : (returns : ResultType) (known : Scope) (taken : List Identifier) (s : Stmt) → broken_at (statement_place returns known taken s) ≡ [] → calls_known s ≡ true
 here returns known taken s none =
-    let place = place_of returns known taken s in
+    let place = statement_place returns known taken s in
     let p : TypeRule → Bool = λ rule. breaks rule place place.form in
     let names = second_false (p UnknownName) (list_any p (DeclaredTwice ∷ after_twice)) (none_broken p (line_of s) typing_rules none) in
     let twice = second_false (p DeclaredTwice) (list_any p after_twice) names in
@@ -44,38 +41,27 @@ joined : (xs ys : List Stmt) → list_all calls_known xs ≡ true → list_all c
 joined xs ys h k = list_all-append calls_known xs ys ∙ and_from (list_all calls_known xs) (list_all calls_known ys) h k
 
 mutual
-  within : (returns : ResultType) (known : Scope) (taken : List Identifier) (s : Stmt) → AreUnbroken (places_within returns known taken s) → list_all calls_known (statements_within s) ≡ true
-  within returns known taken (If line test then') h =
-      let s = If line test then' in
-      let inside = places_of returns known taken then' in
-      and_from (calls_known s) (list_all calls_known (statements_of then'))
-      (here returns known taken s (first_empty (broken_at (place_of returns known taken s)) (flat_map broken_at inside) h))
-      (block returns known taken then' (second_empty (broken_at (place_of returns known taken s)) (flat_map broken_at inside) h))
-  within returns known taken (IfElse line test then' else') h =
-      let s = IfElse line test then' else' in
+  inner : (returns : ResultType) (known : Scope) (taken : List Identifier) (s : Stmt) → AreUnbroken (places_inside returns known taken s) → list_all calls_known (statements_inside s) ≡ true
+  inner returns known taken (If line test then' NoElse) h = block returns known taken then' h
+  inner returns known taken (If line test then' (ElseBlock else')) h =
       let front = places_of returns known taken then' in
       let back = places_of returns known (taken ++ names_declared (statements_of then')) else' in
-      let inside = second_empty (broken_at (place_of returns known taken s)) (flat_map broken_at (front ++ back)) h in
-      and_from (calls_known s) (list_all calls_known (statements_of then' ++ statements_of else'))
-      (here returns known taken s (first_empty (broken_at (place_of returns known taken s)) (flat_map broken_at (front ++ back)) h))
-      (joined (statements_of then') (statements_of else')
-      (block returns known taken then' (front_unbroken front back inside))
-      (block returns known (taken ++ names_declared (statements_of then')) else' (back_unbroken front back inside)))
-  within returns known taken (While line test body) h =
-      let s = While line test body in
-      let inside = places_of returns known taken body in
-      and_from (calls_known s) (list_all calls_known (statements_of body))
-      (here returns known taken s (first_empty (broken_at (place_of returns known taken s)) (flat_map broken_at inside) h))
-      (block returns known taken body (second_empty (broken_at (place_of returns known taken s)) (flat_map broken_at inside) h))
-  within returns known taken s h = and_from (calls_known s) true (here returns known taken s (first_empty (broken_at (place_of returns known taken s)) [] h)) refl
+      joined (statements_of then') (statements_of else')
+      (block returns known taken then' (front_unbroken front back h))
+      (block returns known (taken ++ names_declared (statements_of then')) else' (back_unbroken front back h))
+  inner returns known taken (While line test body) h = block returns known taken body h
+  inner returns known taken s h = refl
 
   block : (returns : ResultType) (known : Scope) (taken : List Identifier) (b : Block) → AreUnbroken (places_of returns known taken b) → list_all calls_known (statements_of b) ≡ true
   block returns known taken (End line) h = refl
   block returns known taken (Next s rest) h =
       let front = places_within returns known taken s in
       let back = places_of returns (with_declared known s) (taken ++ names_declared (statements_within s)) rest in
+      let place = statement_place returns known taken s in
+      let own = front_unbroken front back h in
+      let inside = flat_map broken_at (places_inside returns known taken s) in
       joined (statements_within s) (statements_of rest)
-      (within returns known taken s (front_unbroken front back h))
+      (and_from (calls_known s) (list_all calls_known (statements_inside s)) (here returns known taken s (first_empty (broken_at place) inside own)) (inner returns known taken s (second_empty (broken_at place) inside own)))
       (block returns (with_declared known s) (taken ++ names_declared (statements_within s)) rest (back_unbroken front back h))
 
 -- ---- functions

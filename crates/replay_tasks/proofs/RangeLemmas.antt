@@ -16,7 +16,7 @@ use Rattle.syntax.specs.declared.stmt.Stmt.{Stmt}
 use Rattle.syntax.specs.declared.unit.Item.{Item}
 use Rattle.syntax.specs.declared.unit.Function.{Function as FunctionInMemory}
 use Rattle.syntax.specs.Tree as tree
-use Rattle.syntax.specs.Tree.{Argument, Declare, DeclareBuffer, DeclareChars, DeclareArray, Assign, AssignElement, Perform, PutJint, If, IfElse, While, Return, ReturnValue}
+use Rattle.syntax.specs.Tree.{Argument, Plain, If, NoElse, ElseBlock, While, Return}
 use Rattle.syntax.specs.Limits.{IsTree, numbers_in_range}
 use Rattle.syntax.specs.Parts.{argument_expressions, functions_of, statements_of, statements_within}
 use Rattle.syntax.specs.Views.{argument_tree, stmt_tree, block_tree, function_tree, unit_tree}
@@ -52,27 +52,19 @@ module _ (q : tree.Stmt → Bool) where
   both xs ys h = and_parts (list_all q xs) (list_all q ys) (sym (list_all-append q xs ys) ∙ h)
 
   abbrev Inside : tree.Stmt → Type 0
-  Inside (If line test b) = list_all q (statements_of b) ≡ true
-  Inside (IfElse line test b d) = (list_all q (statements_of b) ≡ true) × (list_all q (statements_of d) ≡ true)
+  Inside (If line test b NoElse) = list_all q (statements_of b) ≡ true
+  Inside (If line test b (ElseBlock d)) = (list_all q (statements_of b) ≡ true) × (list_all q (statements_of d) ≡ true)
   Inside (While line test body) = list_all q (statements_of body) ≡ true
   Inside s = Unit {0}
 
   inside : (s : tree.Stmt) → list_all q (statements_within s) ≡ true → (q s ≡ true) × Inside s
-  inside (Declare line t x r) h = ((and_parts (q (Declare line t x r)) true h).0, tt)
-  inside (DeclareBuffer line t x r) h = ((and_parts (q (DeclareBuffer line t x r)) true h).0, tt)
-  inside (DeclareChars line x r) h = ((and_parts (q (DeclareChars line x r)) true h).0, tt)
-  inside (DeclareArray line t x size) h = ((and_parts (q (DeclareArray line t x size)) true h).0, tt)
-  inside (Assign line x r) h = ((and_parts (q (Assign line x r)) true h).0, tt)
-  inside (AssignElement line x i e) h = ((and_parts (q (AssignElement line x i e)) true h).0, tt)
-  inside (Perform line c) h = ((and_parts (q (Perform line c)) true h).0, tt)
-  inside (PutJint line e) h = ((and_parts (q (PutJint line e)) true h).0, tt)
-  inside (If line test b) h = and_parts (q (If line test b)) (list_all q (statements_of b)) h
-  inside (IfElse line test b d) h =
-      let parts = and_parts (q (IfElse line test b d)) (list_all q (statements_of b ++ statements_of d)) h in
+  inside (Plain line p) h = ((and_parts (q (Plain line p)) true h).0, tt)
+  inside (If line test b NoElse) h = and_parts (q (If line test b NoElse)) (list_all q (statements_of b)) h
+  inside (If line test b (ElseBlock d)) h =
+      let parts = and_parts (q (If line test b (ElseBlock d))) (list_all q (statements_of b ++ statements_of d)) h in
       (parts.0, both (statements_of b) (statements_of d) parts.1)
   inside (While line test body) h = and_parts (q (While line test body)) (list_all q (statements_of body)) h
-  inside (Return line) h = ((and_parts (q (Return line)) true h).0, tt)
-  inside (ReturnValue line e) h = ((and_parts (q (ReturnValue line e)) true h).0, tt)
+  inside (Return line e) h = ((and_parts (q (Return line e)) true h).0, tt)
 
   first : (s : tree.Stmt) (after : List tree.Stmt) → list_all q (statements_within s ++ after) ≡ true → (q s ≡ true) × Inside s × (list_all q after ≡ true)
   first s after h =
@@ -81,19 +73,11 @@ module _ (q : tree.Stmt → Bool) where
       (s_parts.0, s_parts.1, parts.1)
 
 inside_in_range : (s : tree.Stmt) → Inside has_numbers_in_range s → Inside calls_known s → InsideInRange s
-inside_in_range (Declare line t x r) n c = tt
-inside_in_range (DeclareBuffer line t x r) n c = tt
-inside_in_range (DeclareChars line x r) n c = tt
-inside_in_range (DeclareArray line t x size) n c = tt
-inside_in_range (Assign line x r) n c = tt
-inside_in_range (AssignElement line x i e) n c = tt
-inside_in_range (Perform line call) n c = tt
-inside_in_range (PutJint line e) n c = tt
-inside_in_range (If line test b) n c = record { numbers = n; known = c }
-inside_in_range (IfElse line test b d) n c = (record { numbers = n.0; known = c.0 }, record { numbers = n.1; known = c.1 })
+inside_in_range (Plain line p) n c = tt
+inside_in_range (If line test b NoElse) n c = record { numbers = n; known = c }
+inside_in_range (If line test b (ElseBlock d)) n c = (record { numbers = n.0; known = c.0 }, record { numbers = n.1; known = c.1 })
 inside_in_range (While line test body) n c = record { numbers = n; known = c }
-inside_in_range (Return line) n c = tt
-inside_in_range (ReturnValue line e) n c = tt
+inside_in_range (Return line e) n c = tt
 
 statements_in_range : (statements : List Stmt) (end_line : ℕ) → BlockInRange (statements_tree statements end_line) → StatementsInRange statements
 statements_in_range [] end_line h = tt

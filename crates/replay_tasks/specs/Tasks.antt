@@ -7,12 +7,10 @@ use Rattle.base.specs.Bytes.{Identifier}
 use Rattle.base.specs.Options.{some_passes}
 use Rattle.syntax.specs.declared.expr.Expr.{Expr as ExprInMemory}
 use Rattle.syntax.specs.declared.stmt.Block.{Block as BlockInMemory, out-Block}
-use Rattle.syntax.specs.declared.stmt.Form.{Form as FormInMemory}
-use Rattle.syntax.specs.declared.stmt.Form.TheVariants as form
 use Rattle.syntax.specs.declared.stmt.Stmt.{Stmt as StmtInMemory}
 use Rattle.syntax.specs.Limits.{numbers_in_range}
 use Rattle.syntax.specs.Parts.{argument_expressions, statements_of, own_call, own_expressions, right_side_expressions, test_expressions, call_of_right_side}
-use Rattle.syntax.specs.Tree.{Argument, Call, Expr, RightSide, Test, TestExpr, TestCall, Stmt, If, IfElse, While, Block}
+use Rattle.syntax.specs.Tree.{Argument, Call, Expr, RightSide, Test, TestExpr, TestCall, Stmt, If, NoElse, ElseBlock, While, Block}
 use Rattle.syntax.specs.Views.{expr_tree, stmt_tree, block_tree}
 use Rattle.jni.specs.JniFunction.{function_named}
 use Rattle.semantics.specs.Task.{Task, SetScalar, SetElement, SetNull, MakeArray, Invoke, Print, Branch, EndIf, Loop, EndTurn, Return, ReturnValue, task_of}
@@ -101,15 +99,6 @@ is_unknown_call c = is_none (function_named c.function)
 abbrev pub calls_known : Stmt → Bool
 calls_known s = not (some_passes is_unknown_call (own_call s))
 
--- a statement that prints, branches, loops or returns
-abbrev pub IsControl : FormInMemory → Type 0
-IsControl (form.PutJint e) = Unit {0}
-IsControl (form.If test b) = Unit {0}
-IsControl (form.IfElse test b d) = Unit {0}
-IsControl (form.While test body) = Unit {0}
-IsControl (form.Return e) = Unit {0}
-IsControl f = ⊥
-
 -- both, of each statement in a block and inside it
 pub record BlockInRange (b : Block) : Type 0 where
   pub numbers : IsTrue (list_all has_numbers_in_range (statements_of b))
@@ -117,8 +106,8 @@ pub record BlockInRange (b : Block) : Type 0 where
 
 -- the same of the blocks inside a statement
 abbrev pub InsideInRange : Stmt → Type 0
-InsideInRange (If line test b) = BlockInRange b
-InsideInRange (IfElse line test b d) = BlockInRange b × BlockInRange d
+InsideInRange (If line test b NoElse) = BlockInRange b
+InsideInRange (If line test b (ElseBlock d)) = BlockInRange b × BlockInRange d
 InsideInRange (While line test body) = BlockInRange body
 InsideInRange s = Unit {0}
 

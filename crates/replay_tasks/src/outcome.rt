@@ -1,12 +1,12 @@
 //! What a step of a task does.
 
 ghost use Rattle.std.specs.Prelude.{◌≡◌};
-ghost use Rattle.semantics.specs.Task.{kind_of};
+ghost use Rattle.semantics.specs.Task.{kind_of, variable_kind};
 ghost use Rattle.replay_tasks.specs.Outcomes.{kind_view};
 
 use replay_terms::{Given, Lent, Value};
 use semantics::{ObjectId, Trap};
-use syntax::{Block, ElementType, Expr, Name, VariableType};
+use syntax::{Block, DeclaredType, ElementType, Expr, Name, VariableType};
 
 /// What a declaration makes.
 #[derive(Clone, Copy)]
@@ -114,8 +114,19 @@ pub enum Outcome<'a> {
 }
 
 /// What a declaration of this type makes.
-pub(crate) fn kind_of(t: VariableType) -> VariableKind
+pub(crate) fn kind_of(t: DeclaredType) -> VariableKind
     ensures { kind_view result ≡ kind_of t }
+{
+    match t {
+        DeclaredType::Simple(t) => variable_kind(t),
+        DeclaredType::Pointer(element) => VariableKind::Buffer(element),
+        DeclaredType::ConstChars => VariableKind::Buffer(ElementType::Char),
+    }
+}
+
+/// The same of a type that is a name alone.
+fn variable_kind(t: VariableType) -> VariableKind
+    ensures { kind_view result ≡ variable_kind t }
 {
     match t {
         VariableType::Uint32 | VariableType::Jint => VariableKind::Number,

@@ -1,12 +1,13 @@
 //! Tasks: statements that are begun.
 
-ghost use Rattle.std.specs.Prelude.{◌≡◌, IfOk, None, Some};
-ghost use Rattle.syntax.specs.Views.{stmt_tree, expr_tree, right_side_tree, test_tree, block_tree};
+ghost use Rattle.std.specs.Prelude.{◌≡◌, IfOk, IsTrue, None, Some};
+ghost use Rattle.syntax.specs.Views.{stmt_tree, expr_tree, right_side_tree, test_tree, plain_tree, block_tree};
 ghost use Rattle.syntax.specs.Shapes.{ref_tree};
-ghost use Rattle.semantics.specs.Task.{Declared, Loop, Print, ReturnValue, SetElement, set_task, right_side_task, if_task, task_of};
+ghost use Rattle.syntax.specs.Tree.{Plain};
+ghost use Rattle.semantics.specs.Task.{Declared, Loop, Print, ReturnValue, SetElement, set_task, right_side_task, if_task, plain_task, task_of};
 ghost use Rattle.semantics.specs.Term.{term_of};
 ghost use Rattle.replay_tasks.specs.Outcomes.{else_tree, kind_view, target_view};
-ghost use Rattle.replay_tasks.specs.Tasks.{ExprInRange, RightSideInRange, TestInRange, BlockInRange, ElseInRange, StatementInRange, Begins, BegunInRange, IsControl};
+ghost use Rattle.replay_tasks.specs.Tasks.{ExprInRange, RightSideInRange, TestInRange, BlockInRange, ElseInRange, StatementInRange, has_numbers_in_range, calls_known, Begins, BegunInRange};
 
 use crate::call::call_task;
 use crate::outcome::{Purpose, Target, VariableKind, kind_of};
@@ -14,7 +15,8 @@ use jni::JniFunction;
 use replay_terms::{Operands, Term, term_of};
 use std::alloc::{AllocError, Global};
 use syntax::{
-    Block, Constant, ElementType, Expr, ExprRef, Form, Name, RightSide, Shape, Stmt, Test,
+    Block, Constant, ElementType, Else, Expr, ExprRef, Form, Name, PlainStmt, RightSide, Shape,
+    Stmt, Test,
 };
 
 /// A call that is to do.
@@ -431,55 +433,44 @@ pub fn task_of<'a>(
     end_task(place);
     let line = s.line;
     match &s.form {
-        Form::Declare(t, x, right) => declaration(alloc, place, line, kind_of(*t), x, right),
-        Form::DeclareBuffer(t, x, right) => {
-            declaration(alloc, place, line, VariableKind::Buffer(*t), x, right)
-        }
-        Form::DeclareChars(x, right) => {
-            declaration(
-                alloc,
-                place,
-                line,
-                VariableKind::Buffer(ElementType::Char),
-                x,
-                right,
-            )
-        }
-        Form::DeclareArray(t, x, size) => {
-            put_task(place, Task::MakeArray(*t, x, *size));
-            Ok(())
-        }
-        Form::Assign(x, right) => set_task(alloc, place, line, Target::Assigned(x), x, right),
-        Form::AssignElement(x, i, e) => element_task(alloc, place, line, x, i, e),
-        Form::Perform(call) => call_task(alloc, place, line, Purpose::Put(Target::Dropped), call),
-        _ => control_task(alloc, place, s),
-    }
-}
-
-/// Begins a statement that prints, branches, loops or returns.
-#[inline(never)]
-fn control_task<'a>(
-    alloc: Global,
-    place: &mut Option<Task<'a>>,
-    s: &'a Stmt,
-) -> Result<(), AllocError>
-    requires none { place.old ≡ None }
-    requires numbers { StatementInRange s.now }
-    requires control { IsControl s.now.form }
-    ensures view { IfOk result (λ _. Begins (task_of (stmt_tree s.entry.now)) place.new) }
-    ensures range { IfOk result (λ _. BegunInRange place.new) }
-{
-    let line = s.line;
-    match &s.form {
-        Form::PutJint(e) => print_task(alloc, place, line, e),
-        Form::If(test, block) => if_task(alloc, place, line, test, block, None),
-        Form::IfElse(test, block, other) => if_task(alloc, place, line, test, block, Some(other)),
+        Form::Plain(plain) => plain_task(alloc, place, line, plain),
+        Form::If(test, block, other) => match other {
+            Else::Nothing => if_task(alloc, place, line, test, block, None),
+            Else::Block(other) => if_task(alloc, place, line, test, block, Some(other)),
+        },
         Form::While(test, body) => begin_loop(alloc, place, line, test, body),
         Form::Return(None) => {
             put_task(place, Task::Return);
             Ok(())
         }
         Form::Return(Some(e)) => return_task(alloc, place, line, e),
-        _ => unreachable!(),
+    }
+}
+
+/// Begins a plain statement.
+fn plain_task<'a>(
+    alloc: Global,
+    place: &mut Option<Task<'a>>,
+    line: usize,
+    plain: &'a PlainStmt,
+) -> Result<(), AllocError>
+    requires none { place.old ≡ None }
+    requires numbers { IsTrue (has_numbers_in_range (Plain line (plain_tree plain.now))) }
+    requires known { IsTrue (calls_known (Plain line (plain_tree plain.now))) }
+    ensures view { IfOk result (λ _. Begins (plain_task line (plain_tree plain.entry.now)) place.new) }
+    ensures range { IfOk result (λ _. BegunInRange place.new) }
+{
+    match plain {
+        PlainStmt::Declare(t, x, right) => declaration(alloc, place, line, kind_of(*t), x, right),
+        PlainStmt::DeclareArray(t, x, size) => {
+            put_task(place, Task::MakeArray(*t, x, *size));
+            Ok(())
+        }
+        PlainStmt::Assign(x, right) => set_task(alloc, place, line, Target::Assigned(x), x, right),
+        PlainStmt::AssignElement(x, i, e) => element_task(alloc, place, line, x, i, e),
+        PlainStmt::Perform(call) => {
+            call_task(alloc, place, line, Purpose::Put(Target::Dropped), call)
+        }
+        PlainStmt::PutJint(e) => print_task(alloc, place, line, e),
     }
 }

@@ -1,5 +1,7 @@
 -- What a thread has still to do of its call: statements, of which the first may be begun (ISO/IEC 9899:1999, 6.8).
 use Rattle.std.specs.Prelude.{ℕ, List, [], ◌∷◌, Option, Some, None, length, zip, map}
+use Rattle.syntax.specs.declared.declared_type.DeclaredType.{DeclaredType}
+use Rattle.syntax.specs.declared.declared_type.DeclaredType.TheVariants.{Simple, Pointer, ConstChars}
 use Rattle.syntax.specs.Tree as tree
 use Rattle.syntax.specs.declared.declared_type.VariableType.TheVariants as variables
 use Rattle.base.specs.Bytes.{Identifier}
@@ -8,7 +10,7 @@ use Rattle.base.specs.declared.element.ElementType.TheVariants.{Char as JChar}
 use Rattle.syntax.specs.declared.declared_type.VariableType.{VariableType}
 use Rattle.syntax.specs.declared.declared_type.VariableType.TheVariants.{JfieldId as JFieldId, JmethodId as JMethodId}
 use Rattle.syntax.specs.declared.expr.Constant.TheVariants.{Null}
-use Rattle.syntax.specs.Tree.{Expr, Argument, RightSide, FromExpr, FromCall, Call, Test, TestExpr, TestCall, Stmt, Block, End, Next}
+use Rattle.syntax.specs.Tree.{Expr, Argument, RightSide, FromExpr, FromCall, Call, Test, TestExpr, TestCall, PlainStmt, Stmt, Else, NoElse, ElseBlock, Block, End, Next}
 use Rattle.jni.specs.declared.function.JniFunction.{JniFunction}
 use Rattle.jni.specs.JniFunction.{function_named, parameters_for}
 use Rattle.jni.specs.declared.kinds.ParameterKind.{ParameterKind}
@@ -75,11 +77,17 @@ abbrev pub call_task : ℕ → Target → Call → Task
 call_task line target call = invocation line target call (function_named call.function)
 
 -- what `type name = ..` makes
-abbrev pub kind_of : VariableType → VariableKind
-kind_of (variables.Reference type) = ReferenceKind
-kind_of JFieldId = FieldKind
-kind_of JMethodId = MethodKind
-kind_of type = ScalarKind
+abbrev pub variable_kind : VariableType → VariableKind
+variable_kind (variables.Reference type) = ReferenceKind
+variable_kind JFieldId = FieldKind
+variable_kind JMethodId = MethodKind
+variable_kind type = ScalarKind
+
+-- what a declaration makes that is of no local array
+abbrev pub kind_of : DeclaredType → VariableKind
+kind_of (Simple type) = variable_kind type
+kind_of (Pointer type) = BufferKind type
+kind_of ConstChars = BufferKind JChar
 
 -- a value for a variable: NULL, or a number that is worked out first
 abbrev pub set_task : ℕ → Target → Identifier → Expr → Task
@@ -96,21 +104,31 @@ abbrev pub if_task : ℕ → Test → Block → Block → Task
 if_task line (TestExpr e) then' else' = Branch line (term_of e) then' else'
 if_task line (TestCall call) then' else' = call_task line (Tested then' else') call
 
+-- a return
+abbrev pub return_task : ℕ → Option Expr → Task
+return_task line None = Return
+return_task line (Some e) = ReturnValue line (term_of e)
+
+-- the second block of an `if` on this line, or an empty one
+abbrev pub else_block : ℕ → Else → Block
+else_block line NoElse = End line
+else_block line (ElseBlock b) = b
+
+-- a plain statement before its first step
+abbrev pub plain_task : ℕ → PlainStmt → Task
+plain_task line (tree.Declare type x right) = right_side_task line (Declared (kind_of type) x) x right
+plain_task line (tree.DeclareArray type x n) = MakeArray type x n
+plain_task line (tree.Assign x right) = right_side_task line (Assigned x) x right
+plain_task line (tree.AssignElement x i e) = SetElement line x (term_of i) (term_of e)
+plain_task line (tree.Perform call) = call_task line Dropped call
+plain_task line (tree.PutJint e) = Print line (term_of e)
+
 -- a statement before its first step
 abbrev pub task_of : Stmt → Task
-task_of (tree.Declare line type x right) = right_side_task line (Declared (kind_of type) x) x right
-task_of (tree.DeclareBuffer line kind x right) = right_side_task line (Declared (BufferKind kind) x) x right
-task_of (tree.DeclareChars line x right) = right_side_task line (Declared (BufferKind JChar) x) x right
-task_of (tree.DeclareArray line kind x n) = MakeArray kind x n
-task_of (tree.Assign line x right) = right_side_task line (Assigned x) x right
-task_of (tree.AssignElement line x i e) = SetElement line x (term_of i) (term_of e)
-task_of (tree.Perform line call) = call_task line Dropped call
-task_of (tree.PutJint line e) = Print line (term_of e)
-task_of (tree.If line test then') = if_task line test then' (End line)
-task_of (tree.IfElse line test then' else') = if_task line test then' else'
+task_of (tree.Plain line p) = plain_task line p
+task_of (tree.If line test then' else') = if_task line test then' (else_block line else')
 task_of (tree.While line test body) = Loop line test (term_of test) body
-task_of (tree.Return line) = Return
-task_of (tree.ReturnValue line e) = ReturnValue line (term_of e)
+task_of (tree.Return line e) = return_task line e
 
 -- the statements of a block in their order
 abbrev pub tasks_of : Block → List Task

@@ -219,9 +219,9 @@ held_before p call y access a h =
 level_rule : (n : ℕ) (o : Option VariableState) (l : ℕ) (a : Bool) → o ≡ Some (ReferenceAt l a) → (is_reference_now o && not (is_level n o)) ≡ false → l ≡ n
 level_rule n o l a e h = (Decides-eqb l n).0 (not-false (l == n) (ap (λ (o : Option VariableState). is_reference_now o && not (is_level n o)) (sym e) ∙ h))
 
-module _ (p : Point) (taken : List Identifier) (known : IsKnown p taken) (line : ℕ) (x : Identifier) (r : RightSide) (obeys : Obeys p.regions (tree.Assign line x r)) where
+module _ (p : Point) (taken : List Identifier) (known : IsKnown p taken) (line : ℕ) (x : Identifier) (r : RightSide) (obeys : Obeys p.regions (tree.Plain line (tree.Assign x r))) where
   abbrev s : Stmt
-  s = tree.Assign line x r
+  s = tree.Plain line (tree.Assign x r)
 
   abbrev q : Point
   q = at p (after_call p.regions (function_called s))
@@ -294,9 +294,9 @@ free_before o access arguments there b is e h =
 get_keeps : (state : RegionState) (o : Option FunctionCall) (access : Access) (arguments : List Argument) → o ≡ Some (GetBuffer access, arguments) → after_call state o ≡ state
 get_keeps state o access arguments is = ap (after_call state) is
 
-module _ (p : Point) (taken : List Identifier) (returns : ResultType) (known : IsKnown p taken) (line : ℕ) (x : Identifier) (c : Call) (obeys : Obeys p.regions (tree.Assign line x (FromCall c))) (call : IsCalled p (tree.Assign line x (FromCall c)) c) (k : Point → Type 0) where
+module _ (p : Point) (taken : List Identifier) (returns : ResultType) (known : IsKnown p taken) (line : ℕ) (x : Identifier) (c : Call) (obeys : Obeys p.regions (tree.Plain line (tree.Assign x (FromCall c)))) (call : IsCalled p (tree.Plain line (tree.Assign x (FromCall c))) c) (k : Point → Type 0) where
   abbrev stmt : Stmt
-  stmt = tree.Assign line x (FromCall c)
+  stmt = tree.Plain line (tree.Assign x (FromCall c))
 
   abbrev later : Point
   later = at p (after_call p.regions (function_called stmt))
@@ -344,9 +344,9 @@ module _ (p : Point) (taken : List Identifier) (returns : ResultType) (known : I
         subst (λ (o : Option ExprType). AssignsResult later o x (GivesBuffer access) get k) (sym of.2) (buffer access of.0 of.1 is (e ∙ of.2) (ap (is_buffer_for access) (sym of.2) ∙ fit))
     assigned o e GivesNothing is fit = absurd (cc)
 
-pub assign_call : (line : ℕ) (x : Identifier) (c : Call) → Gives (tree.Assign line x (FromCall c))
+pub assign_call : (line : ℕ) (x : Identifier) (c : Call) → Gives (tree.Plain line (tree.Assign x (FromCall c)))
 assign_call line x c p taken returns path k known kept (obeys, is) h =
-    let s = tree.Assign line x (FromCall c) in
+    let s = tree.Plain line (tree.Assign x (FromCall c)) in
     let call = call_there p taken returns s c known kept obeys refl refl in
     let result = (prototype call.function).result in
     let both = and_parts (not (rules.is_push call.function)) (result_fits (type_in p.names x) result) (ap (call_fits (type_in p.names x)) (sym call.is_named) ∙ kept.fits) in
@@ -361,9 +361,9 @@ value_kin : (taken : List Identifier) (e : Expr) (u : VariableState) → Kin tak
 value_kin taken e (ReferenceAt l a) = tt
 value_kin taken e (BufferIn b) = λ access a h. absurd (cc)
 
-module _ (p : Point) (taken : List Identifier) (known : IsKnown p taken) (line : ℕ) (x : Identifier) (e : Expr) (obeys : Obeys p.regions (tree.Assign line x (FromExpr e))) (k : Point → Type 0) (now : k (at p (with_changed p.regions x (set_to (FromExpr e))))) where
+module _ (p : Point) (taken : List Identifier) (known : IsKnown p taken) (line : ℕ) (x : Identifier) (e : Expr) (obeys : Obeys p.regions (tree.Plain line (tree.Assign x (FromExpr e)))) (k : Point → Type 0) (now : k (at p (with_changed p.regions x (set_to (FromExpr e))))) where
   reads : MayRead p.regions e
-  reads = (first_read p.regions e [] (statement_reads p.regions (tree.Assign line x (FromExpr e)) obeys)).0
+  reads = (first_read p.regions e [] (statement_reads p.regions (tree.Plain line (tree.Assign x (FromExpr e))) obeys)).0
 
   number : (t : ExprType) → IsNumberType t → (HasState t → ⊥) → type_in p.names x ≡ Some t → type_of p.names e ≡ Some t → RunsPlain (set_task line (Assigned x) x e) k p
   number t numbered stateless at' is = scalar_runs p taken line (Assigned x) x e t k known numbered is reads (inl (at', stateless_same p taken known x (set_to (FromExpr e)) k t at' stateless now))
@@ -385,7 +385,7 @@ module _ (p : Point) (taken : List Identifier) (known : IsKnown p taken) (line :
   valued (Some types.MethodId) at' fit uncopied = null (Some types.MethodId) at' fit (stateless_same p taken known x (set_to (FromExpr e)) k types.MethodId at' (λ h. h) now)
   valued o at' fit uncopied = absurd (cc)
 
-pub assign_value : (line : ℕ) (x : Identifier) (e : Expr) → Gives (tree.Assign line x (FromExpr e))
+pub assign_value : (line : ℕ) (x : Identifier) (e : Expr) → Gives (tree.Plain line (tree.Assign x (FromExpr e)))
 assign_value line x e p taken returns path k known kept (obeys, is) h =
     let after = at p (with_changed p.regions x (set_to (FromExpr e))) in
     let now = h after.regions is (known_more after taken (taken ++ []) (covers_front taken []) (known_one p taken known x (set_to (FromExpr e)) (λ y u at'. value_kin taken e u))) in

@@ -1,7 +1,7 @@
 -- What is wanted of a block is wanted of its statements, one after the other.
 use Rattle.std.proofs.Common.{inl, inr, List, ◌++◌, Option, Some, None}
 use Rattle.base.specs.Bytes.{Identifier}
-use Rattle.syntax.specs.Tree.{Stmt, If, IfElse, While, Block, End, Next, TestExpr, TestCall, Call}
+use Rattle.syntax.specs.Tree.{Stmt, If, While, Else, NoElse, ElseBlock, Block, End, Next, TestExpr, TestCall, Call}
 use Rattle.jni.specs.declared.access.Access.{Access}
 use Rattle.jni.specs.declared.function.JniFunction.{JniFunction}
 use Rattle.jni.specs.JniFunction.{prototype, function_named}
@@ -15,7 +15,7 @@ use Rattle.semantics.specs.Task as task
 use Rattle.semantics.specs.Task.{Task, SetScalar, SetElement, SetNull, MakeArray, Invoke, Print, Target, Declared, Assigned, Tested, Dropped, VariableKind, ScalarKind, ReferenceKind, FieldKind, MethodKind, BufferKind, invocation, task_of, tasks_of}
 use Rattle.semantics.specs.Term.{Term, term_of}
 use Rattle.semantics_safety.specs.Points.{Point}
-use Rattle.semantics_safety.specs.Wanted.{Outside, DeclaresNull, AssignsNull, SetsNullThere, DeclaresResult, AssignsResult, ResultGoes, call_seen, RunsPlain, RunsPush, RunsTest, RunsBlock, RunsStmt, Runs, GoesOn}
+use Rattle.semantics_safety.specs.Wanted.{Outside, DeclaresNull, AssignsNull, SetsNullThere, DeclaresResult, AssignsResult, ResultGoes, call_seen, RunsPlain, RunsPush, RunsTest, RunsBlock, RunsStmt, RunsElse, Runs, GoesOn}
 
 -- ---- what is wanted after may be weaker
 
@@ -98,16 +98,16 @@ mutual
   block_more (Next s rest) k l h p r = stmt_more s (RunsBlock rest k) (RunsBlock rest l) (block_more rest k l h) p r
 
   stmt_more : (s : Stmt) (k l : Point → Type 0) → k ⇒ l → RunsStmt s k ⇒ RunsStmt s l
-  stmt_more (If line (TestExpr e) a) k l h p r =
-      test_more (RunsBlock a (Outside k)) (Outside k) (RunsBlock a (Outside l)) (Outside l) (block_more a (Outside k) (Outside l) (outside_more k l h)) (outside_more k l h) (term_of e) p r
-  stmt_more (If line (TestCall c) a) k l h p r =
-      push_more (RunsBlock a (Outside k)) (Outside k) (RunsBlock a (Outside l)) (Outside l) (block_more a (Outside k) (Outside l) (outside_more k l h)) (outside_more k l h) (task_of (If line (TestCall c) a)) p r
-  stmt_more (IfElse line (TestExpr e) a b) k l h p r =
-      test_more (RunsBlock a (Outside k)) (RunsBlock b (Outside k)) (RunsBlock a (Outside l)) (RunsBlock b (Outside l)) (block_more a (Outside k) (Outside l) (outside_more k l h)) (block_more b (Outside k) (Outside l) (outside_more k l h)) (term_of e) p r
-  stmt_more (IfElse line (TestCall c) a b) k l h p r =
-      push_more (RunsBlock a (Outside k)) (RunsBlock b (Outside k)) (RunsBlock a (Outside l)) (RunsBlock b (Outside l)) (block_more a (Outside k) (Outside l) (outside_more k l h)) (block_more b (Outside k) (Outside l) (outside_more k l h)) (task_of (IfElse line (TestCall c) a b)) p r
+  stmt_more (If line (TestExpr e) a b) k l h p r =
+      test_more (RunsBlock a (Outside k)) (RunsElse b (Outside k)) (RunsBlock a (Outside l)) (RunsElse b (Outside l)) (block_more a (Outside k) (Outside l) (outside_more k l h)) (else_more b (Outside k) (Outside l) (outside_more k l h)) (term_of e) p r
+  stmt_more (If line (TestCall c) a b) k l h p r =
+      push_more (RunsBlock a (Outside k)) (RunsElse b (Outside k)) (RunsBlock a (Outside l)) (RunsElse b (Outside l)) (block_more a (Outside k) (Outside l) (outside_more k l h)) (else_more b (Outside k) (Outside l) (outside_more k l h)) (task_of (If line (TestCall c) a b)) p r
   stmt_more (While line e body) k l h p r = (r.0, r.1, h p r.2)
   stmt_more s k l h p r = plain_more k l h (task_of s) p r
+
+  else_more : (b : Else) (k l : Point → Type 0) → k ⇒ l → RunsElse b k ⇒ RunsElse b l
+  else_more NoElse k l h p r = h p r
+  else_more (ElseBlock b) k l h p r = block_more b k l h p r
 
 -- ---- tasks of statements
 
@@ -130,10 +130,10 @@ pushed line c None a b k p r = absurd r
 pushed line c (Some f) a b k p r = r
 
 pub stmt_runs : (s : Stmt) (k : Point → Type 0) → RunsStmt s k ⇒ Runs (task_of s) k
-stmt_runs (If line (TestExpr e) a) k p r = r
-stmt_runs (If line (TestCall c) a) k p r = pushed line c (function_named c.function) a (End line) k p r
-stmt_runs (IfElse line (TestExpr e) a b) k p r = r
-stmt_runs (IfElse line (TestCall c) a b) k p r = pushed line c (function_named c.function) a b k p r
+stmt_runs (If line (TestExpr e) a NoElse) k p r = r
+stmt_runs (If line (TestCall c) a NoElse) k p r = pushed line c (function_named c.function) a (End line) k p r
+stmt_runs (If line (TestExpr e) a (ElseBlock b)) k p r = r
+stmt_runs (If line (TestCall c) a (ElseBlock b)) k p r = pushed line c (function_named c.function) a b k p r
 stmt_runs (While line e body) k p r = (r.0, (r.0, r.1), r.2)
 stmt_runs s k p r = plain_runs (task_of s) k p r
 

@@ -5,6 +5,7 @@ use Rattle.std.proofs.lemmas.Bool.{and_parts}
 use Rattle.base.specs.Bytes.{Identifier}
 use Rattle.base.specs.declared.element.ElementType.{ElementType}
 use Rattle.base.specs.declared.element.ElementType.TheVariants.{Char as JChar}
+use Rattle.syntax.specs.declared.declared_type.DeclaredType.TheVariants.{Simple, Pointer, ConstChars}
 use Rattle.syntax.specs.Tree as tree
 use Rattle.syntax.specs.declared.declared_type.VariableType.{VariableType}
 use Rattle.syntax.specs.declared.declared_type.VariableType.TheVariants.{Uint32 as UInt32, Jint as JIntVariable, Jsize as JSize, Jboolean as JBoolean, JfieldId as JFieldId, JmethodId as JMethodId, Reference as ReferenceVariable}
@@ -22,7 +23,7 @@ use Rattle.type_rules.specs.TypeRules as rules
 use Rattle.type_rules.specs.TypeRules.{has_name, variable_type, result_fits, call_fits}
 use Rattle.type_rules.proofs.TypeTests.{jint_is, flag_is, word_is, null_is, first_passed}
 use Rattle.region_rules.specs.RegionStates.{Free, BufferIn, ReferenceAt, held_by, get_of, buffer_from, function_called, after_call, with_new, with_set, FunctionCall}
-use Rattle.semantics.specs.Task.{Declared, ScalarKind, ReferenceKind, FieldKind, MethodKind, BufferKind, set_task, kind_of}
+use Rattle.semantics.specs.Task.{Declared, ScalarKind, ReferenceKind, FieldKind, MethodKind, BufferKind, set_task, variable_kind}
 use Rattle.semantics_safety.specs.Points.{Point}
 use Rattle.semantics_safety.specs.Wanted.{CallKeeps, DeclaresResult, RunsPlain, at}
 use Rattle.semantics_safety.proofs.ArgumentFits.{first_read, buffer_for}
@@ -34,18 +35,18 @@ use Rattle.semantics_safety.proofs.PathsGive.{Gives}
 
 -- ---- values
 
-pub declare_value : (line : ℕ) (t : VariableType) (x : Identifier) (e : Expr) → Gives (tree.Declare line t x (FromExpr e))
+pub declare_value : (line : ℕ) (t : VariableType) (x : Identifier) (e : Expr) → Gives (tree.Plain line (tree.Declare (Simple t) x (FromExpr e)))
 declare_value line UInt32 x e p taken returns path k known kept (obeys, is) h =
-    let read = (first_read p.regions e [] (statement_reads p.regions (tree.Declare line UInt32 x (FromExpr e)) obeys)).0 in
+    let read = (first_read p.regions e [] (statement_reads p.regions (tree.Plain line (tree.Declare (Simple UInt32) x (FromExpr e))) obeys)).0 in
     scalar_runs p taken line (Declared ScalarKind x) x e Word k known tt (word_is (type_of p.names e) kept.fits) read (inr (is_new p taken x known kept.new, h p.regions is (known_named p taken known x kept.new Word tt)))
 declare_value line JIntVariable x e p taken returns path k known kept (obeys, is) h =
-    let read = (first_read p.regions e [] (statement_reads p.regions (tree.Declare line JIntVariable x (FromExpr e)) obeys)).0 in
+    let read = (first_read p.regions e [] (statement_reads p.regions (tree.Plain line (tree.Declare (Simple JIntVariable) x (FromExpr e))) obeys)).0 in
     scalar_runs p taken line (Declared ScalarKind x) x e Jint k known tt (jint_is (type_of p.names e) kept.fits) read (inr (is_new p taken x known kept.new, h p.regions is (known_named p taken known x kept.new Jint tt)))
 declare_value line JSize x e p taken returns path k known kept (obeys, is) h =
-    let read = (first_read p.regions e [] (statement_reads p.regions (tree.Declare line JSize x (FromExpr e)) obeys)).0 in
+    let read = (first_read p.regions e [] (statement_reads p.regions (tree.Plain line (tree.Declare (Simple JSize) x (FromExpr e))) obeys)).0 in
     scalar_runs p taken line (Declared ScalarKind x) x e Jint k known tt (jint_is (type_of p.names e) kept.fits) read (inr (is_new p taken x known kept.new, h p.regions is (known_named p taken known x kept.new Jint tt)))
 declare_value line JBoolean x e p taken returns path k known kept (obeys, is) h =
-    let read = (first_read p.regions e [] (statement_reads p.regions (tree.Declare line JBoolean x (FromExpr e)) obeys)).0 in
+    let read = (first_read p.regions e [] (statement_reads p.regions (tree.Plain line (tree.Declare (Simple JBoolean) x (FromExpr e))) obeys)).0 in
     scalar_runs p taken line (Declared ScalarKind x) x e Flag k known tt (flag_is (type_of p.names e) kept.fits) read (inr (is_new p taken x known kept.new, h p.regions is (known_named p taken known x kept.new Flag tt)))
 declare_value line JFieldId x e p taken returns path k known kept (obeys, is) h =
     subst (λ (e : Expr). RunsPlain (set_task line (Declared FieldKind x) x e) k p) (sym (null_is e kept.fits)) (is_new p taken x known kept.new, h p.regions is (known_named p taken known x kept.new types.FieldId tt))
@@ -58,12 +59,12 @@ declare_value line (ReferenceVariable r) x e p taken returns path k known kept (
 nothing_held : (access : Access) (a : Identifier) → held_by Free ≡ Some (access, a) → ⊥
 nothing_held access a h = cc
 
-pub declare_buffer : (line : ℕ) (t : ElementType) (x : Identifier) (e : Expr) → Gives (tree.DeclareBuffer line t x (FromExpr e))
+pub declare_buffer : (line : ℕ) (t : ElementType) (x : Identifier) (e : Expr) → Gives (tree.Plain line (tree.Declare (Pointer t) x (FromExpr e)))
 declare_buffer line t x e p taken returns path k known kept (obeys, is) h =
     subst (λ (e : Expr). RunsPlain (set_task line (Declared (BufferKind t) x) x e) k p) (sym (null_is e kept.fits))
     (is_new p taken x known kept.new, (true, h (with_new p.regions x (BufferIn Free)) is (known_new p taken known x kept.new (Buffer t true) (BufferIn Free) (λ access a g. absurd (nothing_held access a g)))))
 
-pub declare_chars : (line : ℕ) (x : Identifier) (e : Expr) → Gives (tree.DeclareChars line x (FromExpr e))
+pub declare_chars : (line : ℕ) (x : Identifier) (e : Expr) → Gives (tree.Plain line (tree.Declare ConstChars x (FromExpr e)))
 declare_chars line x e p taken returns path k known kept (obeys, is) h =
     subst (λ (e : Expr). RunsPlain (set_task line (Declared (BufferKind JChar) x) x e) k p) (sym (null_is e kept.fits))
     (is_new p taken x known kept.new, (false, h (with_new p.regions x (BufferIn Free)) is (known_new p taken known x kept.new (Buffer JChar false) (BufferIn Free) (λ access a g. absurd (nothing_held access a g)))))
@@ -102,8 +103,8 @@ no_weak_result (ReferenceVariable r) h = cc
 
 module _ (q : Point) (taken : List Identifier) (known : IsKnown q taken) (x : Identifier) (new : has_name taken x ≡ false) (k : Point → Type 0) where
   declared_result : (line : ℕ) (c : Call) (t : VariableType) (result : ResultKind) (get : Option (Access × Option Identifier)) → result_fits (Some (variable_type t)) result ≡ true
-      → (IsKnown (record { names = (x, variable_type t) ∷ q.names; regions = with_set q.regions (tree.Declare line t x (FromCall c)) }) (taken ++ x ∷ []) → k (record { names = (x, variable_type t) ∷ q.names; regions = with_set q.regions (tree.Declare line t x (FromCall c)) }))
-      → DeclaresResult q (kind_of t) x result get k
+      → (IsKnown (record { names = (x, variable_type t) ∷ q.names; regions = with_set q.regions (tree.Plain line (tree.Declare (Simple t) x (FromCall c))) }) (taken ++ x ∷ []) → k (record { names = (x, variable_type t) ∷ q.names; regions = with_set q.regions (tree.Plain line (tree.Declare (Simple t) x (FromCall c))) }))
+      → DeclaresResult q (variable_kind t) x result get k
   declared_result line c t (GivesBuffer access) get fit h = absurd (no_buffer_result t access fit)
   declared_result line c t NewGlobal get fit h = absurd (no_global_result t fit)
   declared_result line c t NewWeak get fit h = absurd (no_weak_result t fit)
@@ -135,65 +136,65 @@ called_taken p taken known f arguments keeps call is access a h = get_taken p ta
 
 -- by the type, a statement's names and states are worked out
 abbrev CallGives : VariableType → Type 1
-CallGives t = (line : ℕ) (x : Identifier) (c : Call) → Gives (tree.Declare line t x (FromCall c))
+CallGives t = (line : ℕ) (x : Identifier) (c : Call) → Gives (tree.Plain line (tree.Declare (Simple t) x (FromCall c)))
 
 declare_word : CallGives UInt32
 declare_word line x c p taken returns path k known kept (obeys, is) h =
-    let s = tree.Declare line UInt32 x (FromCall c) in
+    let s = tree.Plain line (tree.Declare (Simple UInt32) x (FromCall c)) in
     let call = call_there p taken returns s c known kept obeys refl refl in
     let result = (prototype call.function).result in
     let both = and_parts (not (rules.is_push call.function)) (result_fits (Some (variable_type UInt32)) result) (ap (call_fits (Some (variable_type UInt32))) (sym call.is_named) ∙ kept.fits) in
     let q = at p (after_call p.regions (function_called s)) in
-    call_runs p s line (Declared (kind_of UInt32) x) c k call both.0 (declared_result q taken (known_called p taken s known obeys) x kept.new k line c UInt32 result (get_of (function_called s)) both.1 (h q.regions is))
+    call_runs p s line (Declared (variable_kind UInt32) x) c k call both.0 (declared_result q taken (known_called p taken s known obeys) x kept.new k line c UInt32 result (get_of (function_called s)) both.1 (h q.regions is))
 
 declare_jint : CallGives JIntVariable
 declare_jint line x c p taken returns path k known kept (obeys, is) h =
-    let s = tree.Declare line JIntVariable x (FromCall c) in
+    let s = tree.Plain line (tree.Declare (Simple JIntVariable) x (FromCall c)) in
     let call = call_there p taken returns s c known kept obeys refl refl in
     let result = (prototype call.function).result in
     let both = and_parts (not (rules.is_push call.function)) (result_fits (Some (variable_type JIntVariable)) result) (ap (call_fits (Some (variable_type JIntVariable))) (sym call.is_named) ∙ kept.fits) in
     let q = at p (after_call p.regions (function_called s)) in
-    call_runs p s line (Declared (kind_of JIntVariable) x) c k call both.0 (declared_result q taken (known_called p taken s known obeys) x kept.new k line c JIntVariable result (get_of (function_called s)) both.1 (h q.regions is))
+    call_runs p s line (Declared (variable_kind JIntVariable) x) c k call both.0 (declared_result q taken (known_called p taken s known obeys) x kept.new k line c JIntVariable result (get_of (function_called s)) both.1 (h q.regions is))
 
 declare_size : CallGives JSize
 declare_size line x c p taken returns path k known kept (obeys, is) h =
-    let s = tree.Declare line JSize x (FromCall c) in
+    let s = tree.Plain line (tree.Declare (Simple JSize) x (FromCall c)) in
     let call = call_there p taken returns s c known kept obeys refl refl in
     let result = (prototype call.function).result in
     let both = and_parts (not (rules.is_push call.function)) (result_fits (Some (variable_type JSize)) result) (ap (call_fits (Some (variable_type JSize))) (sym call.is_named) ∙ kept.fits) in
     let q = at p (after_call p.regions (function_called s)) in
-    call_runs p s line (Declared (kind_of JSize) x) c k call both.0 (declared_result q taken (known_called p taken s known obeys) x kept.new k line c JSize result (get_of (function_called s)) both.1 (h q.regions is))
+    call_runs p s line (Declared (variable_kind JSize) x) c k call both.0 (declared_result q taken (known_called p taken s known obeys) x kept.new k line c JSize result (get_of (function_called s)) both.1 (h q.regions is))
 
 declare_flag : CallGives JBoolean
 declare_flag line x c p taken returns path k known kept (obeys, is) h =
-    let s = tree.Declare line JBoolean x (FromCall c) in
+    let s = tree.Plain line (tree.Declare (Simple JBoolean) x (FromCall c)) in
     let call = call_there p taken returns s c known kept obeys refl refl in
     let result = (prototype call.function).result in
     let both = and_parts (not (rules.is_push call.function)) (result_fits (Some (variable_type JBoolean)) result) (ap (call_fits (Some (variable_type JBoolean))) (sym call.is_named) ∙ kept.fits) in
     let q = at p (after_call p.regions (function_called s)) in
-    call_runs p s line (Declared (kind_of JBoolean) x) c k call both.0 (declared_result q taken (known_called p taken s known obeys) x kept.new k line c JBoolean result (get_of (function_called s)) both.1 (h q.regions is))
+    call_runs p s line (Declared (variable_kind JBoolean) x) c k call both.0 (declared_result q taken (known_called p taken s known obeys) x kept.new k line c JBoolean result (get_of (function_called s)) both.1 (h q.regions is))
 
 declare_field : CallGives JFieldId
 declare_field line x c p taken returns path k known kept (obeys, is) h =
-    let s = tree.Declare line JFieldId x (FromCall c) in
+    let s = tree.Plain line (tree.Declare (Simple JFieldId) x (FromCall c)) in
     let call = call_there p taken returns s c known kept obeys refl refl in
     let result = (prototype call.function).result in
     let both = and_parts (not (rules.is_push call.function)) (result_fits (Some (variable_type JFieldId)) result) (ap (call_fits (Some (variable_type JFieldId))) (sym call.is_named) ∙ kept.fits) in
     let q = at p (after_call p.regions (function_called s)) in
-    call_runs p s line (Declared (kind_of JFieldId) x) c k call both.0 (declared_result q taken (known_called p taken s known obeys) x kept.new k line c JFieldId result (get_of (function_called s)) both.1 (h q.regions is))
+    call_runs p s line (Declared (variable_kind JFieldId) x) c k call both.0 (declared_result q taken (known_called p taken s known obeys) x kept.new k line c JFieldId result (get_of (function_called s)) both.1 (h q.regions is))
 
 declare_method : CallGives JMethodId
 declare_method line x c p taken returns path k known kept (obeys, is) h =
-    let s = tree.Declare line JMethodId x (FromCall c) in
+    let s = tree.Plain line (tree.Declare (Simple JMethodId) x (FromCall c)) in
     let call = call_there p taken returns s c known kept obeys refl refl in
     let result = (prototype call.function).result in
     let both = and_parts (not (rules.is_push call.function)) (result_fits (Some (variable_type JMethodId)) result) (ap (call_fits (Some (variable_type JMethodId))) (sym call.is_named) ∙ kept.fits) in
     let q = at p (after_call p.regions (function_called s)) in
-    call_runs p s line (Declared (kind_of JMethodId) x) c k call both.0 (declared_result q taken (known_called p taken s known obeys) x kept.new k line c JMethodId result (get_of (function_called s)) both.1 (h q.regions is))
+    call_runs p s line (Declared (variable_kind JMethodId) x) c k call both.0 (declared_result q taken (known_called p taken s known obeys) x kept.new k line c JMethodId result (get_of (function_called s)) both.1 (h q.regions is))
 
 declare_reference : (r : _) → CallGives (ReferenceVariable r)
 declare_reference r line x c p taken returns path k known kept (obeys, is) h =
-    let s = tree.Declare line (ReferenceVariable r) x (FromCall c) in
+    let s = tree.Plain line (tree.Declare (Simple (ReferenceVariable r)) x (FromCall c)) in
     let call = call_there p taken returns s c known kept obeys refl refl in
     let result = (prototype call.function).result in
     let both = and_parts (not (rules.is_push call.function)) (result_fits (Some Ref) result) (ap (call_fits (Some Ref)) (sym call.is_named) ∙ kept.fits) in
@@ -209,9 +210,9 @@ declare_call JFieldId = declare_field
 declare_call JMethodId = declare_method
 declare_call (ReferenceVariable r) = declare_reference r
 
-pub buffer_call : (line : ℕ) (t : ElementType) (x : Identifier) (c : Call) → Gives (tree.DeclareBuffer line t x (FromCall c))
+pub buffer_call : (line : ℕ) (t : ElementType) (x : Identifier) (c : Call) → Gives (tree.Plain line (tree.Declare (Pointer t) x (FromCall c)))
 buffer_call line t x c p taken returns path k known kept (obeys, is) h =
-    let s = tree.DeclareBuffer line t x (FromCall c) in
+    let s = tree.Plain line (tree.Declare (Pointer t) x (FromCall c)) in
     let call = call_there p taken returns s c known kept obeys refl refl in
     let result = (prototype call.function).result in
     let both = and_parts (not (rules.is_push call.function)) (result_fits (Some (Buffer t true)) result) (ap (call_fits (Some (Buffer t true))) (sym call.is_named) ∙ kept.fits) in
@@ -219,9 +220,9 @@ buffer_call line t x c p taken returns path k known kept (obeys, is) h =
     call_runs p s line (Declared (BufferKind t) x) c k call both.0
     (buffer_result q taken (known_called p taken s known obeys) x kept.new k t true result (get_of (function_called s)) both.1 (called_taken p taken known call.function c.arguments call.keeps (function_called s) call.called) (h (with_set q.regions s) is))
 
-pub chars_call : (line : ℕ) (x : Identifier) (c : Call) → Gives (tree.DeclareChars line x (FromCall c))
+pub chars_call : (line : ℕ) (x : Identifier) (c : Call) → Gives (tree.Plain line (tree.Declare ConstChars x (FromCall c)))
 chars_call line x c p taken returns path k known kept (obeys, is) h =
-    let s = tree.DeclareChars line x (FromCall c) in
+    let s = tree.Plain line (tree.Declare ConstChars x (FromCall c)) in
     let call = call_there p taken returns s c known kept obeys refl refl in
     let result = (prototype call.function).result in
     let both = and_parts (not (rules.is_push call.function)) (result_fits (Some (Buffer JChar false)) result) (ap (call_fits (Some (Buffer JChar false))) (sym call.is_named) ∙ kept.fits) in

@@ -1,7 +1,8 @@
 -- An accepted function's tasks break no rule from its entry on.
-use Rattle.std.proofs.Common.{◌≡◌, ℕ, List, Some, [], ◌++◌, map, subst}
+use Rattle.std.proofs.Common.{◌≡◌, ℕ, List, Some, [], ◌++◌, map, subst, None}
 use Rattle.std.proofs.lemmas.List.{append-nil}
 use Rattle.syntax.specs.Parts.{parameter_names}
+use Rattle.syntax.specs.declared.declared_type.DeclaredType.TheVariants.{Simple, Pointer, ConstChars}
 use Rattle.syntax.specs.Tree as tree
 use Rattle.syntax.specs.Tree.{FromExpr, FromCall, Stmt, Function}
 use Rattle.syntax.specs.Tree.{SourceUnit}
@@ -33,22 +34,21 @@ use Rattle.semantics_safety.proofs.StatementCalls.{push_gives}
 use Rattle.semantics_safety.proofs.PathsGive.{Gives, IsPlain, block_gives}
 
 plain_gives : (s : Stmt) → IsPlain s → Gives s
-plain_gives (tree.Declare line t x (FromExpr e)) h = declare_value line t x e
-plain_gives (tree.Declare line t x (FromCall c)) h = declare_call t line x c
-plain_gives (tree.DeclareBuffer line t x (FromExpr e)) h = declare_buffer line t x e
-plain_gives (tree.DeclareBuffer line t x (FromCall c)) h = buffer_call line t x c
-plain_gives (tree.DeclareChars line x (FromExpr e)) h = declare_chars line x e
-plain_gives (tree.DeclareChars line x (FromCall c)) h = chars_call line x c
-plain_gives (tree.DeclareArray line t x size) h = array_gives line t x size
-plain_gives (tree.Assign line x (FromExpr e)) h = assign_value line x e
-plain_gives (tree.Assign line x (FromCall c)) h = assign_call line x c
-plain_gives (tree.AssignElement line x i e) h = element_gives line x i e
-plain_gives (tree.Perform line c) h = perform_gives line c
-plain_gives (tree.PutJint line e) h = print_gives line e
-plain_gives (tree.Return line) h = return_gives line
-plain_gives (tree.ReturnValue line e) h = value_gives line e
-plain_gives (tree.If line test then') h = absurd h
-plain_gives (tree.IfElse line test then' else') h = absurd h
+plain_gives (tree.Plain line (tree.Declare (Simple t) x (FromExpr e))) h = declare_value line t x e
+plain_gives (tree.Plain line (tree.Declare (Simple t) x (FromCall c))) h = declare_call t line x c
+plain_gives (tree.Plain line (tree.Declare (Pointer t) x (FromExpr e))) h = declare_buffer line t x e
+plain_gives (tree.Plain line (tree.Declare (Pointer t) x (FromCall c))) h = buffer_call line t x c
+plain_gives (tree.Plain line (tree.Declare ConstChars x (FromExpr e))) h = declare_chars line x e
+plain_gives (tree.Plain line (tree.Declare ConstChars x (FromCall c))) h = chars_call line x c
+plain_gives (tree.Plain line (tree.DeclareArray t x size)) h = array_gives line t x size
+plain_gives (tree.Plain line (tree.Assign x (FromExpr e))) h = assign_value line x e
+plain_gives (tree.Plain line (tree.Assign x (FromCall c))) h = assign_call line x c
+plain_gives (tree.Plain line (tree.AssignElement x i e)) h = element_gives line x i e
+plain_gives (tree.Plain line (tree.Perform c)) h = perform_gives line c
+plain_gives (tree.Plain line (tree.PutJint e)) h = print_gives line e
+plain_gives (tree.Return line None) h = return_gives line
+plain_gives (tree.Return line (Some e)) h = value_gives line e
+plain_gives (tree.If line test then' else') h = absurd h
 plain_gives (tree.While line e body) h = absurd h
 
 function_gives : (f : Function) (scope : Scope) → GivesWanted f scope

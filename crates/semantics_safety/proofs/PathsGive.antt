@@ -1,5 +1,5 @@
 -- From what is known at a point, a statement and a block that keep the rules break none as they run.
-use Rattle.std.proofs.Common.{◌≡◌, ℕ, ◌+◌, ◌≤◌, arith, ◌⊎◌, inl, inr, Bool, true, false, ◌||◌, List, [], ◌∷◌, ◌++◌, Some, refl, sym, ap, ◌∙◌, subst, if◌then◌else◌}
+use Rattle.std.proofs.Common.{◌≡◌, ℕ, ◌+◌, ◌≤◌, arith, inl, inr, Bool, true, false, ◌||◌, List, [], ◌∷◌, ◌++◌, Some, refl, sym, ap, ◌∙◌, subst, if◌then◌else◌}
 use Rattle.std.specs.Str.{bytes_eq}
 use Rattle.std.proofs.lemmas.Bool.{not-true}
 use Rattle.std.proofs.lemmas.List.Elements.{filter_map-append}
@@ -11,7 +11,7 @@ use Rattle.syntax.specs.Tree as tree
 use Rattle.syntax.specs.declared.expr.BinaryOp.TheVariants as operators
 use Rattle.syntax.specs.declared.expr.Constant.TheVariants as constants
 use Rattle.syntax.specs.declared.unit.ResultType.{ResultType}
-use Rattle.syntax.specs.Tree.{Expr, Test, TestExpr, TestCall, Stmt, If, IfElse, While, Block, End, Next}
+use Rattle.syntax.specs.Tree.{Expr, Test, TestExpr, TestCall, Stmt, If, While, Else, NoElse, ElseBlock, Block, End, Next}
 use Rattle.type_rules.specs.declared.ty.ExprType.{ExprType}
 use Rattle.type_rules.specs.declared.ty.ExprType.TheVariants.{Truth}
 use Rattle.type_rules.specs.ExprTypes.{type_in, type_of}
@@ -150,16 +150,13 @@ declared_within outer p taken s within k new after x r e = by_form s new
     front y t h = front_other y x t p.names (λ same. let c : true ≡ false = sym (k.named_taken x r there) ∙ ap (has_name taken) same ∙ h in cc) ∙ there
 
     by_form : (s : Stmt) → some_passes (has_name taken) (declared_name s) ≡ false → type_in (with_declared p.names s) x ≡ Some r
-    by_form (tree.Declare line t y right) h = front y _ h
-    by_form (tree.DeclareBuffer line t y right) h = front y _ h
-    by_form (tree.DeclareChars line y right) h = front y _ h
-    by_form (tree.DeclareArray line t y size) h = front y _ h
+    by_form (tree.Plain line (tree.Declare t y right)) h = front y _ h
+    by_form (tree.Plain line (tree.DeclareArray t y size)) h = front y _ h
     by_form s h = there
 
 -- a statement without a block
 abbrev pub IsPlain : Stmt → Type 0
-IsPlain (If line test then') = ⊥
-IsPlain (IfElse line test then' else') = ⊥
+IsPlain (If line test then' else') = ⊥
 IsPlain (While line test body) = ⊥
 IsPlain s = Unit {0}
 
@@ -176,8 +173,8 @@ Gives s =
 -- a call in a test makes a frame
 abbrev pub Pushes : Type 1
 Pushes =
-    (p : Point) (taken : List Identifier) (returns : ResultType) (line : ℕ) (c : tree.Call) (then' else' : Block) (s : Stmt) → (s ≡ If line (TestCall c) then') ⊎ (s ≡ IfElse line (TestCall c) then' else') → IsKnown p taken → IsKept p.names taken returns s → Obeys p.regions s → (on_true on_false : Point → Type 0)
-    → on_true (at p (record p.regions { frames = p.regions.frames + 1 })) → on_false p → RunsPush (task_of s) on_true on_false p
+    (p : Point) (taken : List Identifier) (returns : ResultType) (line : ℕ) (c : tree.Call) (then' : Block) (else' : Else) → IsKnown p taken → IsKept p.names taken returns (If line (TestCall c) then' else') → Obeys p.regions (If line (TestCall c) then' else') → (on_true on_false : Point → Type 0)
+    → on_true (at p (record p.regions { frames = p.regions.frames + 1 })) → on_false p → RunsPush (task_of (If line (TestCall c) then' else')) on_true on_false p
 
 -- ---- blocks
 
@@ -185,8 +182,8 @@ module _ (plain : (s : Stmt) → IsPlain s → Gives s) (pushes : Pushes) where
   mutual
     pub stmt_gives : (s : Stmt) (p : Point) (taken : List Identifier) (returns : ResultType) (path : Path) (k : Point → Type 0) → IsKnown p taken → AreUnbroken (places_within returns p.names taken s) → Keeps p.regions s path
         → ((after : RegionState) → path ≡ On after → IsKnown (point_after p s after) (taken ++ names_declared (statements_within s)) → k (point_after p s after)) → RunsStmt s k p
-    stmt_gives (If line (TestExpr e) then') p taken returns path k known well_typed (obeys, yes', keeps, join) h =
-        let s = If line (TestExpr e) then' in
+    stmt_gives (If line (TestExpr e) then' NoElse) p taken returns path k known well_typed (obeys, one, other, keeps, on, join) h =
+        let s = If line (TestExpr e) then' NoElse in
         let kept = own_kept returns p.names taken s well_typed in
         let reads = first_read p.regions e [] (statement_reads p.regions s obeys) in
         let a = at p (where_true p.regions (TestExpr e)) in
@@ -198,19 +195,19 @@ module _ (plain : (s : Stmt) → IsPlain s → Gives s) (pushes : Pushes) where
             a,
             b,
             teaches p e,
-            block_gives then' p a taken taken returns yes' k known on_a (λ x r at. at) (inside_kept returns p.names taken s well_typed) keeps (λ after is now. h after (first_on yes' (On b.regions) path after join is) now),
-            (b, closes_same b taken on_b, h b.regions (second_on yes' (On b.regions) path b.regions join refl) (known_more b taken (taken ++ names_declared (statements_of then')) (covers_front taken (names_declared (statements_of then'))) on_b)),
+            block_gives then' p a taken taken returns one k known on_a (λ x r at. at) (inside_kept returns p.names taken s well_typed) keeps (λ after is now. h after (first_on one other path after join is) now),
+            (b, closes_same b taken on_b, h b.regions (second_on one other path b.regions join on) (known_more b taken (taken ++ names_declared (statements_of then')) (covers_front taken (names_declared (statements_of then'))) on_b)),
           ),
         )
-    stmt_gives (If line (TestCall c) then') p taken returns path k known well_typed (obeys, yes', keeps, join) h =
-        let s = If line (TestCall c) then' in
+    stmt_gives (If line (TestCall c) then' NoElse) p taken returns path k known well_typed (obeys, one, other, keeps, on, join) h =
+        let s = If line (TestCall c) then' NoElse in
         let a = at p (where_true p.regions (TestCall c)) in
         let on_a : IsKnown a taken = known_true p taken known (TestCall c) in
-        pushes p taken returns line c then' then' s (inl refl) known (own_kept returns p.names taken s well_typed) obeys (RunsBlock then' (Outside k)) (Outside k)
-        (block_gives then' p a taken taken returns yes' k known on_a (λ x r at. at) (inside_kept returns p.names taken s well_typed) keeps (λ after is now. h after (first_on yes' (On p.regions) path after join is) now))
-        (p, closes_same p taken known, h p.regions (second_on yes' (On p.regions) path p.regions join refl) (known_more p taken (taken ++ names_declared (statements_of then')) (covers_front taken (names_declared (statements_of then'))) known))
-    stmt_gives (IfElse line (TestExpr e) then' else') p taken returns path k known well_typed (obeys, one, other, keeps, keeps', join) h =
-        let s = IfElse line (TestExpr e) then' else' in
+        pushes p taken returns line c then' NoElse known (own_kept returns p.names taken s well_typed) obeys (RunsBlock then' (Outside k)) (Outside k)
+        (block_gives then' p a taken taken returns one k known on_a (λ x r at. at) (inside_kept returns p.names taken s well_typed) keeps (λ after is now. h after (first_on one other path after join is) now))
+        (p, closes_same p taken known, h p.regions (second_on one other path p.regions join on) (known_more p taken (taken ++ names_declared (statements_of then')) (covers_front taken (names_declared (statements_of then'))) known))
+    stmt_gives (If line (TestExpr e) then' (ElseBlock else')) p taken returns path k known well_typed (obeys, one, other, keeps, keeps', join) h =
+        let s = If line (TestExpr e) then' (ElseBlock else') in
         let kept = own_kept returns p.names taken s well_typed in
         let reads = first_read p.regions e [] (statement_reads p.regions s obeys) in
         let a = at p (where_true p.regions (TestExpr e)) in
@@ -231,8 +228,8 @@ module _ (plain : (s : Stmt) → IsPlain s → Gives s) (pushes : Pushes) where
             block_gives else' p b taken middle returns other k known on_b (λ x r at. at) second keeps' (λ after is now. h after (second_on one other path after join is) (known_more (point_after p s after) (middle ++ names_declared (statements_of else')) all (covers_parts taken (statements_of then') (statements_of else')) now)),
           ),
         )
-    stmt_gives (IfElse line (TestCall c) then' else') p taken returns path k known well_typed (obeys, one, other, keeps, keeps', join) h =
-        let s = IfElse line (TestCall c) then' else' in
+    stmt_gives (If line (TestCall c) then' (ElseBlock else')) p taken returns path k known well_typed (obeys, one, other, keeps, keeps', join) h =
+        let s = If line (TestCall c) then' (ElseBlock else') in
         let a = at p (where_true p.regions (TestCall c)) in
         let middle = taken ++ names_declared (statements_of then') in
         let inside = inside_kept returns p.names taken s well_typed in
@@ -241,7 +238,7 @@ module _ (plain : (s : Stmt) → IsPlain s → Gives s) (pushes : Pushes) where
         let all = taken ++ names_declared (statements_of then' ++ statements_of else') in
         let on_a : IsKnown a taken = known_true p taken known (TestCall c) in
         let on_b : IsKnown p middle = known_more p taken middle (covers_front taken (names_declared (statements_of then'))) known in
-        pushes p taken returns line c then' else' s (inr refl) known (own_kept returns p.names taken s well_typed) obeys (RunsBlock then' (Outside k)) (RunsBlock else' (Outside k))
+        pushes p taken returns line c then' (ElseBlock else') known (own_kept returns p.names taken s well_typed) obeys (RunsBlock then' (Outside k)) (RunsBlock else' (Outside k))
         (block_gives then' p a taken taken returns one k known on_a (λ x r at. at) first keeps (λ after is now. h after (first_on one other path after join is) (known_more (point_after p s after) middle all (covers_skipped taken (statements_of then') (statements_of else')) now)))
         (block_gives else' p p taken middle returns other k known on_b (λ x r at. at) second keeps' (λ after is now. h after (second_on one other path after join is) (known_more (point_after p s after) (middle ++ names_declared (statements_of else')) all (covers_parts taken (statements_of then') (statements_of else')) now)))
     stmt_gives (While line e body) p taken returns path k known well_typed (obeys, turn, keeps, back, is) h =

@@ -1,5 +1,5 @@
 -- The statements without blocks run from what is known before them: returns, prints, elements, arrays, calls and declarations.
-use Rattle.std.proofs.Common.{◌≡◌, ℕ, ◌≤◌, arith, Bool, true, false, not, ◌&&◌, ◌||◌, List, [], ◌∷◌, ◌++◌, Some, refl, sym, ap, ◌∙◌, subst, if◌then◌else◌}
+use Rattle.std.proofs.Common.{◌≡◌, ℕ, ◌≤◌, arith, Bool, true, false, not, ◌&&◌, ◌||◌, List, [], ◌∷◌, ◌++◌, Some, refl, sym, ap, ◌∙◌, subst, if◌then◌else◌, None}
 use Rattle.std.specs.Prelude.{flat_map, nat_lt}
 use Rattle.std.specs.List.{list_any}
 use Rattle.std.specs.Str.{bytes_eq}
@@ -94,12 +94,12 @@ value_returns p taken Void e known h read = absurd (cc)
 value_returns p taken IntResult e known h read = jint_returns p (term_of e) (expression_fits p known.stated e Jint read (jint_is (type_of p.names e) h) tt)
 value_returns p taken (ReferenceResult r) e known h read = reference_returns p taken e known h read
 
-pub return_gives : (line : ℕ) → Gives (tree.Return line)
-return_gives line p taken returns path k known kept (obeys, is) h = may_return p taken (tree.Return line) known obeys refl
+pub return_gives : (line : ℕ) → Gives (tree.Return line None)
+return_gives line p taken returns path k known kept (obeys, is) h = may_return p taken (tree.Return line None) known obeys refl
 
-pub value_gives : (line : ℕ) (e : Expr) → Gives (tree.ReturnValue line e)
+pub value_gives : (line : ℕ) (e : Expr) → Gives (tree.Return line (Some e))
 value_gives line e p taken returns path k known kept (obeys, is) h =
-    let s = tree.ReturnValue line e in
+    let s = tree.Return line (Some e) in
     (value_returns p taken returns e known kept.fits (first_read p.regions e [] (statement_reads p.regions s obeys)).0, may_return p taken s known obeys refl)
 
 -- ---- prints, elements and arrays
@@ -111,17 +111,17 @@ no_view p s obeys prints x a access h critical =
     let none = (or_parts (is_put_jint s) (some_passes (λ call. not (is_critical_call call.0)) (function_called s)) both).0 in
     let c : true ≡ false = sym prints ∙ none in cc
 
-pub print_gives : (line : ℕ) (e : Expr) → Gives (tree.PutJint line e)
+pub print_gives : (line : ℕ) (e : Expr) → Gives (tree.Plain line (tree.PutJint e))
 print_gives line e p taken returns path k known kept (obeys, is) h =
-    let s = tree.PutJint line e in (
+    let s = tree.Plain line (tree.PutJint e) in (
       expression_fits p known.stated e Jint (first_read p.regions e [] (statement_reads p.regions s obeys)).0 (jint_is (type_of p.names e) kept.fits) tt,
       no_view p s obeys refl,
       h p.regions is (known_more p taken (taken ++ []) (covers_front taken []) known),
     )
 
-pub element_gives : (line : ℕ) (x : Identifier) (i e : Expr) → Gives (tree.AssignElement line x i e)
+pub element_gives : (line : ℕ) (x : Identifier) (i e : Expr) → Gives (tree.Plain line (tree.AssignElement x i e))
 element_gives line x i e p taken returns path k known kept (obeys, is) h =
-    let s = tree.AssignElement line x i e in
+    let s = tree.Plain line (tree.AssignElement x i e) in
     let all = and_parts (has_elements (type_in p.names x) && is_index (type_of p.names i)) (is_jint (type_of p.names e)) kept.fits in
     let front = and_parts (has_elements (type_in p.names x)) (is_index (type_of p.names i)) all.0 in
     let reads = first_read p.regions i (e ∷ []) (statement_reads p.regions s obeys) in
@@ -136,7 +136,7 @@ element_gives line x i e p taken returns path k known kept (obeys, is) h =
       h p.regions is (known_more p taken (taken ++ []) (covers_front taken []) known),
     )
 
-pub array_gives : (line : ℕ) (t : ElementType) (x : Identifier) (size : ℕ) → Gives (tree.DeclareArray line t x size)
+pub array_gives : (line : ℕ) (t : ElementType) (x : Identifier) (size : ℕ) → Gives (tree.Plain line (tree.DeclareArray t x size))
 array_gives line t x size p taken returns path k known kept (obeys, is) h = (is_new p taken x known kept.new, h p.regions is (known_named p taken known x kept.new (Array t size) tt))
 
 -- ---- calls
@@ -147,9 +147,9 @@ may_drop NewWeak h = absurd (cc)
 may_drop (GivesBuffer access) h = absurd (cc)
 may_drop result h = tt
 
-pub perform_gives : (line : ℕ) (c : Call) → Gives (tree.Perform line c)
+pub perform_gives : (line : ℕ) (c : Call) → Gives (tree.Plain line (tree.Perform c))
 perform_gives line c p taken returns path k known kept (obeys, is) h =
-    let s = tree.Perform line c in
+    let s = tree.Plain line (tree.Perform c) in
     let call = call_there p taken returns s c known kept obeys refl refl in
     let both = and_parts (not (rules.is_push call.function)) (is_droppable (prototype call.function).result) (ap may_be_dropped (sym call.is_named) ∙ kept.fits) in
     let q = at p (after_call p.regions (function_called s)) in

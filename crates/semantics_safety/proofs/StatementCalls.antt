@@ -1,5 +1,5 @@
 -- The call of a statement that keeps the rules, and what is known after it.
-use Rattle.std.proofs.Common.{◌≡◌, ℕ, ◌+◌, ◌-◌, ◌<◌, ◌≤◌, arith, inl, inr, Bool, true, false, not, ◌&&◌, List, length, Option, Some, None, refl, sym, ap, ◌∙◌, subst, nat_le, if◌then◌else◌}
+use Rattle.std.proofs.Common.{◌≡◌, ℕ, ◌+◌, ◌-◌, ◌<◌, ◌≤◌, arith, Bool, true, false, not, ◌&&◌, List, length, Option, Some, None, refl, sym, ap, ◌∙◌, subst, nat_le, if◌then◌else◌}
 use Rattle.std.specs.Prelude.{flat_map}
 use Rattle.std.specs.Option.{is_none, option_and_then, option_map}
 use Rattle.std.proofs.lemmas.Bool.{not-false}
@@ -8,7 +8,7 @@ use Rattle.base.specs.Bytes.{Identifier}
 use Rattle.base.specs.Options.{some_passes}
 use Rattle.syntax.specs.Parts.{argument_expressions, own_expressions, own_call}
 use Rattle.syntax.specs.declared.unit.ResultType.{ResultType}
-use Rattle.syntax.specs.Tree.{Call, TestCall, Stmt, If, IfElse, End}
+use Rattle.syntax.specs.Tree.{Call, TestCall, Stmt, If}
 use Rattle.jni.specs.declared.function.JniFunction.{JniFunction}
 use Rattle.jni.specs.declared.function.JniFunction.TheVariants.{PushLocalFrame}
 use Rattle.jni.specs.JniFunction.{function_named, parameters_for, takes_count, prototype}
@@ -18,7 +18,7 @@ use Rattle.type_rules.specs.TypeRules.{has_wrong_count, has_wrong_mode, modes_fi
 use Rattle.region_rules.specs.declared.rule.RegionRule.TheVariants.{PopLastFrame}
 use Rattle.region_rules.specs.RegionRules.{Obeys}
 use Rattle.region_rules.specs.RegionStates.{VariableState, ReferenceAt, BufferIn, RegionState, FunctionCall, function_called, Release, release_of, deleted_name, pops, made_free, killed, killed_from, with_some_changed, after_release, after_pop, after_call, get_of}
-use Rattle.semantics.specs.Task.{Target, Tested, invocation, task_of}
+use Rattle.semantics.specs.Task.{Target, Tested, else_block, invocation}
 use Rattle.semantics_safety.specs.Points.{Point}
 use Rattle.semantics_safety.specs.Wanted.{CallFits, CallKeeps, ResultGoes, RunsPlain, RunsPush, call_seen, is_push, at}
 use Rattle.semantics_safety.proofs.CallFits.{operands_of, after_same, get_same, call_rules, call_fits, unbroken}
@@ -122,12 +122,9 @@ pushed_by p s line target c on_true on_false call tested h g =
     subst (λ (o : Option JniFunction). RunsPush (invocation line target c o) on_true on_false p) (sym call.is_named) (call.fits, push_is call.function pushes, h, g)
 
 pub push_gives : Pushes
-push_gives p taken returns line c then' else' s (inl e) known kept obeys on_true on_false h g =
-    subst (λ (s : Stmt). IsKept p.names taken returns s → Obeys p.regions s → RunsPush (task_of s) on_true on_false p) (sym e)
-    (λ kept obeys. let t = If line (TestCall c) then' in pushed_by p t line (Tested then' (End line)) c on_true on_false (call_there p taken returns t c known kept obeys refl refl) kept.fits h g) kept obeys
-push_gives p taken returns line c then' else' s (inr e) known kept obeys on_true on_false h g =
-    subst (λ (s : Stmt). IsKept p.names taken returns s → Obeys p.regions s → RunsPush (task_of s) on_true on_false p) (sym e)
-    (λ kept obeys. let t = IfElse line (TestCall c) then' else' in pushed_by p t line (Tested then' else') c on_true on_false (call_there p taken returns t c known kept obeys refl refl) kept.fits h g) kept obeys
+push_gives p taken returns line c then' else' known kept obeys on_true on_false h g =
+    let s = If line (TestCall c) then' else' in
+    pushed_by p s line (Tested then' (else_block line else')) c on_true on_false (call_there p taken returns s c known kept obeys refl refl) kept.fits h g
 
 -- ---- results
 

@@ -3,7 +3,7 @@ use Rattle.std.specs.Prelude.{◌≡◌, ℕ, ◌+◌, ◌<◌, ◌≤◌, Bool,
 use Rattle.base.specs.Bytes.{Identifier}
 use Rattle.syntax.specs.Tree as tree
 use Rattle.syntax.specs.declared.expr.Constant.TheVariants as constants
-use Rattle.syntax.specs.Tree.{Stmt, If, IfElse, While, Block, End, Next, Argument, Expr, TestExpr, TestCall}
+use Rattle.syntax.specs.Tree.{Stmt, If, While, Else, NoElse, ElseBlock, Block, End, Next, Argument, Expr, TestExpr, TestCall}
 use Rattle.jni.specs.declared.access.Access.{Access}
 use Rattle.jni.specs.Access.{is_critical}
 use Rattle.jni.specs.declared.function.JniFunction.{JniFunction}
@@ -252,13 +252,16 @@ abbrev mutual
 
   -- the same of a statement
   pub RunsStmt : Stmt → (Point → Type 0) → Point → Type 0
-  RunsStmt (If line (TestExpr e) then') k p = RunsTest (term_of e) (RunsBlock then' (Outside k)) (Outside k) p
-  RunsStmt (If line (TestCall c) then') k p = RunsPush (task_of (If line (TestCall c) then')) (RunsBlock then' (Outside k)) (Outside k) p
-  RunsStmt (IfElse line (TestExpr e) then' else') k p = RunsTest (term_of e) (RunsBlock then' (Outside k)) (RunsBlock else' (Outside k)) p
-  RunsStmt (IfElse line (TestCall c) then' else') k p = RunsPush (task_of (IfElse line (TestCall c) then' else'))
-      (RunsBlock then' (Outside k)) (RunsBlock else' (Outside k)) p
+  RunsStmt (If line (TestExpr e) then' else') k p = RunsTest (term_of e) (RunsBlock then' (Outside k)) (RunsElse else' (Outside k)) p
+  RunsStmt (If line (TestCall c) then' else') k p =
+      RunsPush (task_of (If line (TestCall c) then' else')) (RunsBlock then' (Outside k)) (RunsElse else' (Outside k)) p
   RunsStmt (While line e body) k p = HasType p (term_of e) Truth × RunsBlock body (λ q. Closes q p) p × k p
   RunsStmt s k p = RunsPlain (task_of s) k p
+
+  -- the same of the second block of an `if`, where it has one
+  pub RunsElse : Else → (Point → Type 0) → Point → Type 0
+  RunsElse NoElse k p = k p
+  RunsElse (ElseBlock b) k p = RunsBlock b k p
 
 -- ---- tasks
 

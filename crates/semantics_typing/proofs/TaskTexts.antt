@@ -25,7 +25,7 @@ use Rattle.semantics.specs.World.{World}
 use Rattle.semantics.specs.Effect.{Effect, Becomes, Sets, SetsElement, Calls, Returns, at_line, goes_on, with_value, print_effect, branch_effect, loop_effect, element_effect, is_ready, reduce_number, reduce_name, reduce_first, call_effect_of, tasks_after, returned_name, return_effect, effect_of}
 use Rattle.semantics.specs.Sight.{Sight}
 use Rattle.semantics.specs.Task as task
-use Rattle.semantics.specs.Task.{Task, SetScalar, SetElement, SetNull, MakeArray, Invoke, Print, Branch, EndIf, Loop, EndTurn, Impossible, Target, Declared, Assigned, Tested, Dropped, Operand, NumberOperand, PassedName, Given, operand, passed_operand, invocation, call_task, set_task, right_side_task, if_task, task_of, tasks_of, kind_of}
+use Rattle.semantics.specs.Task.{Task, SetScalar, SetElement, SetNull, MakeArray, Invoke, Print, Branch, EndIf, Loop, EndTurn, Impossible, Target, Declared, Assigned, Tested, Dropped, Operand, NumberOperand, PassedName, Given, operand, passed_operand, invocation, set_task, right_side_task, if_task, else_block, task_of, tasks_of, kind_of}
 use Rattle.semantics.specs.Term as term
 use Rattle.semantics.specs.Term.{Term, Done, Read, reduce, index_of}
 use Rattle.semantics.specs.Value.{Value, Int, Truth, Outcome, Gives, Traps, Stuck, outcome_map}
@@ -158,37 +158,28 @@ module _ (methods : Bool) where
   right_texts line target x (FromExpr e) h may g = set_texts line target x e
   right_texts line target x (FromCall call) h may g = invocation_texts line target call (function_named call.function) refl h may g
 
-  if_texts : (line : ℕ) (test : Test) (a b : Block) → TestHasTexts test → (some_passes asks (own_call (tree.IfElse line test a b)) ≡ true → methods ≡ true) → BlockFits methods a → BlockFits methods b → TaskHasTexts methods (if_task line test a b)
-  if_texts line (TestExpr e) a b h may x y = (x, y)
-  if_texts line (TestCall call) a b h may x y = invocation_texts line (Tested a b) call (function_named call.function) refl h may (x, y)
-
-  -- an `if` asks as with an empty `else`
-  same_test : (line : ℕ) (test : Test) (a b : Block) → own_call (tree.IfElse line test a b) ≡ own_call (tree.If line test a)
-  same_test line (TestExpr e) a b = refl
-  same_test line (TestCall c) a b = refl
+  if_texts : (line : ℕ) (test : Test) (a : Block) (other : tree.Else) → TestHasTexts test → (some_passes asks (own_call (tree.If line test a other)) ≡ true → methods ≡ true) → BlockFits methods a → BlockFits methods (else_block line other) → TaskHasTexts methods (if_task line test a (else_block line other))
+  if_texts line (TestExpr e) a other h may x y = (x, y)
+  if_texts line (TestCall call) a other h may x y = invocation_texts line (Tested a (else_block line other)) call (function_named call.function) refl h may (x, y)
 
   stmt_texts : (s : Stmt) → StmtHasTexts s → MayAsk methods (statements_within s) → TaskHasTexts methods (task_of s)
-  stmt_texts (tree.Declare line type x right) h may = right_texts line (Declared (kind_of type) x) x right h (own_may (tree.Declare line type x right) [] may) tt
-  stmt_texts (tree.DeclareBuffer line kind x right) h may = right_texts line _ x right h (own_may (tree.DeclareBuffer line kind x right) [] may) tt
-  stmt_texts (tree.DeclareChars line x right) h may = right_texts line _ x right h (own_may (tree.DeclareChars line x right) [] may) tt
-  stmt_texts (tree.DeclareArray line kind x n) h may = tt
-  stmt_texts (tree.Assign line x right) h may = right_texts line (Assigned x) x right h (own_may (tree.Assign line x right) [] may) tt
-  stmt_texts (tree.AssignElement line x i e) h may = tt
-  stmt_texts (tree.Perform line call) h may = invocation_texts line Dropped call (function_named call.function) refl h (own_may (tree.Perform line call) [] may) tt
-  stmt_texts (tree.PutJint line e) h may = tt
-  stmt_texts (tree.If line test then') h may =
-      let s = tree.If line test then' in
-      if_texts line test then' (End line) h.0
-      (λ e. own_may s (statements_of then') may (ap (some_passes asks) (sym (same_test line test then' (End line))) ∙ e))
-      (h.1, inner_may s (statements_of then') may) (tt, none_may)
-  stmt_texts (tree.IfElse line test then' else') h may =
-      let s = tree.IfElse line test then' else' in
+  stmt_texts (tree.Plain line (tree.Declare type x right)) h may = right_texts line (Declared (kind_of type) x) x right h (own_may (tree.Plain line (tree.Declare type x right)) [] may) tt
+  stmt_texts (tree.Plain line (tree.DeclareArray kind x n)) h may = tt
+  stmt_texts (tree.Plain line (tree.Assign x right)) h may = right_texts line (Assigned x) x right h (own_may (tree.Plain line (tree.Assign x right)) [] may) tt
+  stmt_texts (tree.Plain line (tree.AssignElement x i e)) h may = tt
+  stmt_texts (tree.Plain line (tree.Perform call)) h may = invocation_texts line Dropped call (function_named call.function) refl h (own_may (tree.Plain line (tree.Perform call)) [] may) tt
+  stmt_texts (tree.Plain line (tree.PutJint e)) h may = tt
+  stmt_texts (tree.If line test then' tree.NoElse) h may =
+      let s = tree.If line test then' tree.NoElse in
+      if_texts line test then' tree.NoElse h.0 (own_may s (statements_of then') may) (h.1, inner_may s (statements_of then') may) (tt, none_may)
+  stmt_texts (tree.If line test then' (tree.ElseBlock else')) h may =
+      let s = tree.If line test then' (tree.ElseBlock else') in
       let inner = inner_may s (statements_of then' ++ statements_of else') may in
-      if_texts line test then' else' h.0 (own_may s (statements_of then' ++ statements_of else') may)
+      if_texts line test then' (tree.ElseBlock else') h.0 (own_may s (statements_of then' ++ statements_of else') may)
       (h.1, front_may (statements_of then') (statements_of else') inner) (h.2, back_may (statements_of then') (statements_of else') inner)
   stmt_texts (tree.While line test body) h may = (h, inner_may (tree.While line test body) (statements_of body) may)
-  stmt_texts (tree.Return line) h may = tt
-  stmt_texts (tree.ReturnValue line e) h may = tt
+  stmt_texts (tree.Return line None) h may = tt
+  stmt_texts (tree.Return line (Some e)) h may = tt
 
   pub block_texts : (b : Block) → BlockFits methods b → HaveTexts methods (tasks_of b)
   block_texts (End line) h = tt

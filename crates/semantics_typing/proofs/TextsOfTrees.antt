@@ -5,9 +5,9 @@ use Rattle.std.specs.List.{list_all, AllByRecursion}
 use Rattle.std.proofs.lemmas.Bool.{and_parts, ltb-true}
 use Rattle.std.proofs.lemmas.List.Folds.{list_all-append}
 use Rattle.syntax.specs.Limits.{IsTree, text_of_bytes}
-use Rattle.syntax.specs.Parts.{functions_of, statements_of, statements_within, own_arguments}
+use Rattle.syntax.specs.Parts.{functions_of, statements_inside, statements_of, statements_within, own_arguments}
 use Rattle.syntax.specs.Tree as tree
-use Rattle.syntax.specs.Tree.{Argument, Call, RightSide, FromExpr, FromCall, Test, TestExpr, TestCall, Stmt, Block, End, Next, Function, SourceUnit}
+use Rattle.syntax.specs.Tree.{Argument, RightSide, FromExpr, FromCall, Test, TestExpr, TestCall, Stmt, Block, End, Next, Function, SourceUnit}
 use Rattle.semantics_typing.specs.Texts.{IsText, IsTextual, RightHasTexts, TestHasTexts, BlockHasTexts, StmtHasTexts, HasTexts}
 
 pub bytes_are : (bytes : List ℕ) → list_all (λ b. nat_lt b 256) bytes ≡ true → IsText bytes
@@ -29,17 +29,13 @@ abbrev has_bytes : Stmt → Bool
 has_bytes s = list_all text_of_bytes (own_arguments s)
 
 -- what a statement gives to the call on its right side
-right_has : (r : RightSide) → list_all text_of_bytes (own_arguments (tree.Assign 0 [] r)) ≡ true → RightHasTexts r
+right_has : (r : RightSide) → list_all text_of_bytes (own_arguments (tree.Plain 0 (tree.Assign [] r))) ≡ true → RightHasTexts r
 right_has (FromExpr e) h = tt
 right_has (FromCall c) h = arguments_are c.arguments (and_parts (list_all text_of_bytes c.arguments) true (sym (list_all-append text_of_bytes c.arguments []) ∙ h)).0
 
-if_has : (line : ℕ) (t : Test) (b : Block) → has_bytes (tree.If line t b) ≡ true → TestHasTexts t
-if_has line (TestExpr e) b h = tt
-if_has line (TestCall c) b h = right_has (FromCall c) h
-
-else_has : (line : ℕ) (t : Test) (b d : Block) → has_bytes (tree.IfElse line t b d) ≡ true → TestHasTexts t
-else_has line (TestExpr e) b d h = tt
-else_has line (TestCall c) b d h = right_has (FromCall c) h
+if_has : (line : ℕ) (t : Test) (b : Block) (d : tree.Else) → has_bytes (tree.If line t b d) ≡ true → TestHasTexts t
+if_has line (TestExpr e) b d h = tt
+if_has line (TestCall c) b d h = right_has (FromCall c) h
 
 -- the first of a list of statements, and two lists
 first : (s : Stmt) (others : List Stmt) → list_all has_bytes (s ∷ others) ≡ true → (has_bytes s ≡ true) × (list_all has_bytes others ≡ true)
@@ -49,29 +45,26 @@ parted : (a b : List Stmt) → list_all has_bytes (a ++ b) ≡ true → (list_al
 parted a b h = and_parts (list_all has_bytes a) (list_all has_bytes b) (sym (list_all-append has_bytes a b) ∙ h)
 
 mutual
-  statement_has : (s : Stmt) → list_all has_bytes (statements_within s) ≡ true → StmtHasTexts s
-  statement_has (tree.Declare line type x right) h = right_has right (first (tree.Declare line type x right) [] h).0
-  statement_has (tree.DeclareBuffer line kind x right) h = right_has right (first (tree.DeclareBuffer line kind x right) [] h).0
-  statement_has (tree.DeclareChars line x right) h = right_has right (first (tree.DeclareChars line x right) [] h).0
-  statement_has (tree.DeclareArray line kind x n) h = tt
-  statement_has (tree.Assign line x right) h = right_has right (first (tree.Assign line x right) [] h).0
-  statement_has (tree.AssignElement line x i e) h = tt
-  statement_has (tree.Perform line call) h = right_has (FromCall call) (first (tree.Perform line call) [] h).0
-  statement_has (tree.PutJint line e) h = tt
-  statement_has (tree.If line test then') h =
-      let p = first (tree.If line test then') (statements_of then') h in
-      (if_has line test then' p.0, block_has then' p.1)
-  statement_has (tree.IfElse line test then' else') h =
-      let p = first (tree.IfElse line test then' else') (statements_of then' ++ statements_of else') h in
-      let q = parted (statements_of then') (statements_of else') p.1 in
-      (else_has line test then' else' p.0, block_has then' q.0, block_has else' q.1)
-  statement_has (tree.While line test body) h = block_has body (first (tree.While line test body) (statements_of body) h).1
-  statement_has (tree.Return line) h = tt
-  statement_has (tree.ReturnValue line e) h = tt
+  statement_has : (s : Stmt) → has_bytes s ≡ true → list_all has_bytes (statements_inside s) ≡ true → StmtHasTexts s
+  statement_has (tree.Plain line (tree.Declare type x right)) own h = right_has right own
+  statement_has (tree.Plain line (tree.DeclareArray type x n)) own h = tt
+  statement_has (tree.Plain line (tree.Assign x right)) own h = right_has right own
+  statement_has (tree.Plain line (tree.AssignElement x i e)) own h = tt
+  statement_has (tree.Plain line (tree.Perform call)) own h = right_has (FromCall call) own
+  statement_has (tree.Plain line (tree.PutJint e)) own h = tt
+  statement_has (tree.If line test then' tree.NoElse) own h = (if_has line test then' tree.NoElse own, block_has then' h)
+  statement_has (tree.If line test then' (tree.ElseBlock else')) own h =
+      let both = parted (statements_of then') (statements_of else') h in
+      (if_has line test then' (tree.ElseBlock else') own, block_has then' both.0, block_has else' both.1)
+  statement_has (tree.While line test body) own h = block_has body h
+  statement_has (tree.Return line e) own h = tt
 
   block_has : (b : Block) → list_all has_bytes (statements_of b) ≡ true → BlockHasTexts b
   block_has (End line) h = tt
-  block_has (Next s rest) h = let p = parted (statements_within s) (statements_of rest) h in (statement_has s p.0, block_has rest p.1)
+  block_has (Next s rest) h =
+      let p = parted (statements_within s) (statements_of rest) h in
+      let own = first s (statements_inside s) p.0 in
+      (statement_has s own.0 own.1, block_has rest p.1)
 
 -- ---- functions
 

@@ -3,7 +3,7 @@ use Rattle.std.specs.Prelude.{ℕ, ◌<◌, List}
 use Rattle.std.specs.List.{AllByRecursion}
 use Rattle.syntax.specs.Parts.{functions_of}
 use Rattle.syntax.specs.Tree as tree
-use Rattle.syntax.specs.Tree.{Argument, Call, RightSide, FromExpr, FromCall, Test, TestExpr, TestCall, Stmt, Block, End, Next, Function, SourceUnit}
+use Rattle.syntax.specs.Tree.{Argument, Call, RightSide, FromExpr, FromCall, Test, TestExpr, TestCall, PlainStmt, Stmt, Block, End, Next, Function, SourceUnit}
 use Rattle.semantics.specs.Task.{Operand, NumberOperand, PassedName, Given}
 
 -- a text of bytes
@@ -35,6 +35,13 @@ abbrev pub TestHasTexts : Test → Type 0
 TestHasTexts (TestExpr e) = Unit {0}
 TestHasTexts (TestCall c) = CallHasTexts c
 
+-- of a call in a plain statement
+abbrev pub PlainHasTexts : PlainStmt → Type 0
+PlainHasTexts (tree.Declare type x right) = RightHasTexts right
+PlainHasTexts (tree.Assign x right) = RightHasTexts right
+PlainHasTexts (tree.Perform call) = CallHasTexts call
+PlainHasTexts p = Unit {0}
+
 abbrev mutual
   -- of each call in a block
   pub BlockHasTexts : Block → Type 0
@@ -43,15 +50,11 @@ abbrev mutual
 
   -- of each call in a statement
   pub StmtHasTexts : Stmt → Type 0
-  StmtHasTexts (tree.Declare line type x right) = RightHasTexts right
-  StmtHasTexts (tree.DeclareBuffer line kind x right) = RightHasTexts right
-  StmtHasTexts (tree.DeclareChars line x right) = RightHasTexts right
-  StmtHasTexts (tree.Assign line x right) = RightHasTexts right
-  StmtHasTexts (tree.Perform line call) = CallHasTexts call
-  StmtHasTexts (tree.If line test then') = TestHasTexts test × BlockHasTexts then'
-  StmtHasTexts (tree.IfElse line test then' else') = TestHasTexts test × BlockHasTexts then' × BlockHasTexts else'
+  StmtHasTexts (tree.Plain line p) = PlainHasTexts p
+  StmtHasTexts (tree.If line test then' tree.NoElse) = TestHasTexts test × BlockHasTexts then'
+  StmtHasTexts (tree.If line test then' (tree.ElseBlock else')) = TestHasTexts test × BlockHasTexts then' × BlockHasTexts else'
   StmtHasTexts (tree.While line test body) = BlockHasTexts body
-  StmtHasTexts s = Unit {0}
+  StmtHasTexts (tree.Return line e) = Unit {0}
 
 -- of each call of a unit
 abbrev pub HasTexts : SourceUnit → Type 0

@@ -8,7 +8,8 @@ use Rattle.syntax.specs.Parts.{functions_of, statements_of, parameter_names, nam
 use Rattle.syntax.specs.declared.declared_type.ParameterType.{ParameterType}
 use Rattle.syntax.specs.declared.declared_type.ParameterType.TheVariants.{Jint as IntParameter, Reference as ReferenceParameter}
 use Rattle.syntax.specs.declared.declared_type.VariableType.TheVariants.{Jint as JIntVariable, Jsize as JSize}
-use Rattle.syntax.specs.Tree.{Parameter, Stmt, Declare, DeclareBuffer, DeclareChars, DeclareArray, Function, Item, StaticItem, FunctionItem}
+use Rattle.syntax.specs.declared.declared_type.DeclaredType.TheVariants.{Simple, Pointer, ConstChars}
+use Rattle.syntax.specs.Tree.{Parameter, Stmt, Plain, Declare, DeclareArray, Function, Item, StaticItem, FunctionItem}
 use Rattle.syntax.specs.declared.unit.Item.{Item as ItemInMemory}
 use Rattle.syntax.specs.Views.{item_tree}
 use Rattle.code_meaning.specs.Length.{int_parameter, int_declared, int_names}
@@ -26,12 +27,12 @@ ints_of_parameters (p ∷ ps) = by_type p.type (ints_of_parameters ps)
 
 declared_ints : (statements : List Stmt) → length (filter_map int_declared statements) ≤ length (names_declared statements)
 declared_ints [] = omega arith
-declared_ints (Declare line JIntVariable x r ∷ rest) = omega (arith, declared_ints rest)
-declared_ints (Declare line JSize x r ∷ rest) = omega (arith, declared_ints rest)
-declared_ints (Declare line t x r ∷ rest) = omega (arith, declared_ints rest)
-declared_ints (DeclareBuffer line t x r ∷ rest) = omega (arith, declared_ints rest)
-declared_ints (DeclareChars line x r ∷ rest) = omega (arith, declared_ints rest)
-declared_ints (DeclareArray line t x size ∷ rest) = omega (arith, declared_ints rest)
+declared_ints (Plain line (Declare (Simple JIntVariable) x r) ∷ rest) = omega (arith, declared_ints rest)
+declared_ints (Plain line (Declare (Simple JSize) x r) ∷ rest) = omega (arith, declared_ints rest)
+declared_ints (Plain line (Declare (Simple t) x r) ∷ rest) = omega (arith, declared_ints rest)
+declared_ints (Plain line (Declare (Pointer t) x r) ∷ rest) = omega (arith, declared_ints rest)
+declared_ints (Plain line (Declare ConstChars x r) ∷ rest) = omega (arith, declared_ints rest)
+declared_ints (Plain line (DeclareArray t x size) ∷ rest) = omega (arith, declared_ints rest)
 declared_ints (s ∷ rest) = declared_ints rest
 
 pub few_ints : (f : Function) → HasFewNames f → length (int_names f) ≤ most_names

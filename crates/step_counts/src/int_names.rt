@@ -1,16 +1,20 @@
 //! The names of a function's variables of type `jint`.
 
-ghost use Rattle.std.specs.Prelude.{◌≡◌, [], ◌∷◌, filter_map, map, bytes_eq};
+ghost use Rattle.std.specs.Prelude.{◌≡◌, ℕ, [], ◌∷◌, filter_map, map, bytes_eq};
 ghost use Rattle.std.specs.List.{list_any};
 ghost use Rattle.syntax.specs.Parts.{statements_of, statements_within};
-ghost use Rattle.syntax.specs.Views.{parameter_tree, stmt_tree, block_tree, function_tree};
+ghost use Rattle.syntax.specs.Tree.{Plain};
+ghost use Rattle.syntax.specs.Views.{parameter_tree, plain_tree, stmt_tree, block_tree, function_tree};
 ghost use Rattle.code_meaning.specs.Length.{int_parameter, int_declared, int_names};
 ghost use Rattle.step_counts.specs.Names.{HasFewNames, with_names};
 
 use arrayvec::ArrayVec;
 use base::limits::MOST_NAMES;
 use std::marker::Model;
-use syntax::{Block, Form, Function, Name, Parameter, ParameterType, Stmt, VariableType};
+use syntax::{
+    Block, DeclaredType, Else, Form, Function, Name, Parameter, ParameterType, PlainStmt, Stmt,
+    VariableType,
+};
 
 /// A name by its spelling.
 #[derive(Clone, Copy)]
@@ -111,6 +115,21 @@ impl<'a> IntNames<'a> {
         }
     }
 
+    /// That of a variable of type `jint` that a plain statement declares.
+    #[tactic(auto, using(crate::proofs::FirstNames::with_none))]
+    fn take_declared(&mut self, plain: &'a PlainStmt)
+        ensures { (line : ℕ) → self.new ≡ with_names self.old (filter_map int_declared (Plain line (plain_tree plain.now) ∷ [])) }
+    {
+        match plain {
+            PlainStmt::Declare(
+                DeclaredType::Simple(VariableType::Jint | VariableType::Jsize),
+                name,
+                _,
+            ) => self.take(name),
+            _ => {}
+        }
+    }
+
     /// Those that a statement declares, and the statements inside it.
     #[cycle(declared)]
     #[tactic(auto, using(crate::proofs::FirstNames::with_none, crate::proofs::FirstNames::with_both, crate::proofs::FirstNames::ints_both))]
@@ -118,13 +137,16 @@ impl<'a> IntNames<'a> {
         ensures { self.new ≡ with_names self.old (filter_map int_declared (statements_within (stmt_tree stmt.now))) }
     {
         match &stmt.form {
-            Form::Declare(VariableType::Jint | VariableType::Jsize, name, _) => self.take(name),
-            Form::If(_, block) | Form::While(_, block) => self.take_block(block),
-            Form::IfElse(_, first, second) => {
+            Form::Plain(plain) => self.take_declared(plain),
+            Form::If(_, first, other) => {
                 self.take_block(first);
-                self.take_block(second);
+                match other {
+                    Else::Nothing => {}
+                    Else::Block(second) => self.take_block(second),
+                }
             }
-            _ => {}
+            Form::While(_, body) => self.take_block(body),
+            Form::Return(_) => {}
         }
     }
 

@@ -4,11 +4,10 @@ ghost use Rattle.std.specs.Prelude.{◌≡◌, ℕ, ◌+◌, ◌<◌, nat_lt, if
 ghost use Rattle.std.specs.List.{list_any, sum_by};
 ghost use Rattle.base.specs.Limits.{most_steps};
 ghost use Rattle.syntax.specs.Shapes.{ref_tree};
-ghost use Rattle.syntax.specs.Views.{argument_tree, call_tree, right_side_tree, test_tree, form_tree, block_tree, function_tree, item_tree, unit_tree};
+ghost use Rattle.syntax.specs.Views.{argument_tree, call_tree, right_side_tree, test_tree, plain_tree, form_tree, else_tree, block_tree, function_tree, item_tree, unit_tree};
 ghost use Rattle.jni.specs.JniFunction.{function_named};
-ghost use Rattle.code_meaning.specs.Plain.{is_plain};
 ghost use Rattle.code_meaning.specs.Arguments.{paired};
-ghost use Rattle.code_meaning.specs.Length.{expr_steps, passed_steps, argument_steps, call_steps, value_steps, right_steps, test_steps, return_steps, stmt_steps, block_steps, function_steps, is_long};
+ghost use Rattle.code_meaning.specs.Length.{expr_steps, passed_steps, argument_steps, call_steps, value_steps, right_steps, test_steps, return_steps, plain_steps, stmt_steps, else_steps, block_steps, function_steps, is_long};
 ghost use Rattle.step_counts.specs.Names.{HasFewNames, has_few_names};
 
 use crate::int_names::IntNames;
@@ -17,8 +16,8 @@ use code_meaning::Parameters;
 use jni::{ParameterKind, function_named};
 use region_rules::Checked;
 use syntax::{
-    Argument, Block, Call, Constant, ExprRef, Form, Function, Item, ResultType, RightSide, Shape,
-    Test,
+    Argument, Block, Call, Constant, Else, ExprRef, Form, Function, Item, PlainStmt, ResultType,
+    RightSide, Shape, Test,
 };
 
 /// What is left of `left` after one step, where there is one.
@@ -183,9 +182,9 @@ fn after_form(left: usize, ints: &IntNames<'_>, returns: ResultType, form: &Form
     ensures none { (line : ℕ) → IfNone result (left < stmt_steps ints.now returns (form_tree line form.now)) }
 {
     match form {
-        Form::If(test, block) => after_one(after_first(left, ints, returns, test, block)?),
-        Form::IfElse(test, block, other) => {
-            after_path(
+        Form::Plain(plain) => after_plain(left, ints, plain),
+        Form::If(test, block, other) => {
+            after_else(
                 after_first(left, ints, returns, test, block)?,
                 ints,
                 returns,
@@ -198,7 +197,20 @@ fn after_form(left: usize, ints: &IntNames<'_>, returns: ResultType, form: &Form
             returns,
             body,
         ),
-        _ => after_plain(left, ints, returns, form),
+        Form::Return(None) => after_one(left),
+        Form::Return(Some(e)) => after_return(left, returns, e.whole()),
+    }
+}
+
+/// What is left of `left` after the steps of the second block of an `if`, where it has one, and the one at its end.
+#[cycle(statements)]
+fn after_else(left: usize, ints: &IntNames<'_>, returns: ResultType, other: &Else) -> Option<usize>
+    ensures some { IfSome result (λ rest. rest + (else_steps ints.now returns (else_tree other.now) + 1) ≡ left) }
+    ensures none { IfNone result (left < else_steps ints.now returns (else_tree other.now) + 1) }
+{
+    match other {
+        Else::Nothing => after_one(left),
+        Else::Block(block) => after_path(left, ints, returns, block),
     }
 }
 
@@ -218,24 +230,18 @@ fn after_first(
     after_path(after_test(left, ints, test)?, ints, returns, block)
 }
 
-/// What is left of `left` after the steps of a statement without blocks.
-fn after_plain(left: usize, ints: &IntNames<'_>, returns: ResultType, form: &Form) -> Option<usize>
-    requires { IsTrue (is_plain form.now) }
-    ensures some { (line : ℕ) → IfSome result (λ rest. rest + stmt_steps ints.now returns (form_tree line form.now) ≡ left) }
-    ensures none { (line : ℕ) → IfNone result (left < stmt_steps ints.now returns (form_tree line form.now)) }
+/// What is left of `left` after the steps of a plain statement.
+fn after_plain(left: usize, ints: &IntNames<'_>, plain: &PlainStmt) -> Option<usize>
+    ensures some { IfSome result (λ rest. rest + plain_steps ints.now (plain_tree plain.now) ≡ left) }
+    ensures none { IfNone result (left < plain_steps ints.now (plain_tree plain.now)) }
 {
-    match form {
-        Form::Declare(_, _, right) => after_right(left, ints, right),
-        Form::DeclareBuffer(_, _, right) => after_right(left, ints, right),
-        Form::DeclareChars(_, right) => after_right(left, ints, right),
-        Form::DeclareArray(..) => after_one(left),
-        Form::Assign(_, right) => after_right(left, ints, right),
-        Form::AssignElement(_, i, e) => after_number(after_expr(left, i.whole())?, e.whole()),
-        Form::Perform(call) => after_call(left, ints, call),
-        Form::PutJint(e) => after_number(left, e.whole()),
-        Form::Return(None) => after_one(left),
-        Form::Return(Some(e)) => after_return(left, returns, e.whole()),
-        Form::If(..) | Form::IfElse(..) | Form::While(..) => Some(left),
+    match plain {
+        PlainStmt::Declare(_, _, right) => after_right(left, ints, right),
+        PlainStmt::DeclareArray(..) => after_one(left),
+        PlainStmt::Assign(_, right) => after_right(left, ints, right),
+        PlainStmt::AssignElement(_, i, e) => after_number(after_expr(left, i.whole())?, e.whole()),
+        PlainStmt::Perform(call) => after_call(left, ints, call),
+        PlainStmt::PutJint(e) => after_number(left, e.whole()),
     }
 }
 

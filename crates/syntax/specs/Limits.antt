@@ -6,7 +6,7 @@ pub use Rattle.base.specs.Numbers.{number_limit}
 use Rattle.syntax.specs.Parts.{functions_of, statics_of, statements_of, own_expressions, own_arguments, names_declared, parameter_names}
 use Rattle.syntax.specs.declared.expr.BinaryOp.{BinaryOp}
 use Rattle.syntax.specs.declared.expr.BinaryOp.TheVariants.{LogicalOr, LogicalAnd, BitOr, BitXor, BitAnd, Equal, NotEqual, Less, LessEqual, Greater, GreaterEqual, ShiftLeft, ShiftRight, Add, Subtract, Multiply, Divide, Remainder}
-use Rattle.syntax.specs.Tree.{Expr, Number, Named, Variable, Element, Prefix, Binary, Paren, Argument, Text, Stmt, DeclareArray, AssignElement, If, IfElse, While, Return, ReturnValue, Block, End, Next, SourceUnit}
+use Rattle.syntax.specs.Tree.{Expr, Number, Named, Variable, Element, Prefix, Binary, Paren, Argument, Text, PlainStmt, DeclareArray, AssignElement, Stmt, Plain, If, While, Return, NoElse, ElseBlock, Block, End, Next, SourceUnit}
 
 -- ---- levels
 
@@ -85,13 +85,14 @@ highest (n ∷ ns) = max n (highest ns)
 
 -- the height of the expressions; an element that is set counts its index
 abbrev pub own_height : Stmt → ℕ
-own_height (AssignElement line x i e) = max (1 + height i) (height e)
+own_height (Plain line (AssignElement x i e)) = max (1 + height i) (height e)
 own_height s = highest (map height (own_expressions s))
 
 abbrev mutual
   pub statement_height : Stmt → ℕ
-  statement_height (If line test then') = max (own_height (If line test then')) (block_height then')
-  statement_height (IfElse line test then' else') = max (own_height (IfElse line test then' else')) (max (block_height then') (block_height else'))
+  statement_height (If line test then' NoElse) = max (own_height (If line test then' NoElse)) (block_height then')
+  statement_height (If line test then' (ElseBlock else')) =
+      max (own_height (If line test then' (ElseBlock else'))) (max (block_height then') (block_height else'))
   statement_height (While line test body) = max (own_height (While line test body)) (block_height body)
   statement_height s = own_height s
 
@@ -104,18 +105,21 @@ abbrev pub is_end : Block → Bool
 is_end (End line) = true
 is_end (Next s rest) = false
 
+abbrev pub plain_well_formed : PlainStmt → Bool
+plain_well_formed (DeclareArray t x size) = nat_le 1 size && nat_le size most_elements
+plain_well_formed p = true
+
 abbrev mutual
   pub well_formed : Stmt → Bool
-  well_formed (DeclareArray line t x size) = nat_le 1 size && nat_le size most_elements
-  well_formed (If line test then') = block_well_formed then'
-  well_formed (IfElse line test then' else') = block_well_formed then' && block_well_formed else'
+  well_formed (Plain line p) = plain_well_formed p
+  well_formed (If line test then' NoElse) = block_well_formed then'
+  well_formed (If line test then' (ElseBlock else')) = block_well_formed then' && block_well_formed else'
   well_formed (While line test body) = block_well_formed body
-  well_formed s = true
+  well_formed (Return line e) = true
 
   pub block_well_formed : Block → Bool
   block_well_formed (End line) = true
-  block_well_formed (Next (Return line) rest) = is_end rest
-  block_well_formed (Next (ReturnValue line e) rest) = is_end rest
+  block_well_formed (Next (Return line e) rest) = is_end rest
   block_well_formed (Next s rest) = well_formed s && block_well_formed rest
 
 -- the tree follows precedence, has the forms of the grammar, and is in its limits

@@ -4,7 +4,7 @@ use Rattle.std.specs.Option.{option_to_list}
 use Rattle.base.specs.Bytes.{Identifier}
 use Rattle.syntax.specs.declared.expr.BinaryOp.TheVariants.{Equal, NotEqual}
 use Rattle.syntax.specs.declared.expr.Constant.TheVariants.{Null}
-use Rattle.syntax.specs.Tree.{Expr, Number, Named, Variable, Element, Prefix, Binary, Paren, Argument, Value, Text, AddressOf, Call, RightSide, FromExpr, FromCall, Test, TestExpr, TestCall, Stmt, Declare, DeclareBuffer, DeclareChars, DeclareArray, Assign, AssignElement, Perform, PutJint, If, IfElse, While, Return, ReturnValue, Block, End, Next, Function, Static, Item, StaticItem, FunctionItem, SourceUnit}
+use Rattle.syntax.specs.Tree.{Expr, Number, Named, Variable, Element, Prefix, Binary, Paren, Argument, Value, Text, AddressOf, Call, RightSide, FromExpr, FromCall, Test, TestExpr, TestCall, PlainStmt, Declare, DeclareArray, Assign, AssignElement, Perform, PutJint, Stmt, Plain, If, While, Return, NoElse, ElseBlock, Block, End, Next, Function, Static, Item, StaticItem, FunctionItem, SourceUnit}
 
 -- the functions of a unit
 abbrev pub functions_of : SourceUnit → List Function
@@ -19,50 +19,42 @@ abbrev pub item_name : Item → Identifier
 item_name (StaticItem s) = s.name
 item_name (FunctionItem f) = f.name
 
--- a block's statements and those inside them, each before what is inside it
 abbrev mutual
-  pub statements_within : Stmt → List Stmt
-  statements_within (If line test then') = If line test then' ∷ statements_of then'
-  statements_within (IfElse line test then' else') = IfElse line test then' else' ∷ statements_of then' ++ statements_of else'
-  statements_within (While line test body) = While line test body ∷ statements_of body
-  statements_within s = s ∷ []
+  -- the statements inside a statement
+  pub statements_inside : Stmt → List Stmt
+  statements_inside (If line test then' NoElse) = statements_of then'
+  statements_inside (If line test then' (ElseBlock else')) = statements_of then' ++ statements_of else'
+  statements_inside (While line test body) = statements_of body
+  statements_inside s = []
 
+  -- a block's statements and those inside them, each before what is inside it
   pub statements_of : Block → List Stmt
   statements_of (End line) = []
-  statements_of (Next s rest) = statements_within s ++ statements_of rest
+  statements_of (Next s rest) = (s ∷ statements_inside s) ++ statements_of rest
+
+-- a statement and those inside it
+abbrev pub statements_within : Stmt → List Stmt
+statements_within s = s ∷ statements_inside s
 
 -- ---- a statement's own parts, without those of the blocks inside it
 
 -- the line of a statement
 abbrev pub line_of : Stmt → ℕ
-line_of (Declare line t x r) = line
-line_of (DeclareBuffer line t x r) = line
-line_of (DeclareChars line x r) = line
-line_of (DeclareArray line t x size) = line
-line_of (Assign line x r) = line
-line_of (AssignElement line x i e) = line
-line_of (Perform line c) = line
-line_of (PutJint line e) = line
-line_of (If line test then') = line
-line_of (IfElse line test then' else') = line
+line_of (Plain line p) = line
+line_of (If line test then' else') = line
 line_of (While line test body) = line
-line_of (Return line) = line
-line_of (ReturnValue line e) = line
+line_of (Return line e) = line
 
 -- the name that a statement declares
 abbrev pub declared_name : Stmt → Option Identifier
-declared_name (Declare line t x r) = Some x
-declared_name (DeclareBuffer line t x r) = Some x
-declared_name (DeclareChars line x r) = Some x
-declared_name (DeclareArray line t x size) = Some x
+declared_name (Plain line (Declare t x r)) = Some x
+declared_name (Plain line (DeclareArray t x size)) = Some x
 declared_name s = None
 
 -- the right side that a statement sets its variable to
 abbrev pub right_side : Stmt → Option RightSide
-right_side (Declare line t x r) = Some r
-right_side (DeclareBuffer line t x r) = Some r
-right_side (DeclareChars line x r) = Some r
-right_side (Assign line x r) = Some r
+right_side (Plain line (Declare t x r)) = Some r
+right_side (Plain line (Assign x r)) = Some r
 right_side s = None
 
 -- the call that a variable is set to
@@ -72,9 +64,8 @@ call_of_right_side r = None
 
 -- the call that a statement makes
 abbrev pub own_call : Stmt → Option Call
-own_call (Perform line c) = Some c
-own_call (If line (TestCall c) then') = Some c
-own_call (IfElse line (TestCall c) then' else') = Some c
+own_call (Plain line (Perform c)) = Some c
+own_call (If line (TestCall c) then' else') = Some c
 own_call s = call_of_right_side (right_side s)
 
 -- the arguments of the call that a statement makes
@@ -101,21 +92,21 @@ abbrev pub test_expressions : Test → List Expr
 test_expressions (TestExpr e) = e ∷ []
 test_expressions (TestCall c) = call_expressions c
 
+-- the expressions of a plain statement
+abbrev pub plain_expressions : PlainStmt → List Expr
+plain_expressions (Declare t x r) = right_side_expressions r
+plain_expressions (DeclareArray t x size) = []
+plain_expressions (Assign x r) = right_side_expressions r
+plain_expressions (AssignElement x i e) = i ∷ e ∷ []
+plain_expressions (Perform c) = call_expressions c
+plain_expressions (PutJint e) = e ∷ []
+
 -- the expressions that a statement evaluates itself
 abbrev pub own_expressions : Stmt → List Expr
-own_expressions (Declare line t x r) = right_side_expressions r
-own_expressions (DeclareBuffer line t x r) = right_side_expressions r
-own_expressions (DeclareChars line x r) = right_side_expressions r
-own_expressions (DeclareArray line t x size) = []
-own_expressions (Assign line x r) = right_side_expressions r
-own_expressions (AssignElement line x i e) = i ∷ e ∷ []
-own_expressions (Perform line c) = call_expressions c
-own_expressions (PutJint line e) = e ∷ []
-own_expressions (If line test then') = test_expressions test
-own_expressions (IfElse line test then' else') = test_expressions test
+own_expressions (Plain line p) = plain_expressions p
+own_expressions (If line test then' else') = test_expressions test
 own_expressions (While line test body) = test ∷ []
-own_expressions (Return line) = []
-own_expressions (ReturnValue line e) = e ∷ []
+own_expressions (Return line e) = option_to_list e
 
 -- ---- names
 
@@ -146,12 +137,12 @@ addresses_in (Some c) = filter_map (elim [ AddressOf x ↦ Some x | _ ↦ None ]
 
 -- the variable that an assignment sets, and the one whose element it sets
 abbrev pub assigned_name : Stmt → Option Identifier
-assigned_name (Assign line x r) = Some x
+assigned_name (Plain line (Assign x r)) = Some x
 assigned_name s = None
 
 -- the variable whose element an assignment sets
 abbrev pub written_name : Stmt → Option Identifier
-written_name (AssignElement line x i e) = Some x
+written_name (Plain line (AssignElement x i e)) = Some x
 written_name s = None
 
 -- the name in `x == NULL` or `x != NULL`

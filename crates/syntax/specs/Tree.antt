@@ -1,9 +1,9 @@
 -- The syntax tree of a program text, without where it lies in memory.
-use Rattle.std.specs.Prelude.{ℕ, Bool, List}
+use Rattle.std.specs.Prelude.{ℕ, Bool, List, Option}
 use Rattle.base.specs.Bytes.{Identifier}
 use Rattle.base.specs.declared.element.ElementType.{ElementType}
 use Rattle.syntax.specs.declared.declared_type.ParameterType.{ParameterType}
-use Rattle.syntax.specs.declared.declared_type.VariableType.{VariableType}
+use Rattle.syntax.specs.declared.declared_type.DeclaredType.{DeclaredType}
 use Rattle.syntax.specs.declared.declared_type.StaticType.{StaticType}
 use Rattle.syntax.specs.declared.unit.ResultType.{ResultType}
 use Rattle.syntax.specs.declared.expr.PrefixOp.{PrefixOp}
@@ -42,22 +42,27 @@ pub data Test : Type 0 where
   TestExpr : Expr → Test
   TestCall : Call → Test
 
+-- a statement after which the next one comes: it has no block and doesn't return
+pub data PlainStmt : Type 0 where
+  Declare : DeclaredType → Identifier → RightSide → PlainStmt
+  DeclareArray : ElementType → Identifier → (size : ℕ) → PlainStmt
+  Assign : Identifier → RightSide → PlainStmt
+  AssignElement : Identifier → (index value : Expr) → PlainStmt
+  Perform : Call → PlainStmt
+  PutJint : Expr → PlainStmt
+
 mutual
   -- each statement and each end of a block has its line, that of its first token
   pub data Stmt : Type 0 where
-    Declare : (line : ℕ) → VariableType → Identifier → RightSide → Stmt
-    DeclareBuffer : (line : ℕ) → ElementType → Identifier → RightSide → Stmt
-    DeclareChars : (line : ℕ) → Identifier → RightSide → Stmt
-    DeclareArray : (line : ℕ) → ElementType → Identifier → (size : ℕ) → Stmt
-    Assign : (line : ℕ) → Identifier → RightSide → Stmt
-    AssignElement : (line : ℕ) → Identifier → (index value : Expr) → Stmt
-    Perform : (line : ℕ) → Call → Stmt
-    PutJint : (line : ℕ) → Expr → Stmt
-    If : (line : ℕ) → Test → (then' : Block) → Stmt
-    IfElse : (line : ℕ) → Test → (then' else' : Block) → Stmt
+    Plain : (line : ℕ) → PlainStmt → Stmt
+    If : (line : ℕ) → Test → (then' : Block) → Else → Stmt
     While : (line : ℕ) → Expr → (body : Block) → Stmt
-    Return : (line : ℕ) → Stmt
-    ReturnValue : (line : ℕ) → Expr → Stmt
+    Return : (line : ℕ) → Option Expr → Stmt
+
+  -- the second block of an `if`, where it has one
+  pub data Else : Type 0 where
+    NoElse : Else
+    ElseBlock : Block → Else
 
   -- a block's statements, and at its end the line of its closing brace
   pub data Block : Type 0 where

@@ -1,5 +1,6 @@
 -- The trees that lie in memory, as trees of the language.
-use Rattle.std.specs.Prelude.{ℕ, List, map, Option, Some, None}
+use Rattle.std.specs.Prelude.{ℕ, List, map}
+use Rattle.std.specs.Option.{option_map}
 use Rattle.syntax.specs.declared.expr.Expr.{Expr as ExprInMemory}
 use Rattle.syntax.specs.declared.call.Call.{Call as CallInMemory}
 use Rattle.syntax.specs.declared.call.Argument.{Argument as ArgumentInMemory}
@@ -9,6 +10,10 @@ use Rattle.syntax.specs.declared.call.RightSide.TheVariants as right
 use Rattle.syntax.specs.declared.call.Test.{Test as TestInMemory}
 use Rattle.syntax.specs.declared.call.Test.TheVariants as test
 use Rattle.syntax.specs.declared.stmt.Stmt.{Stmt as StmtInMemory}
+use Rattle.syntax.specs.declared.stmt.PlainStmt.{PlainStmt as PlainInMemory}
+use Rattle.syntax.specs.declared.stmt.PlainStmt.TheVariants as plain
+use Rattle.syntax.specs.declared.stmt.Else.{Else as ElseInMemory}
+use Rattle.syntax.specs.declared.stmt.Else.TheVariants as other
 use Rattle.syntax.specs.declared.stmt.Form.{Form}
 use Rattle.syntax.specs.declared.stmt.Form.TheVariants as form
 use Rattle.syntax.specs.declared.stmt.Block.{Block as BlockInMemory, Block', Row_of-Stmt, end_of-Stmt, more_of-Stmt}
@@ -18,7 +23,7 @@ use Rattle.syntax.specs.declared.unit.Static.{Static as StaticInMemory}
 use Rattle.syntax.specs.declared.unit.Item.{Item as ItemInMemory}
 use Rattle.syntax.specs.declared.unit.Item.TheVariants as item
 use Rattle.syntax.specs.Nodes.{held_nodes, tree_of}
-use Rattle.syntax.specs.Tree.{Expr, Argument, Value, Text, AddressOf, Call, RightSide, FromExpr, FromCall, Test, TestExpr, TestCall, Stmt, Declare, DeclareBuffer, DeclareChars, DeclareArray, Assign, AssignElement, Perform, PutJint, If, IfElse, While, Return, ReturnValue, Block, End, Next, Parameter, Function, Static, Item, StaticItem, FunctionItem, SourceUnit}
+use Rattle.syntax.specs.Tree.{Expr, Argument, Value, Text, AddressOf, Call, RightSide, FromExpr, FromCall, Test, TestExpr, TestCall, PlainStmt, Declare, DeclareArray, Assign, AssignElement, Perform, PutJint, Stmt, Plain, If, While, Return, Else, NoElse, ElseBlock, Block, End, Next, Parameter, Function, Static, Item, StaticItem, FunctionItem, SourceUnit}
 
 -- the tree that the nodes of an expression spell
 unfoldable pub expr_tree : ExprInMemory → Expr
@@ -40,26 +45,25 @@ abbrev pub test_tree : TestInMemory → Test
 test_tree (test.Expr e) = TestExpr (expr_tree e)
 test_tree (test.Call c) = TestCall (call_tree c)
 
--- a return with a value or without
-abbrev pub return_tree : ℕ → Option ExprInMemory → Stmt
-return_tree line None = Return line
-return_tree line (Some e) = ReturnValue line (expr_tree e)
+abbrev pub plain_tree : PlainInMemory → PlainStmt
+plain_tree (plain.Declare t x r) = Declare t x (right_side_tree r)
+plain_tree (plain.DeclareArray t x size) = DeclareArray t x size
+plain_tree (plain.Assign x r) = Assign x (right_side_tree r)
+plain_tree (plain.AssignElement x i e) = AssignElement x (expr_tree i) (expr_tree e)
+plain_tree (plain.Perform c) = Perform (call_tree c)
+plain_tree (plain.PutJint e) = PutJint (expr_tree e)
 
 -- what a statement of this line does; the statements of a block in memory are a row
 abbrev mutual
   pub form_tree : ℕ → Form → Stmt
-  form_tree line (form.Declare t x r) = Declare line t x (right_side_tree r)
-  form_tree line (form.DeclareBuffer t x r) = DeclareBuffer line t x (right_side_tree r)
-  form_tree line (form.DeclareChars x r) = DeclareChars line x (right_side_tree r)
-  form_tree line (form.DeclareArray t x size) = DeclareArray line t x size
-  form_tree line (form.Assign x r) = Assign line x (right_side_tree r)
-  form_tree line (form.AssignElement x i e) = AssignElement line x (expr_tree i) (expr_tree e)
-  form_tree line (form.Perform c) = Perform line (call_tree c)
-  form_tree line (form.PutJint e) = PutJint line (expr_tree e)
-  form_tree line (form.If test b) = If line (test_tree test) (block_tree b)
-  form_tree line (form.IfElse test b d) = IfElse line (test_tree test) (block_tree b) (block_tree d)
+  form_tree line (form.Plain p) = Plain line (plain_tree p)
+  form_tree line (form.If test b d) = If line (test_tree test) (block_tree b) (else_tree d)
   form_tree line (form.While test b) = While line (expr_tree test) (block_tree b)
-  form_tree line (form.Return e) = return_tree line e
+  form_tree line (form.Return e) = Return line (option_map expr_tree e)
+
+  pub else_tree : ElseInMemory → Else
+  else_tree other.Nothing = NoElse
+  else_tree (other.Block b) = ElseBlock (block_tree b)
 
   pub block_tree : BlockInMemory → Block
   block_tree (Block' count row end_line) = row_tree row end_line

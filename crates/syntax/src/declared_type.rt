@@ -1,5 +1,7 @@
 //! The types of parameters, variables and statics.
 
+use base::ElementType;
+
 /// A reference type (JNI Specification, chapter 3, "Reference Types").
 #[derive(Clone, Copy)]
 pub enum ReferenceType {
@@ -57,4 +59,15 @@ pub enum VariableType {
     /// `jmethodID`
     JmethodId,
     Reference(ReferenceType),
+}
+
+/// The type of a variable that is declared, but for local arrays.
+#[derive(Clone, Copy)]
+pub enum DeclaredType {
+    /// `jint`, and each other type that is a name alone.
+    Simple(VariableType),
+    /// `jint *`, a pointer to elements of this type.
+    Pointer(ElementType),
+    /// `const jchar *`
+    ConstChars,
 }

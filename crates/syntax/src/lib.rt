@@ -14,11 +14,11 @@ mod unit;
 
 pub use base::ElementType;
 pub use call::{Argument, Call, RightSide, Test};
-pub use declared_type::{ParameterType, ReferenceType, StaticType, VariableType};
+pub use declared_type::{DeclaredType, ParameterType, ReferenceType, StaticType, VariableType};
 pub use expr::{BinaryOp, Constant, Expr, PrefixOp};
 pub use expr_ref::{ExprRef, Shape};
 pub use expr_stack::ExprStack;
 pub use name::Name;
 pub use null_test::NullTest;
-pub use stmt::{Block, Form, Stmt};
+pub use stmt::{Block, Else, Form, PlainStmt, Stmt};
 pub use unit::{Function, Item, Parameter, ResultType, Static, Unit};

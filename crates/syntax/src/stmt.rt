@@ -1,7 +1,7 @@
 //! Statements and blocks.
 
 use crate::call::{Call, RightSide, Test};
-use crate::declared_type::VariableType;
+use crate::declared_type::DeclaredType;
 use crate::expr::Expr;
 use crate::name::Name;
 use base::ElementType;
@@ -28,12 +28,28 @@ pub struct Stmt {
 #[cycle(statements)]
 #[derive(Drop)]
 pub enum Form {
+    Plain(PlainStmt),
+    /// `if (e) { .. }` or `if (e) { .. } else { .. }`
+    If(Test, Block, Else),
+    /// `while (e) { .. }`
+    While(Expr, Block),
+    /// `return;` or `return e;`
+    Return(Option<Expr>),
+}
+
+/// The second block of an `if`, where it has one.
+#[cycle(statements)]
+#[derive(Drop)]
+pub enum Else {
+    Nothing,
+    Block(Block),
+}
+
+/// What a statement does after which the next one comes: it has no block and doesn't return.
+#[derive(Drop)]
+pub enum PlainStmt {
     /// `jint x = e;`
-    Declare(VariableType, Name, RightSide),
-    /// `jint *x = e;`
-    DeclareBuffer(ElementType, Name, RightSide),
-    /// `const jchar *x = e;`
-    DeclareChars(Name, RightSide),
+    Declare(DeclaredType, Name, RightSide),
     /// `jint x[n] = {0};`
     DeclareArray(ElementType, Name, u32),
     /// `x = e;`
@@ -44,12 +60,4 @@ pub enum Form {
     Perform(Call),
     /// `put_jint(e);`
     PutJint(Expr),
-    /// `if (e) { .. }`
-    If(Test, Block),
-    /// `if (e) { .. } else { .. }`
-    IfElse(Test, Block, Block),
-    /// `while (e) { .. }`
-    While(Expr, Block),
-    /// `return;` or `return e;`
-    Return(Option<Expr>),
 }

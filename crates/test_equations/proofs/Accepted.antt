@@ -1,11 +1,12 @@
 -- The cases of texts/accepted.cases, as gate/worked_equations writes them.
-use Rattle.std.specs.Prelude.{◌∷◌, true, false, [], codes, refl}
+use Rattle.std.specs.Prelude.{◌∷◌, true, false, [], None, codes, refl}
 use Rattle.base.specs.declared.element.ElementType.TheVariants.{Int as JInt}
 use Rattle.syntax.specs.declared.declared_type.ReferenceType.TheVariants.{IntArray as JIntArray}
+use Rattle.syntax.specs.declared.declared_type.DeclaredType.TheVariants.{Pointer}
 use Rattle.syntax.specs.declared.unit.ResultType.TheVariants.{Void}
 use Rattle.syntax.specs.declared.expr.Constant.TheVariants.{Null}
 use Rattle.syntax.specs.declared.expr.BinaryOp.TheVariants.{Equal}
-use Rattle.syntax.specs.Tree.{Number, Named, Variable, Binary, Value, FromCall, TestExpr, DeclareBuffer, AssignElement, Perform, If, IfElse, Return, SourceUnit}
+use Rattle.syntax.specs.Tree.{Number, Named, Variable, Binary, Value, FromCall, TestExpr, Declare, AssignElement, Perform, Plain, If, NoElse, ElseBlock, Return, SourceUnit}
 use Rattle.test_equations.specs.Claims.{IsAccepted}
 use Rattle.test_equations.proofs.Programs.{unit_of, native, block, reference_parameter, call, given}
 use Rattle.test_equations.proofs.Computed.{opened, accepted}
@@ -21,23 +22,24 @@ abbrev pub returns_early : SourceUnit
 returns_early =
     unit_of
     (native 1 Void (codes "Java_A_f") (reference_parameter JIntArray (codes "a") ∷ [])
-    (DeclareBuffer 2 JInt (codes "p") (FromCall (call (codes "GetIntArrayElements") (given (codes "a") ∷ Value (Named Null) ∷ [])))
+    (Plain 2 (Declare (Pointer JInt) (codes "p") (FromCall (call (codes "GetIntArrayElements") (given (codes "a") ∷ Value (Named Null) ∷ []))))
     ∷ If 3 (TestExpr (Binary Equal (Variable (codes "p")) (Named Null)))
     (block
-    (Return 3
+    (Return 3 None
     ∷ [])
     3)
-    ∷ AssignElement 4 (codes "p") (Number 0 false) (Number 1 false)
-    ∷ Perform 5 (call (codes "ReleaseIntArrayElements") (given (codes "a") ∷ given (codes "p") ∷ Value (Number 0 false) ∷ []))
-    ∷ IfElse 6 (TestExpr (Binary Equal (Number 1 true) (Number 1 true)))
+    NoElse
+    ∷ Plain 4 (AssignElement (codes "p") (Number 0 false) (Number 1 false))
+    ∷ Plain 5 (Perform (call (codes "ReleaseIntArrayElements") (given (codes "a") ∷ given (codes "p") ∷ Value (Number 0 false) ∷ [])))
+    ∷ If 6 (TestExpr (Binary Equal (Number 1 true) (Number 1 true)))
     (block
-    (Return 6
+    (Return 6 None
     ∷ [])
     6)
-    (block
-    (Return 6
+    (ElseBlock (block
+    (Return 6 None
     ∷ [])
-    6)
+    6))
     ∷ [])
     6
     ∷ [])

@@ -3,8 +3,9 @@ use Rattle.std.specs.Prelude.{◌∷◌, pos, false, [], Some, None, codes, refl
 use Rattle.base.specs.declared.element.ElementType.TheVariants.{Int as JInt}
 use Rattle.syntax.specs.declared.declared_type.ReferenceType.TheVariants.{Object as JObject, IntArray as JIntArray}
 use Rattle.syntax.specs.declared.declared_type.VariableType.TheVariants.{Jint as JIntVariable}
+use Rattle.syntax.specs.declared.declared_type.DeclaredType.TheVariants.{Simple}
 use Rattle.syntax.specs.declared.unit.ResultType.TheVariants.{Void}
-use Rattle.syntax.specs.Tree.{Variable, FromCall, Declare, PutJint, Return, SourceUnit}
+use Rattle.syntax.specs.Tree.{Variable, FromCall, Declare, PutJint, Plain, Return, SourceUnit}
 use Rattle.semantics.specs.declared.schedule.ScheduleWord.TheVariants.{Turn}
 use Rattle.semantics.specs.World.{World}
 use Rattle.world_values.specs.WorldLines.{NumberValue, NullValue, NamedObject, NamedClass, ClassLine, ArrayLine, ThreadLine, Lines}
@@ -20,7 +21,7 @@ abbrev pub a_thread_that_has_not_begun : SourceUnit
 a_thread_that_has_not_begun =
     unit_of
     (native 1 Void (codes "Java_A_f") (reference_parameter JIntArray (codes "a") ∷ [])
-    (Return 1
+    (Return 1 None
     ∷ [])
     1
     ∷ [])
@@ -57,9 +58,9 @@ abbrev pub the_length_of_an_array : SourceUnit
 the_length_of_an_array =
     unit_of
     (native 1 Void (codes "Java_A_f") (reference_parameter JObject (codes "a") ∷ [])
-    (Declare 2 JIntVariable (codes "n") (FromCall (call (codes "GetArrayLength") (given (codes "a") ∷ [])))
-    ∷ PutJint 3 (Variable (codes "n"))
-    ∷ Return 4
+    (Plain 2 (Declare (Simple JIntVariable) (codes "n") (FromCall (call (codes "GetArrayLength") (given (codes "a") ∷ []))))
+    ∷ Plain 3 (PutJint (Variable (codes "n")))
+    ∷ Return 4 None
     ∷ [])
     4
     ∷ [])

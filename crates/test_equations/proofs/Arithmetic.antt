@@ -3,7 +3,7 @@ use Rattle.std.specs.Prelude.{◌∷◌, true, false, [], Some, None, codes, ref
 use Rattle.syntax.specs.declared.unit.ResultType.TheVariants.{Void, Jint as IntResult}
 use Rattle.syntax.specs.declared.expr.PrefixOp.TheVariants.{ToInt}
 use Rattle.syntax.specs.declared.expr.BinaryOp.TheVariants.{Add, Subtract, Multiply}
-use Rattle.syntax.specs.Tree.{Number, Prefix, Binary, Paren, PutJint, Return, ReturnValue, SourceUnit}
+use Rattle.syntax.specs.Tree.{Number, Prefix, Binary, Paren, PutJint, Plain, Return, SourceUnit}
 use Rattle.semantics.specs.declared.schedule.ScheduleWord.TheVariants.{Turn}
 use Rattle.semantics.specs.World.{World}
 use Rattle.world_values.specs.WorldLines.{ClassLine, ThreadLine, Lines}
@@ -19,7 +19,7 @@ abbrev pub a_function_that_returns_at_once : SourceUnit
 a_function_that_returns_at_once =
     unit_of
     (native 1 IntResult (codes "Java_A_f") []
-    (ReturnValue 1 (Number 0 false)
+    (Return 1 (Some (Number 0 false))
     ∷ [])
     1
     ∷ [])
@@ -52,8 +52,8 @@ abbrev pub precedence_of_the_operators : SourceUnit
 precedence_of_the_operators =
     unit_of
     (native 1 Void (codes "Java_A_f") []
-    (PutJint 1 (Prefix ToInt (Paren (Binary Subtract (Binary Add (Number 2 true) (Binary Multiply (Number 3 true) (Number 4 true))) (Number 1 true))))
-    ∷ Return 1
+    (Plain 1 (PutJint (Prefix ToInt (Paren (Binary Subtract (Binary Add (Number 2 true) (Binary Multiply (Number 3 true) (Number 4 true))) (Number 1 true)))))
+    ∷ Return 1 None
     ∷ [])
     1
     ∷ [])
@@ -73,9 +73,9 @@ abbrev pub sums_and_conversions_wrap : SourceUnit
 sums_and_conversions_wrap =
     unit_of
     (native 1 Void (codes "Java_A_f") []
-    (PutJint 1 (Prefix ToInt (Paren (Binary Add (Number 4294967295 true) (Number 1 true))))
-    ∷ PutJint 1 (Prefix ToInt (Number 2147483648 true))
-    ∷ Return 1
+    (Plain 1 (PutJint (Prefix ToInt (Paren (Binary Add (Number 4294967295 true) (Number 1 true)))))
+    ∷ Plain 1 (PutJint (Prefix ToInt (Number 2147483648 true)))
+    ∷ Return 1 None
     ∷ [])
     1
     ∷ [])

@@ -3,11 +3,12 @@ use Rattle.std.specs.Prelude.{◌∷◌, pos, true, false, [], Some, None, codes
 use Rattle.base.specs.declared.element.ElementType.TheVariants.{Int as JInt, Short as JShort, Byte as JByte, Char as JChar}
 use Rattle.syntax.specs.declared.declared_type.ReferenceType.TheVariants.{Array as JArray, ShortArray as JShortArray, ByteArray as JByteArray, CharArray as JCharArray}
 use Rattle.syntax.specs.declared.declared_type.VariableType.TheVariants.{Reference as ReferenceVariable}
+use Rattle.syntax.specs.declared.declared_type.DeclaredType.TheVariants.{Simple, Pointer}
 use Rattle.syntax.specs.declared.unit.ResultType.TheVariants.{Void}
 use Rattle.syntax.specs.declared.expr.Constant.TheVariants.{Null}
 use Rattle.syntax.specs.declared.expr.PrefixOp.TheVariants.{Complement, ToInt}
 use Rattle.syntax.specs.declared.expr.BinaryOp.TheVariants.{Equal, NotEqual}
-use Rattle.syntax.specs.Tree.{Number, Named, Variable, Element, Prefix, Binary, Value, FromCall, TestExpr, Declare, DeclareBuffer, DeclareArray, AssignElement, Perform, PutJint, If, Return, SourceUnit}
+use Rattle.syntax.specs.Tree.{Number, Named, Variable, Element, Prefix, Binary, Value, FromCall, TestExpr, Declare, DeclareArray, AssignElement, Perform, PutJint, Plain, If, NoElse, Return, SourceUnit}
 use Rattle.semantics.specs.declared.schedule.ScheduleWord.TheVariants.{Turn}
 use Rattle.semantics.specs.World.{World}
 use Rattle.world_values.specs.WorldLines.{NumberValue, NamedObject, ClassLine, ArrayLine, ThreadLine, Lines}
@@ -28,14 +29,15 @@ abbrev pub an_array_of_numbers_of_negative_length : SourceUnit
 an_array_of_numbers_of_negative_length =
     unit_of
     (native 1 Void (codes "Java_A_f") []
-    (Declare 2 (ReferenceVariable JByteArray) (codes "a") (FromCall (call (codes "NewByteArray") (Value (Prefix ToInt (Prefix Complement (Number 0 true))) ∷ [])))
+    (Plain 2 (Declare (Simple (ReferenceVariable JByteArray)) (codes "a") (FromCall (call (codes "NewByteArray") (Value (Prefix ToInt (Prefix Complement (Number 0 true))) ∷ []))))
     ∷ If 3 (TestExpr (Binary Equal (Variable (codes "a")) (Named Null)))
     (block
-    (Perform 3 (call (codes "ExceptionClear") [])
+    (Plain 3 (Perform (call (codes "ExceptionClear") []))
     ∷ [])
     3)
-    ∷ Declare 4 (ReferenceVariable JCharArray) (codes "c") (FromCall (call (codes "NewCharArray") (Value (Number 0 false) ∷ [])))
-    ∷ Return 5
+    NoElse
+    ∷ Plain 4 (Declare (Simple (ReferenceVariable JCharArray)) (codes "c") (FromCall (call (codes "NewCharArray") (Value (Number 0 false) ∷ []))))
+    ∷ Return 5 None
     ∷ [])
     6
     ∷ [])
@@ -72,9 +74,9 @@ abbrev pub a_region_before_the_beginning : SourceUnit
 a_region_before_the_beginning =
     unit_of
     (native 1 Void (codes "Java_A_f") (reference_parameter JShortArray (codes "a") ∷ [])
-    (DeclareArray 2 JShort (codes "x") 1
-    ∷ Perform 3 (call (codes "GetShortArrayRegion") (given (codes "a") ∷ Value (Prefix ToInt (Prefix Complement (Number 0 true))) ∷ Value (Number 1 false) ∷ given (codes "x") ∷ []))
-    ∷ Return 4
+    (Plain 2 (DeclareArray JShort (codes "x") 1)
+    ∷ Plain 3 (Perform (call (codes "GetShortArrayRegion") (given (codes "a") ∷ Value (Prefix ToInt (Prefix Complement (Number 0 true))) ∷ Value (Number 1 false) ∷ given (codes "x") ∷ [])))
+    ∷ Return 4 None
     ∷ [])
     5
     ∷ [])
@@ -112,9 +114,9 @@ abbrev pub a_region_of_negative_length : SourceUnit
 a_region_of_negative_length =
     unit_of
     (native 1 Void (codes "Java_A_f") (reference_parameter JShortArray (codes "a") ∷ [])
-    (DeclareArray 2 JShort (codes "x") 1
-    ∷ Perform 3 (call (codes "SetShortArrayRegion") (given (codes "a") ∷ Value (Number 0 false) ∷ Value (Prefix ToInt (Prefix Complement (Number 0 true))) ∷ given (codes "x") ∷ []))
-    ∷ Return 4
+    (Plain 2 (DeclareArray JShort (codes "x") 1)
+    ∷ Plain 3 (Perform (call (codes "SetShortArrayRegion") (given (codes "a") ∷ Value (Number 0 false) ∷ Value (Prefix ToInt (Prefix Complement (Number 0 true))) ∷ given (codes "x") ∷ [])))
+    ∷ Return 4 None
     ∷ [])
     5
     ∷ [])
@@ -139,10 +141,10 @@ abbrev pub a_region_of_no_length_at_the_end : SourceUnit
 a_region_of_no_length_at_the_end =
     unit_of
     (native 1 Void (codes "Java_A_f") (reference_parameter JCharArray (codes "a") ∷ [])
-    (DeclareArray 2 JChar (codes "x") 1
-    ∷ Perform 3 (call (codes "GetCharArrayRegion") (given (codes "a") ∷ Value (Number 2 false) ∷ Value (Number 0 false) ∷ given (codes "x") ∷ []))
-    ∷ PutJint 4 (Element (codes "x") (Number 0 false))
-    ∷ Return 5
+    (Plain 2 (DeclareArray JChar (codes "x") 1)
+    ∷ Plain 3 (Perform (call (codes "GetCharArrayRegion") (given (codes "a") ∷ Value (Number 2 false) ∷ Value (Number 0 false) ∷ given (codes "x") ∷ [])))
+    ∷ Plain 4 (PutJint (Element (codes "x") (Number 0 false)))
+    ∷ Return 5 None
     ∷ [])
     6
     ∷ [])
@@ -180,9 +182,9 @@ abbrev pub a_region_longer_than_the_array_of_c : SourceUnit
 a_region_longer_than_the_array_of_c =
     unit_of
     (native 1 Void (codes "Java_A_f") (reference_parameter JByteArray (codes "a") ∷ [])
-    (DeclareArray 2 JByte (codes "x") 1
-    ∷ Perform 3 (call (codes "GetByteArrayRegion") (given (codes "a") ∷ Value (Number 0 false) ∷ Value (Number 2 false) ∷ given (codes "x") ∷ []))
-    ∷ Return 4
+    (Plain 2 (DeclareArray JByte (codes "x") 1)
+    ∷ Plain 3 (Perform (call (codes "GetByteArrayRegion") (given (codes "a") ∷ Value (Number 0 false) ∷ Value (Number 2 false) ∷ given (codes "x") ∷ [])))
+    ∷ Return 4 None
     ∷ [])
     5
     ∷ [])
@@ -220,9 +222,9 @@ abbrev pub an_exception_is_thrown_before_the_array_of_c_is_looked_at : SourceUni
 an_exception_is_thrown_before_the_array_of_c_is_looked_at =
     unit_of
     (native 1 Void (codes "Java_A_f") (reference_parameter JByteArray (codes "a") ∷ [])
-    (DeclareArray 2 JByte (codes "x") 1
-    ∷ Perform 3 (call (codes "SetByteArrayRegion") (given (codes "a") ∷ Value (Number 0 false) ∷ Value (Number 3 false) ∷ given (codes "x") ∷ []))
-    ∷ Return 4
+    (Plain 2 (DeclareArray JByte (codes "x") 1)
+    ∷ Plain 3 (Perform (call (codes "SetByteArrayRegion") (given (codes "a") ∷ Value (Number 0 false) ∷ Value (Number 3 false) ∷ given (codes "x") ∷ [])))
+    ∷ Return 4 None
     ∷ [])
     5
     ∷ [])
@@ -249,14 +251,15 @@ abbrev pub an_index_past_a_copy : SourceUnit
 an_index_past_a_copy =
     unit_of
     (native 1 Void (codes "Java_A_f") (reference_parameter JCharArray (codes "a") ∷ [])
-    (DeclareBuffer 2 JChar (codes "p") (FromCall (call (codes "GetCharArrayElements") (given (codes "a") ∷ Value (Named Null) ∷ [])))
+    (Plain 2 (Declare (Pointer JChar) (codes "p") (FromCall (call (codes "GetCharArrayElements") (given (codes "a") ∷ Value (Named Null) ∷ []))))
     ∷ If 3 (TestExpr (Binary NotEqual (Variable (codes "p")) (Named Null)))
     (block
-    (AssignElement 4 (codes "p") (Number 2 false) (Number 1 false)
-    ∷ Perform 5 (call (codes "ReleaseCharArrayElements") (given (codes "a") ∷ given (codes "p") ∷ Value (Number 0 false) ∷ []))
+    (Plain 4 (AssignElement (codes "p") (Number 2 false) (Number 1 false))
+    ∷ Plain 5 (Perform (call (codes "ReleaseCharArrayElements") (given (codes "a") ∷ given (codes "p") ∷ Value (Number 0 false) ∷ [])))
     ∷ [])
     6)
-    ∷ Return 7
+    NoElse
+    ∷ Return 7 None
     ∷ [])
     8
     ∷ [])
@@ -280,13 +283,14 @@ abbrev pub an_array_of_another_type : SourceUnit
 an_array_of_another_type =
     unit_of
     (native 1 Void (codes "Java_A_f") (reference_parameter JArray (codes "a") ∷ [])
-    (DeclareBuffer 2 JInt (codes "p") (FromCall (call (codes "GetPrimitiveArrayCritical") (given (codes "a") ∷ Value (Named Null) ∷ [])))
+    (Plain 2 (Declare (Pointer JInt) (codes "p") (FromCall (call (codes "GetPrimitiveArrayCritical") (given (codes "a") ∷ Value (Named Null) ∷ []))))
     ∷ If 3 (TestExpr (Binary NotEqual (Variable (codes "p")) (Named Null)))
     (block
-    (Perform 3 (call (codes "ReleasePrimitiveArrayCritical") (given (codes "a") ∷ given (codes "p") ∷ Value (Number 0 false) ∷ []))
+    (Plain 3 (Perform (call (codes "ReleasePrimitiveArrayCritical") (given (codes "a") ∷ given (codes "p") ∷ Value (Number 0 false) ∷ [])))
     ∷ [])
     3)
-    ∷ Return 4
+    NoElse
+    ∷ Return 4 None
     ∷ [])
     5
     ∷ [])

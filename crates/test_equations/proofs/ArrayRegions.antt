@@ -3,9 +3,10 @@ use Rattle.std.specs.Prelude.{◌∷◌, ◌++◌, pos, true, false, [], Some, N
 use Rattle.base.specs.declared.element.ElementType.TheVariants.{Int as JInt, Short as JShort, Byte as JByte, Char as JChar}
 use Rattle.syntax.specs.declared.declared_type.ReferenceType.TheVariants.{String as JString, Throwable as JThrowable, IntArray as JIntArray, ShortArray as JShortArray, ByteArray as JByteArray, CharArray as JCharArray}
 use Rattle.syntax.specs.declared.declared_type.VariableType.TheVariants.{Jint as JIntVariable, Reference as ReferenceVariable}
+use Rattle.syntax.specs.declared.declared_type.DeclaredType.TheVariants.{Simple}
 use Rattle.syntax.specs.declared.unit.ResultType.TheVariants.{Void}
 use Rattle.syntax.specs.declared.expr.PrefixOp.TheVariants.{Complement, ToInt}
-use Rattle.syntax.specs.Tree.{Number, Variable, Element, Prefix, Value, FromExpr, FromCall, Declare, DeclareArray, AssignElement, Perform, PutJint, Return, SourceUnit}
+use Rattle.syntax.specs.Tree.{Number, Variable, Element, Prefix, Value, FromExpr, FromCall, Declare, DeclareArray, AssignElement, Perform, PutJint, Plain, Return, SourceUnit}
 use Rattle.semantics.specs.declared.schedule.ScheduleWord.TheVariants.{Turn}
 use Rattle.semantics.specs.World.{World}
 use Rattle.world_values.specs.WorldLines.{NumberValue, NamedObject, ClassLine, ArrayLine, StringLine, ThreadLine, Lines}
@@ -29,13 +30,13 @@ abbrev pub a_part_of_an_array_is_read_turned_round_and_written_back : SourceUnit
 a_part_of_an_array_is_read_turned_round_and_written_back =
     unit_of
     (native 1 Void (codes "Java_A_f") (reference_parameter JIntArray (codes "a") ∷ [])
-    (DeclareArray 2 JInt (codes "x") 2
-    ∷ Perform 3 (call (codes "GetIntArrayRegion") (given (codes "a") ∷ Value (Number 1 false) ∷ Value (Number 2 false) ∷ given (codes "x") ∷ []))
-    ∷ Declare 4 JIntVariable (codes "first") (FromExpr (Element (codes "x") (Number 0 false)))
-    ∷ AssignElement 5 (codes "x") (Number 0 false) (Element (codes "x") (Number 1 false))
-    ∷ AssignElement 6 (codes "x") (Number 1 false) (Variable (codes "first"))
-    ∷ Perform 7 (call (codes "SetIntArrayRegion") (given (codes "a") ∷ Value (Number 1 false) ∷ Value (Number 2 false) ∷ given (codes "x") ∷ []))
-    ∷ Return 8
+    (Plain 2 (DeclareArray JInt (codes "x") 2)
+    ∷ Plain 3 (Perform (call (codes "GetIntArrayRegion") (given (codes "a") ∷ Value (Number 1 false) ∷ Value (Number 2 false) ∷ given (codes "x") ∷ [])))
+    ∷ Plain 4 (Declare (Simple JIntVariable) (codes "first") (FromExpr (Element (codes "x") (Number 0 false))))
+    ∷ Plain 5 (AssignElement (codes "x") (Number 0 false) (Element (codes "x") (Number 1 false)))
+    ∷ Plain 6 (AssignElement (codes "x") (Number 1 false) (Variable (codes "first")))
+    ∷ Plain 7 (Perform (call (codes "SetIntArrayRegion") (given (codes "a") ∷ Value (Number 1 false) ∷ Value (Number 2 false) ∷ given (codes "x") ∷ [])))
+    ∷ Return 8 None
     ∷ [])
     9
     ∷ [])
@@ -80,16 +81,16 @@ abbrev pub no_region_of_an_array_begins_before_it_has_a_negative_length_or_goes_
 no_region_of_an_array_begins_before_it_has_a_negative_length_or_goes_past_its_end =
     unit_of
     (native 1 Void (codes "Java_A_f") (reference_parameter JIntArray (codes "a") ∷ [])
-    (DeclareArray 2 JInt (codes "x") 2
-    ∷ Perform 3 (call (codes "GetIntArrayRegion") (given (codes "a") ∷ Value (Prefix ToInt (Prefix Complement (Number 0 true))) ∷ Value (Number 1 false) ∷ given (codes "x") ∷ []))
-    ∷ Declare 4 (ReferenceVariable JThrowable) (codes "s") (FromCall (call (codes "ExceptionOccurred") []))
-    ∷ Perform 5 (call (codes "ExceptionClear") [])
-    ∷ Perform 6 (call (codes "GetIntArrayRegion") (given (codes "a") ∷ Value (Number 0 false) ∷ Value (Prefix ToInt (Prefix Complement (Number 0 true))) ∷ given (codes "x") ∷ []))
-    ∷ Declare 7 (ReferenceVariable JThrowable) (codes "t") (FromCall (call (codes "ExceptionOccurred") []))
-    ∷ Perform 8 (call (codes "ExceptionClear") [])
-    ∷ Perform 9 (call (codes "GetIntArrayRegion") (given (codes "a") ∷ Value (Number 1 false) ∷ Value (Number 2 false) ∷ given (codes "x") ∷ []))
-    ∷ PutJint 10 (Element (codes "x") (Number 0 false))
-    ∷ Return 11
+    (Plain 2 (DeclareArray JInt (codes "x") 2)
+    ∷ Plain 3 (Perform (call (codes "GetIntArrayRegion") (given (codes "a") ∷ Value (Prefix ToInt (Prefix Complement (Number 0 true))) ∷ Value (Number 1 false) ∷ given (codes "x") ∷ [])))
+    ∷ Plain 4 (Declare (Simple (ReferenceVariable JThrowable)) (codes "s") (FromCall (call (codes "ExceptionOccurred") [])))
+    ∷ Plain 5 (Perform (call (codes "ExceptionClear") []))
+    ∷ Plain 6 (Perform (call (codes "GetIntArrayRegion") (given (codes "a") ∷ Value (Number 0 false) ∷ Value (Prefix ToInt (Prefix Complement (Number 0 true))) ∷ given (codes "x") ∷ [])))
+    ∷ Plain 7 (Declare (Simple (ReferenceVariable JThrowable)) (codes "t") (FromCall (call (codes "ExceptionOccurred") [])))
+    ∷ Plain 8 (Perform (call (codes "ExceptionClear") []))
+    ∷ Plain 9 (Perform (call (codes "GetIntArrayRegion") (given (codes "a") ∷ Value (Number 1 false) ∷ Value (Number 2 false) ∷ given (codes "x") ∷ [])))
+    ∷ Plain 10 (PutJint (Element (codes "x") (Number 0 false)))
+    ∷ Return 11 None
     ∷ [])
     12
     ∷ [])
@@ -131,13 +132,13 @@ abbrev pub a_region_whose_end_is_past_all_numbers_and_one_of_no_length_past_the_
 a_region_whose_end_is_past_all_numbers_and_one_of_no_length_past_the_end =
     unit_of
     (native 1 Void (codes "Java_A_f") (reference_parameter JIntArray (codes "a") ∷ [])
-    (DeclareArray 2 JInt (codes "x") 1
-    ∷ AssignElement 3 (codes "x") (Number 0 false) (Number 7 false)
-    ∷ Perform 4 (call (codes "SetIntArrayRegion") (given (codes "a") ∷ Value (Number 2147483647 false) ∷ Value (Number 2147483647 false) ∷ given (codes "x") ∷ []))
-    ∷ Declare 5 (ReferenceVariable JThrowable) (codes "s") (FromCall (call (codes "ExceptionOccurred") []))
-    ∷ Perform 6 (call (codes "ExceptionClear") [])
-    ∷ Perform 7 (call (codes "SetIntArrayRegion") (given (codes "a") ∷ Value (Number 3 false) ∷ Value (Number 0 false) ∷ given (codes "x") ∷ []))
-    ∷ Return 8
+    (Plain 2 (DeclareArray JInt (codes "x") 1)
+    ∷ Plain 3 (AssignElement (codes "x") (Number 0 false) (Number 7 false))
+    ∷ Plain 4 (Perform (call (codes "SetIntArrayRegion") (given (codes "a") ∷ Value (Number 2147483647 false) ∷ Value (Number 2147483647 false) ∷ given (codes "x") ∷ [])))
+    ∷ Plain 5 (Declare (Simple (ReferenceVariable JThrowable)) (codes "s") (FromCall (call (codes "ExceptionOccurred") [])))
+    ∷ Plain 6 (Perform (call (codes "ExceptionClear") []))
+    ∷ Plain 7 (Perform (call (codes "SetIntArrayRegion") (given (codes "a") ∷ Value (Number 3 false) ∷ Value (Number 0 false) ∷ given (codes "x") ∷ [])))
+    ∷ Return 8 None
     ∷ [])
     9
     ∷ [])
@@ -163,11 +164,11 @@ abbrev pub both_regions_of_an_array_of_jint_look_at_its_end_before_they_look_at_
 both_regions_of_an_array_of_jint_look_at_its_end_before_they_look_at_the_array_of_c =
     unit_of
     (native 1 Void (codes "Java_A_f") (reference_parameter JIntArray (codes "a") ∷ [])
-    (DeclareArray 2 JInt (codes "x") 1
-    ∷ Perform 3 (call (codes "GetIntArrayRegion") (given (codes "a") ∷ Value (Number 1 false) ∷ Value (Number 2 false) ∷ given (codes "x") ∷ []))
-    ∷ Perform 4 (call (codes "ExceptionClear") [])
-    ∷ Perform 5 (call (codes "SetIntArrayRegion") (given (codes "a") ∷ Value (Number 1 false) ∷ Value (Number 2 false) ∷ given (codes "x") ∷ []))
-    ∷ Return 6
+    (Plain 2 (DeclareArray JInt (codes "x") 1)
+    ∷ Plain 3 (Perform (call (codes "GetIntArrayRegion") (given (codes "a") ∷ Value (Number 1 false) ∷ Value (Number 2 false) ∷ given (codes "x") ∷ [])))
+    ∷ Plain 4 (Perform (call (codes "ExceptionClear") []))
+    ∷ Plain 5 (Perform (call (codes "SetIntArrayRegion") (given (codes "a") ∷ Value (Number 1 false) ∷ Value (Number 2 false) ∷ given (codes "x") ∷ [])))
+    ∷ Return 6 None
     ∷ [])
     7
     ∷ [])
@@ -193,11 +194,11 @@ abbrev pub both_regions_of_an_array_of_jshort_look_at_its_end_before_they_look_a
 both_regions_of_an_array_of_jshort_look_at_its_end_before_they_look_at_the_array_of_c =
     unit_of
     (native 1 Void (codes "Java_A_f") (reference_parameter JShortArray (codes "a") ∷ [])
-    (DeclareArray 2 JShort (codes "x") 1
-    ∷ Perform 3 (call (codes "GetShortArrayRegion") (given (codes "a") ∷ Value (Number 1 false) ∷ Value (Number 2 false) ∷ given (codes "x") ∷ []))
-    ∷ Perform 4 (call (codes "ExceptionClear") [])
-    ∷ Perform 5 (call (codes "SetShortArrayRegion") (given (codes "a") ∷ Value (Number 1 false) ∷ Value (Number 2 false) ∷ given (codes "x") ∷ []))
-    ∷ Return 6
+    (Plain 2 (DeclareArray JShort (codes "x") 1)
+    ∷ Plain 3 (Perform (call (codes "GetShortArrayRegion") (given (codes "a") ∷ Value (Number 1 false) ∷ Value (Number 2 false) ∷ given (codes "x") ∷ [])))
+    ∷ Plain 4 (Perform (call (codes "ExceptionClear") []))
+    ∷ Plain 5 (Perform (call (codes "SetShortArrayRegion") (given (codes "a") ∷ Value (Number 1 false) ∷ Value (Number 2 false) ∷ given (codes "x") ∷ [])))
+    ∷ Return 6 None
     ∷ [])
     7
     ∷ [])
@@ -237,11 +238,11 @@ abbrev pub both_regions_of_an_array_of_jbyte_look_at_its_end_before_they_look_at
 both_regions_of_an_array_of_jbyte_look_at_its_end_before_they_look_at_the_array_of_c =
     unit_of
     (native 1 Void (codes "Java_A_f") (reference_parameter JByteArray (codes "a") ∷ [])
-    (DeclareArray 2 JByte (codes "x") 1
-    ∷ Perform 3 (call (codes "GetByteArrayRegion") (given (codes "a") ∷ Value (Number 1 false) ∷ Value (Number 2 false) ∷ given (codes "x") ∷ []))
-    ∷ Perform 4 (call (codes "ExceptionClear") [])
-    ∷ Perform 5 (call (codes "SetByteArrayRegion") (given (codes "a") ∷ Value (Number 1 false) ∷ Value (Number 2 false) ∷ given (codes "x") ∷ []))
-    ∷ Return 6
+    (Plain 2 (DeclareArray JByte (codes "x") 1)
+    ∷ Plain 3 (Perform (call (codes "GetByteArrayRegion") (given (codes "a") ∷ Value (Number 1 false) ∷ Value (Number 2 false) ∷ given (codes "x") ∷ [])))
+    ∷ Plain 4 (Perform (call (codes "ExceptionClear") []))
+    ∷ Plain 5 (Perform (call (codes "SetByteArrayRegion") (given (codes "a") ∷ Value (Number 1 false) ∷ Value (Number 2 false) ∷ given (codes "x") ∷ [])))
+    ∷ Return 6 None
     ∷ [])
     7
     ∷ [])
@@ -281,11 +282,11 @@ abbrev pub both_regions_of_an_array_of_jchar_look_at_its_end_before_they_look_at
 both_regions_of_an_array_of_jchar_look_at_its_end_before_they_look_at_the_array_of_c =
     unit_of
     (native 1 Void (codes "Java_A_f") (reference_parameter JCharArray (codes "a") ∷ [])
-    (DeclareArray 2 JChar (codes "x") 1
-    ∷ Perform 3 (call (codes "GetCharArrayRegion") (given (codes "a") ∷ Value (Number 1 false) ∷ Value (Number 2 false) ∷ given (codes "x") ∷ []))
-    ∷ Perform 4 (call (codes "ExceptionClear") [])
-    ∷ Perform 5 (call (codes "SetCharArrayRegion") (given (codes "a") ∷ Value (Number 1 false) ∷ Value (Number 2 false) ∷ given (codes "x") ∷ []))
-    ∷ Return 6
+    (Plain 2 (DeclareArray JChar (codes "x") 1)
+    ∷ Plain 3 (Perform (call (codes "GetCharArrayRegion") (given (codes "a") ∷ Value (Number 1 false) ∷ Value (Number 2 false) ∷ given (codes "x") ∷ [])))
+    ∷ Plain 4 (Perform (call (codes "ExceptionClear") []))
+    ∷ Plain 5 (Perform (call (codes "SetCharArrayRegion") (given (codes "a") ∷ Value (Number 1 false) ∷ Value (Number 2 false) ∷ given (codes "x") ∷ [])))
+    ∷ Return 6 None
     ∷ [])
     7
     ∷ [])
@@ -330,16 +331,16 @@ abbrev pub no_region_of_a_string_begins_before_it_has_a_negative_length_or_goes_
 no_region_of_a_string_begins_before_it_has_a_negative_length_or_goes_past_its_end =
     unit_of
     (native 1 Void (codes "Java_A_f") (reference_parameter JString (codes "s") ∷ [])
-    (DeclareArray 2 JChar (codes "x") 1
-    ∷ Perform 3 (call (codes "GetStringRegion") (given (codes "s") ∷ Value (Prefix ToInt (Prefix Complement (Number 0 true))) ∷ Value (Number 1 false) ∷ given (codes "x") ∷ []))
-    ∷ Declare 4 (ReferenceVariable JThrowable) (codes "t") (FromCall (call (codes "ExceptionOccurred") []))
-    ∷ Perform 5 (call (codes "ExceptionClear") [])
-    ∷ Perform 6 (call (codes "GetStringRegion") (given (codes "s") ∷ Value (Number 0 false) ∷ Value (Prefix ToInt (Prefix Complement (Number 0 true))) ∷ given (codes "x") ∷ []))
-    ∷ Declare 7 (ReferenceVariable JThrowable) (codes "u") (FromCall (call (codes "ExceptionOccurred") []))
-    ∷ Perform 8 (call (codes "ExceptionClear") [])
-    ∷ Perform 9 (call (codes "GetStringRegion") (given (codes "s") ∷ Value (Number 2 false) ∷ Value (Number 0 false) ∷ given (codes "x") ∷ []))
-    ∷ Perform 10 (call (codes "GetStringRegion") (given (codes "s") ∷ Value (Number 1 false) ∷ Value (Number 2 false) ∷ given (codes "x") ∷ []))
-    ∷ Return 11
+    (Plain 2 (DeclareArray JChar (codes "x") 1)
+    ∷ Plain 3 (Perform (call (codes "GetStringRegion") (given (codes "s") ∷ Value (Prefix ToInt (Prefix Complement (Number 0 true))) ∷ Value (Number 1 false) ∷ given (codes "x") ∷ [])))
+    ∷ Plain 4 (Declare (Simple (ReferenceVariable JThrowable)) (codes "t") (FromCall (call (codes "ExceptionOccurred") [])))
+    ∷ Plain 5 (Perform (call (codes "ExceptionClear") []))
+    ∷ Plain 6 (Perform (call (codes "GetStringRegion") (given (codes "s") ∷ Value (Number 0 false) ∷ Value (Prefix ToInt (Prefix Complement (Number 0 true))) ∷ given (codes "x") ∷ [])))
+    ∷ Plain 7 (Declare (Simple (ReferenceVariable JThrowable)) (codes "u") (FromCall (call (codes "ExceptionOccurred") [])))
+    ∷ Plain 8 (Perform (call (codes "ExceptionClear") []))
+    ∷ Plain 9 (Perform (call (codes "GetStringRegion") (given (codes "s") ∷ Value (Number 2 false) ∷ Value (Number 0 false) ∷ given (codes "x") ∷ [])))
+    ∷ Plain 10 (Perform (call (codes "GetStringRegion") (given (codes "s") ∷ Value (Number 1 false) ∷ Value (Number 2 false) ∷ given (codes "x") ∷ [])))
+    ∷ Return 11 None
     ∷ [])
     12
     ∷ [])
@@ -377,9 +378,9 @@ abbrev pub the_exception_of_a_region_is_refused : SourceUnit
 the_exception_of_a_region_is_refused =
     unit_of
     (native 1 Void (codes "Java_A_f") (reference_parameter JIntArray (codes "a") ∷ [])
-    (DeclareArray 2 JInt (codes "x") 1
-    ∷ Perform 3 (call (codes "GetIntArrayRegion") (given (codes "a") ∷ Value (Number 2 false) ∷ Value (Number 1 false) ∷ given (codes "x") ∷ []))
-    ∷ Return 4
+    (Plain 2 (DeclareArray JInt (codes "x") 1)
+    ∷ Plain 3 (Perform (call (codes "GetIntArrayRegion") (given (codes "a") ∷ Value (Number 2 false) ∷ Value (Number 1 false) ∷ given (codes "x") ∷ [])))
+    ∷ Return 4 None
     ∷ [])
     5
     ∷ [])
@@ -402,9 +403,9 @@ abbrev pub a_mark_where_a_region_is_within_its_array : SourceUnit
 a_mark_where_a_region_is_within_its_array =
     unit_of
     (native 1 Void (codes "Java_A_f") (reference_parameter JIntArray (codes "a") ∷ [])
-    (DeclareArray 2 JInt (codes "x") 1
-    ∷ Perform 3 (call (codes "GetIntArrayRegion") (given (codes "a") ∷ Value (Number 1 false) ∷ Value (Number 1 false) ∷ given (codes "x") ∷ []))
-    ∷ Return 4
+    (Plain 2 (DeclareArray JInt (codes "x") 1)
+    ∷ Plain 3 (Perform (call (codes "GetIntArrayRegion") (given (codes "a") ∷ Value (Number 1 false) ∷ Value (Number 1 false) ∷ given (codes "x") ∷ [])))
+    ∷ Return 4 None
     ∷ [])
     5
     ∷ [])

@@ -1,12 +1,13 @@
 -- The cases of texts/broken_rules.cases, as gate/worked_equations writes them.
-use Rattle.std.specs.Prelude.{◌∷◌, true, false, [], codes, refl}
+use Rattle.std.specs.Prelude.{◌∷◌, true, false, [], None, codes, refl}
 use Rattle.base.specs.declared.element.ElementType.TheVariants.{Int as JInt}
 use Rattle.syntax.specs.declared.declared_type.ReferenceType.TheVariants.{Object as JObject, IntArray as JIntArray}
 use Rattle.syntax.specs.declared.declared_type.VariableType.TheVariants.{Jint as JIntVariable, Reference as ReferenceVariable}
+use Rattle.syntax.specs.declared.declared_type.DeclaredType.TheVariants.{Simple, Pointer}
 use Rattle.syntax.specs.declared.unit.ResultType.TheVariants.{Void}
 use Rattle.syntax.specs.declared.expr.Constant.TheVariants.{Null}
 use Rattle.syntax.specs.declared.expr.BinaryOp.TheVariants.{Equal, NotEqual}
-use Rattle.syntax.specs.Tree.{Number, Named, Variable, Binary, Value, FromCall, TestExpr, TestCall, Declare, DeclareBuffer, AssignElement, Perform, If, Return, SourceUnit}
+use Rattle.syntax.specs.Tree.{Number, Named, Variable, Binary, Value, FromCall, TestExpr, TestCall, Declare, AssignElement, Perform, Plain, If, NoElse, Return, SourceUnit}
 use Rattle.region_rules.specs.declared.rule.RegionRule.TheVariants.{CallWhileCritical, ReturnWithBuffer, UntestedBuffer, ReturnInFrame, DeadReference, PathsDiffer, NoReturn}
 use Rattle.test_equations.specs.Claims.{IsRefused}
 use Rattle.test_equations.proofs.Programs.{unit_of, native, block, reference_parameter, call, given}
@@ -23,14 +24,15 @@ abbrev pub length_while_critical : SourceUnit
 length_while_critical =
     unit_of
     (native 1 Void (codes "Java_A_f") (reference_parameter JIntArray (codes "a") ∷ [])
-    (DeclareBuffer 2 JInt (codes "q") (FromCall (call (codes "GetPrimitiveArrayCritical") (given (codes "a") ∷ Value (Named Null) ∷ [])))
+    (Plain 2 (Declare (Pointer JInt) (codes "q") (FromCall (call (codes "GetPrimitiveArrayCritical") (given (codes "a") ∷ Value (Named Null) ∷ []))))
     ∷ If 3 (TestExpr (Binary NotEqual (Variable (codes "q")) (Named Null)))
     (block
-    (Declare 4 JIntVariable (codes "n") (FromCall (call (codes "GetArrayLength") (given (codes "a") ∷ [])))
-    ∷ Perform 5 (call (codes "ReleasePrimitiveArrayCritical") (given (codes "a") ∷ given (codes "q") ∷ Value (Number 0 false) ∷ []))
+    (Plain 4 (Declare (Simple JIntVariable) (codes "n") (FromCall (call (codes "GetArrayLength") (given (codes "a") ∷ []))))
+    ∷ Plain 5 (Perform (call (codes "ReleasePrimitiveArrayCritical") (given (codes "a") ∷ given (codes "q") ∷ Value (Number 0 false) ∷ [])))
     ∷ [])
     5)
-    ∷ Return 6
+    NoElse
+    ∷ Return 6 None
     ∷ [])
     6
     ∷ [])
@@ -49,13 +51,14 @@ abbrev pub returned_with_buffer : SourceUnit
 returned_with_buffer =
     unit_of
     (native 1 Void (codes "Java_A_f") (reference_parameter JIntArray (codes "a") ∷ [])
-    (DeclareBuffer 2 JInt (codes "p") (FromCall (call (codes "GetIntArrayElements") (given (codes "a") ∷ Value (Named Null) ∷ [])))
+    (Plain 2 (Declare (Pointer JInt) (codes "p") (FromCall (call (codes "GetIntArrayElements") (given (codes "a") ∷ Value (Named Null) ∷ []))))
     ∷ If 3 (TestExpr (Binary NotEqual (Variable (codes "p")) (Named Null)))
     (block
-    (Return 4
+    (Return 4 None
     ∷ [])
     4)
-    ∷ Return 5
+    NoElse
+    ∷ Return 5 None
     ∷ [])
     5
     ∷ [])
@@ -73,9 +76,9 @@ abbrev pub set_untested : SourceUnit
 set_untested =
     unit_of
     (native 1 Void (codes "Java_A_f") (reference_parameter JIntArray (codes "a") ∷ [])
-    (DeclareBuffer 2 JInt (codes "p") (FromCall (call (codes "GetIntArrayElements") (given (codes "a") ∷ Value (Named Null) ∷ [])))
-    ∷ AssignElement 3 (codes "p") (Number 0 false) (Number 1 false)
-    ∷ Return 4
+    (Plain 2 (Declare (Pointer JInt) (codes "p") (FromCall (call (codes "GetIntArrayElements") (given (codes "a") ∷ Value (Named Null) ∷ []))))
+    ∷ Plain 3 (AssignElement (codes "p") (Number 0 false) (Number 1 false))
+    ∷ Return 4 None
     ∷ [])
     4
     ∷ [])
@@ -95,10 +98,11 @@ returned_between_frames =
     (native 1 Void (codes "Java_A_f") []
     (If 2 (TestCall (call (codes "PushLocalFrame") (Value (Number 2 false) ∷ [])))
     (block
-    (Return 3
+    (Return 3 None
     ∷ [])
     3)
-    ∷ Return 4
+    NoElse
+    ∷ Return 4 None
     ∷ [])
     4
     ∷ [])
@@ -117,10 +121,10 @@ abbrev pub used_after_delete : SourceUnit
 used_after_delete =
     unit_of
     (native 1 Void (codes "Java_A_f") []
-    (Declare 2 (ReferenceVariable JObject) (codes "x") (FromCall (call (codes "NewLocalRef") (given (codes "cls") ∷ [])))
-    ∷ Perform 3 (call (codes "DeleteLocalRef") (given (codes "x") ∷ []))
-    ∷ Declare 4 (ReferenceVariable JObject) (codes "y") (FromCall (call (codes "NewLocalRef") (given (codes "x") ∷ [])))
-    ∷ Return 5
+    (Plain 2 (Declare (Simple (ReferenceVariable JObject)) (codes "x") (FromCall (call (codes "NewLocalRef") (given (codes "cls") ∷ []))))
+    ∷ Plain 3 (Perform (call (codes "DeleteLocalRef") (given (codes "x") ∷ [])))
+    ∷ Plain 4 (Declare (Simple (ReferenceVariable JObject)) (codes "y") (FromCall (call (codes "NewLocalRef") (given (codes "x") ∷ []))))
+    ∷ Return 5 None
     ∷ [])
     5
     ∷ [])
@@ -138,13 +142,14 @@ abbrev pub deleted_on_one_path : SourceUnit
 deleted_on_one_path =
     unit_of
     (native 1 Void (codes "Java_A_f") []
-    (Declare 2 (ReferenceVariable JObject) (codes "x") (FromCall (call (codes "NewLocalRef") (given (codes "cls") ∷ [])))
+    (Plain 2 (Declare (Simple (ReferenceVariable JObject)) (codes "x") (FromCall (call (codes "NewLocalRef") (given (codes "cls") ∷ []))))
     ∷ If 3 (TestExpr (Binary Equal (Number 1 true) (Number 1 true)))
     (block
-    (Perform 3 (call (codes "DeleteLocalRef") (given (codes "x") ∷ []))
+    (Plain 3 (Perform (call (codes "DeleteLocalRef") (given (codes "x") ∷ [])))
     ∷ [])
     3)
-    ∷ Return 4
+    NoElse
+    ∷ Return 4 None
     ∷ [])
     4
     ∷ [])

@@ -1,12 +1,13 @@
 -- The cases of texts/buffer_faults.cases, as gate/worked_equations writes them.
-use Rattle.std.specs.Prelude.{◌∷◌, true, false, [], codes, refl}
+use Rattle.std.specs.Prelude.{◌∷◌, true, false, [], None, codes, refl}
 use Rattle.base.specs.declared.element.ElementType.TheVariants.{Int as JInt}
 use Rattle.syntax.specs.declared.declared_type.ReferenceType.TheVariants.{Object as JObject, IntArray as JIntArray}
 use Rattle.syntax.specs.declared.declared_type.VariableType.TheVariants.{Reference as ReferenceVariable}
+use Rattle.syntax.specs.declared.declared_type.DeclaredType.TheVariants.{Simple, Pointer}
 use Rattle.syntax.specs.declared.unit.ResultType.TheVariants.{Void}
 use Rattle.syntax.specs.declared.expr.Constant.TheVariants.{Commit, Null}
 use Rattle.syntax.specs.declared.expr.BinaryOp.TheVariants.{Equal, NotEqual}
-use Rattle.syntax.specs.Tree.{Number, Named, Variable, Element, Binary, Value, FromExpr, FromCall, TestExpr, TestCall, Declare, DeclareBuffer, Assign, AssignElement, Perform, PutJint, If, Return, SourceUnit}
+use Rattle.syntax.specs.Tree.{Number, Named, Variable, Element, Binary, Value, FromExpr, FromCall, TestExpr, TestCall, Declare, Assign, AssignElement, Perform, PutJint, Plain, If, NoElse, Return, SourceUnit}
 use Rattle.region_rules.specs.declared.rule.RegionRule.TheVariants.{CallWhileCritical, HeldBuffer, UntestedBuffer, WrongBuffer, ArrayInUse}
 use Rattle.test_equations.specs.Claims.{IsRefused}
 use Rattle.test_equations.proofs.Programs.{unit_of, native, block, static_reference, reference_parameter, call, given}
@@ -21,9 +22,9 @@ abbrev pub got_twice : SourceUnit
 got_twice =
     unit_of
     (native 1 Void (codes "Java_A_f") (reference_parameter JIntArray (codes "a") ∷ [])
-    (DeclareBuffer 2 JInt (codes "p") (FromCall (call (codes "GetIntArrayElements") (given (codes "a") ∷ Value (Named Null) ∷ [])))
-    ∷ Assign 3 (codes "p") (FromCall (call (codes "GetIntArrayElements") (given (codes "a") ∷ Value (Named Null) ∷ [])))
-    ∷ Return 4
+    (Plain 2 (Declare (Pointer JInt) (codes "p") (FromCall (call (codes "GetIntArrayElements") (given (codes "a") ∷ Value (Named Null) ∷ []))))
+    ∷ Plain 3 (Assign (codes "p") (FromCall (call (codes "GetIntArrayElements") (given (codes "a") ∷ Value (Named Null) ∷ []))))
+    ∷ Return 4 None
     ∷ [])
     4
     ∷ [])
@@ -43,10 +44,11 @@ held_at_the_end =
     (native 1 Void (codes "Java_A_f") (reference_parameter JIntArray (codes "a") ∷ [])
     (If 2 (TestExpr (Binary Equal (Number 1 true) (Number 1 true)))
     (block
-    (DeclareBuffer 2 JInt (codes "p") (FromCall (call (codes "GetIntArrayElements") (given (codes "a") ∷ Value (Named Null) ∷ [])))
+    (Plain 2 (Declare (Pointer JInt) (codes "p") (FromCall (call (codes "GetIntArrayElements") (given (codes "a") ∷ Value (Named Null) ∷ []))))
     ∷ [])
     3)
-    ∷ Return 4
+    NoElse
+    ∷ Return 4 None
     ∷ [])
     4
     ∷ [])
@@ -64,9 +66,9 @@ abbrev pub read_untested : SourceUnit
 read_untested =
     unit_of
     (native 1 Void (codes "Java_A_f") (reference_parameter JIntArray (codes "a") ∷ [])
-    (DeclareBuffer 2 JInt (codes "p") (FromCall (call (codes "GetIntArrayElements") (given (codes "a") ∷ Value (Named Null) ∷ [])))
-    ∷ PutJint 3 (Element (codes "p") (Number 0 false))
-    ∷ Return 4
+    (Plain 2 (Declare (Pointer JInt) (codes "p") (FromCall (call (codes "GetIntArrayElements") (given (codes "a") ∷ Value (Named Null) ∷ []))))
+    ∷ Plain 3 (PutJint (Element (codes "p") (Number 0 false)))
+    ∷ Return 4 None
     ∷ [])
     4
     ∷ [])
@@ -84,9 +86,9 @@ abbrev pub released_untested : SourceUnit
 released_untested =
     unit_of
     (native 1 Void (codes "Java_A_f") (reference_parameter JIntArray (codes "a") ∷ [])
-    (DeclareBuffer 2 JInt (codes "p") (FromCall (call (codes "GetIntArrayElements") (given (codes "a") ∷ Value (Named Null) ∷ [])))
-    ∷ Perform 3 (call (codes "ReleaseIntArrayElements") (given (codes "a") ∷ given (codes "p") ∷ Value (Number 0 false) ∷ []))
-    ∷ Return 4
+    (Plain 2 (Declare (Pointer JInt) (codes "p") (FromCall (call (codes "GetIntArrayElements") (given (codes "a") ∷ Value (Named Null) ∷ []))))
+    ∷ Plain 3 (Perform (call (codes "ReleaseIntArrayElements") (given (codes "a") ∷ given (codes "p") ∷ Value (Number 0 false) ∷ [])))
+    ∷ Return 4 None
     ∷ [])
     4
     ∷ [])
@@ -104,12 +106,13 @@ abbrev pub never_got : SourceUnit
 never_got =
     unit_of
     (native 1 Void (codes "Java_A_f") (reference_parameter JIntArray (codes "a") ∷ [])
-    (DeclareBuffer 2 JInt (codes "p") (FromExpr (Named Null))
+    (Plain 2 (Declare (Pointer JInt) (codes "p") (FromExpr (Named Null)))
     ∷ If 3 (TestExpr (Binary Equal (Variable (codes "p")) (Named Null)))
     (block
     []
     3)
-    ∷ Return 4
+    NoElse
+    ∷ Return 4 None
     ∷ [])
     4
     ∷ [])
@@ -128,13 +131,14 @@ abbrev pub released_for_another : SourceUnit
 released_for_another =
     unit_of
     (native 1 Void (codes "Java_A_f") (reference_parameter JIntArray (codes "a") ∷ reference_parameter JIntArray (codes "b") ∷ [])
-    (DeclareBuffer 2 JInt (codes "p") (FromCall (call (codes "GetIntArrayElements") (given (codes "a") ∷ Value (Named Null) ∷ [])))
+    (Plain 2 (Declare (Pointer JInt) (codes "p") (FromCall (call (codes "GetIntArrayElements") (given (codes "a") ∷ Value (Named Null) ∷ []))))
     ∷ If 3 (TestExpr (Binary NotEqual (Variable (codes "p")) (Named Null)))
     (block
-    (Perform 4 (call (codes "ReleaseIntArrayElements") (given (codes "b") ∷ given (codes "p") ∷ Value (Number 0 false) ∷ []))
+    (Plain 4 (Perform (call (codes "ReleaseIntArrayElements") (given (codes "b") ∷ given (codes "p") ∷ Value (Number 0 false) ∷ [])))
     ∷ [])
     4)
-    ∷ Return 5
+    NoElse
+    ∷ Return 5 None
     ∷ [])
     5
     ∷ [])
@@ -153,13 +157,14 @@ abbrev pub released_as_critical : SourceUnit
 released_as_critical =
     unit_of
     (native 1 Void (codes "Java_A_f") (reference_parameter JIntArray (codes "a") ∷ [])
-    (DeclareBuffer 2 JInt (codes "p") (FromCall (call (codes "GetIntArrayElements") (given (codes "a") ∷ Value (Named Null) ∷ [])))
+    (Plain 2 (Declare (Pointer JInt) (codes "p") (FromCall (call (codes "GetIntArrayElements") (given (codes "a") ∷ Value (Named Null) ∷ []))))
     ∷ If 3 (TestExpr (Binary NotEqual (Variable (codes "p")) (Named Null)))
     (block
-    (Perform 4 (call (codes "ReleasePrimitiveArrayCritical") (given (codes "a") ∷ given (codes "p") ∷ Value (Number 0 false) ∷ []))
+    (Plain 4 (Perform (call (codes "ReleasePrimitiveArrayCritical") (given (codes "a") ∷ given (codes "p") ∷ Value (Number 0 false) ∷ [])))
     ∷ [])
     4)
-    ∷ Return 5
+    NoElse
+    ∷ Return 5 None
     ∷ [])
     5
     ∷ [])
@@ -178,13 +183,14 @@ abbrev pub committed_critical : SourceUnit
 committed_critical =
     unit_of
     (native 1 Void (codes "Java_A_f") (reference_parameter JIntArray (codes "a") ∷ [])
-    (DeclareBuffer 2 JInt (codes "q") (FromCall (call (codes "GetPrimitiveArrayCritical") (given (codes "a") ∷ Value (Named Null) ∷ [])))
+    (Plain 2 (Declare (Pointer JInt) (codes "q") (FromCall (call (codes "GetPrimitiveArrayCritical") (given (codes "a") ∷ Value (Named Null) ∷ []))))
     ∷ If 3 (TestExpr (Binary NotEqual (Variable (codes "q")) (Named Null)))
     (block
-    (Perform 4 (call (codes "ReleasePrimitiveArrayCritical") (given (codes "a") ∷ given (codes "q") ∷ Value (Named Commit) ∷ []))
+    (Plain 4 (Perform (call (codes "ReleasePrimitiveArrayCritical") (given (codes "a") ∷ given (codes "q") ∷ Value (Named Commit) ∷ [])))
     ∷ [])
     4)
-    ∷ Return 5
+    NoElse
+    ∷ Return 5 None
     ∷ [])
     5
     ∷ [])
@@ -203,14 +209,15 @@ abbrev pub used_after_release : SourceUnit
 used_after_release =
     unit_of
     (native 1 Void (codes "Java_A_f") (reference_parameter JIntArray (codes "a") ∷ [])
-    (DeclareBuffer 2 JInt (codes "p") (FromCall (call (codes "GetIntArrayElements") (given (codes "a") ∷ Value (Named Null) ∷ [])))
+    (Plain 2 (Declare (Pointer JInt) (codes "p") (FromCall (call (codes "GetIntArrayElements") (given (codes "a") ∷ Value (Named Null) ∷ []))))
     ∷ If 3 (TestExpr (Binary NotEqual (Variable (codes "p")) (Named Null)))
     (block
-    (Perform 3 (call (codes "ReleaseIntArrayElements") (given (codes "a") ∷ given (codes "p") ∷ Value (Number 0 false) ∷ []))
-    ∷ AssignElement 4 (codes "p") (Number 0 false) (Number 1 false)
+    (Plain 3 (Perform (call (codes "ReleaseIntArrayElements") (given (codes "a") ∷ given (codes "p") ∷ Value (Number 0 false) ∷ [])))
+    ∷ Plain 4 (AssignElement (codes "p") (Number 0 false) (Number 1 false))
     ∷ [])
     4)
-    ∷ Return 5
+    NoElse
+    ∷ Return 5 None
     ∷ [])
     5
     ∷ [])
@@ -228,9 +235,9 @@ abbrev pub printed_while_critical : SourceUnit
 printed_while_critical =
     unit_of
     (native 1 Void (codes "Java_A_f") (reference_parameter JIntArray (codes "a") ∷ [])
-    (DeclareBuffer 2 JInt (codes "q") (FromCall (call (codes "GetPrimitiveArrayCritical") (given (codes "a") ∷ Value (Named Null) ∷ [])))
-    ∷ PutJint 3 (Number 1 false)
-    ∷ Return 4
+    (Plain 2 (Declare (Pointer JInt) (codes "q") (FromCall (call (codes "GetPrimitiveArrayCritical") (given (codes "a") ∷ Value (Named Null) ∷ []))))
+    ∷ Plain 3 (PutJint (Number 1 false))
+    ∷ Return 4 None
     ∷ [])
     4
     ∷ [])
@@ -249,13 +256,14 @@ abbrev pub released_as_copy : SourceUnit
 released_as_copy =
     unit_of
     (native 1 Void (codes "Java_A_f") (reference_parameter JIntArray (codes "a") ∷ [])
-    (DeclareBuffer 2 JInt (codes "q") (FromCall (call (codes "GetPrimitiveArrayCritical") (given (codes "a") ∷ Value (Named Null) ∷ [])))
+    (Plain 2 (Declare (Pointer JInt) (codes "q") (FromCall (call (codes "GetPrimitiveArrayCritical") (given (codes "a") ∷ Value (Named Null) ∷ []))))
     ∷ If 3 (TestExpr (Binary NotEqual (Variable (codes "q")) (Named Null)))
     (block
-    (Perform 4 (call (codes "ReleaseIntArrayElements") (given (codes "a") ∷ given (codes "q") ∷ Value (Number 0 false) ∷ []))
+    (Plain 4 (Perform (call (codes "ReleaseIntArrayElements") (given (codes "a") ∷ given (codes "q") ∷ Value (Number 0 false) ∷ [])))
     ∷ [])
     4)
-    ∷ Return 5
+    NoElse
+    ∷ Return 5 None
     ∷ [])
     5
     ∷ [])
@@ -273,9 +281,9 @@ abbrev pub array_set : SourceUnit
 array_set =
     unit_of
     (native 1 Void (codes "Java_A_f") (reference_parameter JIntArray (codes "a") ∷ [])
-    (DeclareBuffer 2 JInt (codes "p") (FromCall (call (codes "GetIntArrayElements") (given (codes "a") ∷ Value (Named Null) ∷ [])))
-    ∷ Assign 3 (codes "a") (FromExpr (Named Null))
-    ∷ Return 4
+    (Plain 2 (Declare (Pointer JInt) (codes "p") (FromCall (call (codes "GetIntArrayElements") (given (codes "a") ∷ Value (Named Null) ∷ []))))
+    ∷ Plain 3 (Assign (codes "a") (FromExpr (Named Null)))
+    ∷ Return 4 None
     ∷ [])
     4
     ∷ [])
@@ -293,9 +301,9 @@ abbrev pub array_deleted : SourceUnit
 array_deleted =
     unit_of
     (native 1 Void (codes "Java_A_f") (reference_parameter JIntArray (codes "a") ∷ [])
-    (DeclareBuffer 2 JInt (codes "p") (FromCall (call (codes "GetIntArrayElements") (given (codes "a") ∷ Value (Named Null) ∷ [])))
-    ∷ Perform 3 (call (codes "DeleteLocalRef") (given (codes "a") ∷ []))
-    ∷ Return 4
+    (Plain 2 (Declare (Pointer JInt) (codes "p") (FromCall (call (codes "GetIntArrayElements") (given (codes "a") ∷ Value (Named Null) ∷ []))))
+    ∷ Plain 3 (Perform (call (codes "DeleteLocalRef") (given (codes "a") ∷ [])))
+    ∷ Return 4 None
     ∷ [])
     4
     ∷ [])
@@ -314,8 +322,8 @@ array_of_a_static =
     unit_of
     (static_reference 1 JObject (codes "g")
     ∷ native 2 Void (codes "Java_A_f") []
-    (DeclareBuffer 3 JInt (codes "p") (FromCall (call (codes "GetIntArrayElements") (given (codes "g") ∷ Value (Named Null) ∷ [])))
-    ∷ Return 4
+    (Plain 3 (Declare (Pointer JInt) (codes "p") (FromCall (call (codes "GetIntArrayElements") (given (codes "g") ∷ Value (Named Null) ∷ []))))
+    ∷ Return 4 None
     ∷ [])
     4
     ∷ [])
@@ -338,12 +346,13 @@ array_popped =
     (native 1 Void (codes "Java_A_f") []
     (If 2 (TestCall (call (codes "PushLocalFrame") (Value (Number 4 false) ∷ [])))
     (block
-    (Declare 3 (ReferenceVariable JIntArray) (codes "y") (FromCall (call (codes "NewIntArray") (Value (Number 1 false) ∷ [])))
-    ∷ DeclareBuffer 4 JInt (codes "p") (FromCall (call (codes "GetIntArrayElements") (given (codes "y") ∷ Value (Named Null) ∷ [])))
-    ∷ Declare 5 (ReferenceVariable JObject) (codes "z") (FromCall (call (codes "PopLocalFrame") (Value (Named Null) ∷ [])))
+    (Plain 3 (Declare (Simple (ReferenceVariable JIntArray)) (codes "y") (FromCall (call (codes "NewIntArray") (Value (Number 1 false) ∷ []))))
+    ∷ Plain 4 (Declare (Pointer JInt) (codes "p") (FromCall (call (codes "GetIntArrayElements") (given (codes "y") ∷ Value (Named Null) ∷ []))))
+    ∷ Plain 5 (Declare (Simple (ReferenceVariable JObject)) (codes "z") (FromCall (call (codes "PopLocalFrame") (Value (Named Null) ∷ []))))
     ∷ [])
     6)
-    ∷ Return 7
+    NoElse
+    ∷ Return 7 None
     ∷ [])
     7
     ∷ [])
@@ -360,8 +369,8 @@ abbrev pub array_null : SourceUnit
 array_null =
     unit_of
     (native 1 Void (codes "Java_A_f") []
-    (DeclareBuffer 2 JInt (codes "p") (FromCall (call (codes "GetIntArrayElements") (Value (Named Null) ∷ Value (Named Null) ∷ [])))
-    ∷ Return 3
+    (Plain 2 (Declare (Pointer JInt) (codes "p") (FromCall (call (codes "GetIntArrayElements") (Value (Named Null) ∷ Value (Named Null) ∷ []))))
+    ∷ Return 3 None
     ∷ [])
     3
     ∷ [])

@@ -3,10 +3,11 @@ use Rattle.std.specs.Prelude.{◌∷◌, pos, true, false, [], Some, None, codes
 use Rattle.base.specs.declared.element.ElementType.TheVariants.{Int as JInt, Short as JShort, Char as JChar}
 use Rattle.syntax.specs.declared.declared_type.ReferenceType.TheVariants.{Object as JObject, Class as JClass, String as JString, IntArray as JIntArray}
 use Rattle.syntax.specs.declared.declared_type.VariableType.TheVariants.{Reference as ReferenceVariable}
+use Rattle.syntax.specs.declared.declared_type.DeclaredType.TheVariants.{Simple, Pointer, ConstChars}
 use Rattle.syntax.specs.declared.unit.ResultType.TheVariants.{Void}
 use Rattle.syntax.specs.declared.expr.Constant.TheVariants.{Null}
 use Rattle.syntax.specs.declared.expr.BinaryOp.TheVariants.{LogicalAnd, Equal, NotEqual}
-use Rattle.syntax.specs.Tree.{Number, Named, Variable, Element, Binary, Value, Text, FromCall, TestExpr, Declare, DeclareBuffer, DeclareChars, AssignElement, Perform, PutJint, If, While, Return, SourceUnit}
+use Rattle.syntax.specs.Tree.{Number, Named, Variable, Element, Binary, Value, Text, FromCall, TestExpr, Declare, AssignElement, Perform, PutJint, Plain, If, NoElse, While, Return, SourceUnit}
 use Rattle.semantics.specs.declared.schedule.ScheduleWord.TheVariants.{Turn}
 use Rattle.semantics.specs.World.{World}
 use Rattle.world_values.specs.WorldLines.{NumberValue, NullValue, NamedObject, ClassLine, ArrayLine, ThreadLine, Lines}
@@ -29,13 +30,14 @@ abbrev pub getintarrayelements_of_an_array_of_another_kind : SourceUnit
 getintarrayelements_of_an_array_of_another_kind =
     unit_of
     (native 1 Void (codes "Java_A_f") (reference_parameter JObject (codes "a") ∷ [])
-    (DeclareBuffer 2 JInt (codes "p") (FromCall (call (codes "GetIntArrayElements") (given (codes "a") ∷ Value (Named Null) ∷ [])))
+    (Plain 2 (Declare (Pointer JInt) (codes "p") (FromCall (call (codes "GetIntArrayElements") (given (codes "a") ∷ Value (Named Null) ∷ []))))
     ∷ If 3 (TestExpr (Binary NotEqual (Variable (codes "p")) (Named Null)))
     (block
-    (Perform 4 (call (codes "ReleaseIntArrayElements") (given (codes "a") ∷ given (codes "p") ∷ Value (Number 0 false) ∷ []))
+    (Plain 4 (Perform (call (codes "ReleaseIntArrayElements") (given (codes "a") ∷ given (codes "p") ∷ Value (Number 0 false) ∷ [])))
     ∷ [])
     5)
-    ∷ Return 6
+    NoElse
+    ∷ Return 6 None
     ∷ [])
     7
     ∷ [])
@@ -75,13 +77,14 @@ abbrev pub getprimitivearraycritical_of_null : SourceUnit
 getprimitivearraycritical_of_null =
     unit_of
     (native 1 Void (codes "Java_A_f") (reference_parameter JIntArray (codes "a") ∷ [])
-    (DeclareBuffer 2 JInt (codes "p") (FromCall (call (codes "GetPrimitiveArrayCritical") (given (codes "a") ∷ Value (Named Null) ∷ [])))
+    (Plain 2 (Declare (Pointer JInt) (codes "p") (FromCall (call (codes "GetPrimitiveArrayCritical") (given (codes "a") ∷ Value (Named Null) ∷ []))))
     ∷ If 3 (TestExpr (Binary NotEqual (Variable (codes "p")) (Named Null)))
     (block
-    (Perform 4 (call (codes "ReleasePrimitiveArrayCritical") (given (codes "a") ∷ given (codes "p") ∷ Value (Number 0 false) ∷ []))
+    (Plain 4 (Perform (call (codes "ReleasePrimitiveArrayCritical") (given (codes "a") ∷ given (codes "p") ∷ Value (Number 0 false) ∷ [])))
     ∷ [])
     5)
-    ∷ Return 6
+    NoElse
+    ∷ Return 6 None
     ∷ [])
     7
     ∷ [])
@@ -121,14 +124,15 @@ abbrev pub getprimitivearraycritical_while_an_exception_is_pending : SourceUnit
 getprimitivearraycritical_while_an_exception_is_pending =
     unit_of
     (native 1 Void (codes "Java_A_f") (reference_parameter JIntArray (codes "a") ∷ [])
-    (Declare 2 (ReferenceVariable JClass) (codes "b") (FromCall (call (codes "FindClass") (Text (codes "B") ∷ [])))
-    ∷ DeclareBuffer 3 JInt (codes "p") (FromCall (call (codes "GetPrimitiveArrayCritical") (given (codes "a") ∷ Value (Named Null) ∷ [])))
+    (Plain 2 (Declare (Simple (ReferenceVariable JClass)) (codes "b") (FromCall (call (codes "FindClass") (Text (codes "B") ∷ []))))
+    ∷ Plain 3 (Declare (Pointer JInt) (codes "p") (FromCall (call (codes "GetPrimitiveArrayCritical") (given (codes "a") ∷ Value (Named Null) ∷ []))))
     ∷ If 4 (TestExpr (Binary NotEqual (Variable (codes "p")) (Named Null)))
     (block
-    (Perform 5 (call (codes "ReleasePrimitiveArrayCritical") (given (codes "a") ∷ given (codes "p") ∷ Value (Number 0 false) ∷ []))
+    (Plain 5 (Perform (call (codes "ReleasePrimitiveArrayCritical") (given (codes "a") ∷ given (codes "p") ∷ Value (Number 0 false) ∷ [])))
     ∷ [])
     6)
-    ∷ Return 7
+    NoElse
+    ∷ Return 7 None
     ∷ [])
     8
     ∷ [])
@@ -154,13 +158,14 @@ abbrev pub getstringchars_of_null : SourceUnit
 getstringchars_of_null =
     unit_of
     (native 1 Void (codes "Java_A_f") (reference_parameter JString (codes "a") ∷ [])
-    (DeclareChars 2 (codes "p") (FromCall (call (codes "GetStringChars") (given (codes "a") ∷ Value (Named Null) ∷ [])))
+    (Plain 2 (Declare ConstChars (codes "p") (FromCall (call (codes "GetStringChars") (given (codes "a") ∷ Value (Named Null) ∷ []))))
     ∷ If 3 (TestExpr (Binary NotEqual (Variable (codes "p")) (Named Null)))
     (block
-    (Perform 4 (call (codes "ReleaseStringChars") (given (codes "a") ∷ given (codes "p") ∷ []))
+    (Plain 4 (Perform (call (codes "ReleaseStringChars") (given (codes "a") ∷ given (codes "p") ∷ [])))
     ∷ [])
     5)
-    ∷ Return 6
+    NoElse
+    ∷ Return 6 None
     ∷ [])
     7
     ∷ [])
@@ -187,14 +192,15 @@ abbrev pub getstringchars_while_an_exception_is_pending : SourceUnit
 getstringchars_while_an_exception_is_pending =
     unit_of
     (native 1 Void (codes "Java_A_f") (reference_parameter JString (codes "a") ∷ [])
-    (Declare 2 (ReferenceVariable JClass) (codes "b") (FromCall (call (codes "FindClass") (Text (codes "B") ∷ [])))
-    ∷ DeclareChars 3 (codes "p") (FromCall (call (codes "GetStringChars") (given (codes "a") ∷ Value (Named Null) ∷ [])))
+    (Plain 2 (Declare (Simple (ReferenceVariable JClass)) (codes "b") (FromCall (call (codes "FindClass") (Text (codes "B") ∷ []))))
+    ∷ Plain 3 (Declare ConstChars (codes "p") (FromCall (call (codes "GetStringChars") (given (codes "a") ∷ Value (Named Null) ∷ []))))
     ∷ If 4 (TestExpr (Binary NotEqual (Variable (codes "p")) (Named Null)))
     (block
-    (Perform 5 (call (codes "ReleaseStringChars") (given (codes "a") ∷ given (codes "p") ∷ []))
+    (Plain 5 (Perform (call (codes "ReleaseStringChars") (given (codes "a") ∷ given (codes "p") ∷ [])))
     ∷ [])
     6)
-    ∷ Return 7
+    NoElse
+    ∷ Return 7 None
     ∷ [])
     8
     ∷ [])
@@ -220,13 +226,14 @@ abbrev pub getstringcritical_of_an_array_of_another_kind : SourceUnit
 getstringcritical_of_an_array_of_another_kind =
     unit_of
     (native 1 Void (codes "Java_A_f") (reference_parameter JObject (codes "a") ∷ [])
-    (DeclareChars 2 (codes "p") (FromCall (call (codes "GetStringCritical") (given (codes "a") ∷ Value (Named Null) ∷ [])))
+    (Plain 2 (Declare ConstChars (codes "p") (FromCall (call (codes "GetStringCritical") (given (codes "a") ∷ Value (Named Null) ∷ []))))
     ∷ If 3 (TestExpr (Binary NotEqual (Variable (codes "p")) (Named Null)))
     (block
-    (Perform 4 (call (codes "ReleaseStringCritical") (given (codes "a") ∷ given (codes "p") ∷ []))
+    (Plain 4 (Perform (call (codes "ReleaseStringCritical") (given (codes "a") ∷ given (codes "p") ∷ [])))
     ∷ [])
     5)
-    ∷ Return 6
+    NoElse
+    ∷ Return 6 None
     ∷ [])
     7
     ∷ [])
@@ -267,14 +274,15 @@ abbrev pub a_copy_is_made_while_a_buffer_is_critical : SourceUnit
 a_copy_is_made_while_a_buffer_is_critical =
     unit_of
     (native 1 Void (codes "Java_A_f") (reference_parameter JIntArray (codes "a") ∷ [])
-    (DeclareBuffer 2 JInt (codes "q") (FromCall (call (codes "GetPrimitiveArrayCritical") (given (codes "a") ∷ Value (Named Null) ∷ [])))
+    (Plain 2 (Declare (Pointer JInt) (codes "q") (FromCall (call (codes "GetPrimitiveArrayCritical") (given (codes "a") ∷ Value (Named Null) ∷ []))))
     ∷ If 3 (TestExpr (Binary NotEqual (Variable (codes "q")) (Named Null)))
     (block
-    (DeclareBuffer 4 JInt (codes "p") (FromCall (call (codes "GetIntArrayElements") (given (codes "a") ∷ Value (Named Null) ∷ [])))
-    ∷ Perform 5 (call (codes "ReleasePrimitiveArrayCritical") (given (codes "a") ∷ given (codes "q") ∷ Value (Number 0 false) ∷ []))
+    (Plain 4 (Declare (Pointer JInt) (codes "p") (FromCall (call (codes "GetIntArrayElements") (given (codes "a") ∷ Value (Named Null) ∷ []))))
+    ∷ Plain 5 (Perform (call (codes "ReleasePrimitiveArrayCritical") (given (codes "a") ∷ given (codes "q") ∷ Value (Number 0 false) ∷ [])))
     ∷ [])
     6)
-    ∷ Return 7
+    NoElse
+    ∷ Return 7 None
     ∷ [])
     8
     ∷ [])
@@ -299,19 +307,21 @@ abbrev pub a_return_on_the_path_where_the_second_buffer_is_null : SourceUnit
 a_return_on_the_path_where_the_second_buffer_is_null =
     unit_of
     (native 1 Void (codes "Java_A_f") (reference_parameter JIntArray (codes "a") ∷ [])
-    (DeclareBuffer 2 JInt (codes "p") (FromCall (call (codes "GetIntArrayElements") (given (codes "a") ∷ Value (Named Null) ∷ [])))
+    (Plain 2 (Declare (Pointer JInt) (codes "p") (FromCall (call (codes "GetIntArrayElements") (given (codes "a") ∷ Value (Named Null) ∷ []))))
     ∷ If 3 (TestExpr (Binary Equal (Variable (codes "p")) (Named Null)))
     (block
-    (Return 4
+    (Return 4 None
     ∷ [])
     5)
-    ∷ DeclareBuffer 6 JInt (codes "q") (FromCall (call (codes "GetIntArrayElements") (given (codes "a") ∷ Value (Named Null) ∷ [])))
+    NoElse
+    ∷ Plain 6 (Declare (Pointer JInt) (codes "q") (FromCall (call (codes "GetIntArrayElements") (given (codes "a") ∷ Value (Named Null) ∷ []))))
     ∷ If 7 (TestExpr (Binary Equal (Variable (codes "q")) (Named Null)))
     (block
-    (Return 8
+    (Return 8 None
     ∷ [])
     9)
-    ∷ Return 10
+    NoElse
+    ∷ Return 10 None
     ∷ [])
     11
     ∷ [])
@@ -333,10 +343,10 @@ a_loop_s_body_ends_with_a_buffer_that_it_declares =
     (native 1 Void (codes "Java_A_f") (reference_parameter JIntArray (codes "a") ∷ [])
     (While 2 (Binary Equal (Number 1 true) (Number 1 true))
     (block
-    (DeclareBuffer 3 JInt (codes "p") (FromCall (call (codes "GetIntArrayElements") (given (codes "a") ∷ Value (Named Null) ∷ [])))
+    (Plain 3 (Declare (Pointer JInt) (codes "p") (FromCall (call (codes "GetIntArrayElements") (given (codes "a") ∷ Value (Named Null) ∷ []))))
     ∷ [])
     4)
-    ∷ Return 5
+    ∷ Return 5 None
     ∷ [])
     6
     ∷ [])
@@ -357,13 +367,14 @@ abbrev pub a_test_beside_another_teaches_nothing : SourceUnit
 a_test_beside_another_teaches_nothing =
     unit_of
     (native 1 Void (codes "Java_A_f") (reference_parameter JIntArray (codes "a") ∷ [])
-    (DeclareBuffer 2 JInt (codes "p") (FromCall (call (codes "GetIntArrayElements") (given (codes "a") ∷ Value (Named Null) ∷ [])))
+    (Plain 2 (Declare (Pointer JInt) (codes "p") (FromCall (call (codes "GetIntArrayElements") (given (codes "a") ∷ Value (Named Null) ∷ []))))
     ∷ If 3 (TestExpr (Binary LogicalAnd (Binary NotEqual (Variable (codes "p")) (Named Null)) (Binary Equal (Number 1 true) (Number 1 true))))
     (block
-    (AssignElement 4 (codes "p") (Number 0 false) (Number 1 false)
+    (Plain 4 (AssignElement (codes "p") (Number 0 false) (Number 1 false))
     ∷ [])
     5)
-    ∷ Return 6
+    NoElse
+    ∷ Return 6 None
     ∷ [])
     7
     ∷ [])
@@ -384,13 +395,13 @@ abbrev pub a_loop_s_test_teaches_nothing : SourceUnit
 a_loop_s_test_teaches_nothing =
     unit_of
     (native 1 Void (codes "Java_A_f") (reference_parameter JIntArray (codes "a") ∷ [])
-    (DeclareBuffer 2 JInt (codes "p") (FromCall (call (codes "GetIntArrayElements") (given (codes "a") ∷ Value (Named Null) ∷ [])))
+    (Plain 2 (Declare (Pointer JInt) (codes "p") (FromCall (call (codes "GetIntArrayElements") (given (codes "a") ∷ Value (Named Null) ∷ []))))
     ∷ While 3 (Binary NotEqual (Variable (codes "p")) (Named Null))
     (block
-    (Perform 4 (call (codes "ReleaseIntArrayElements") (given (codes "a") ∷ given (codes "p") ∷ Value (Number 0 false) ∷ []))
+    (Plain 4 (Perform (call (codes "ReleaseIntArrayElements") (given (codes "a") ∷ given (codes "p") ∷ Value (Number 0 false) ∷ [])))
     ∷ [])
     5)
-    ∷ Return 6
+    ∷ Return 6 None
     ∷ [])
     7
     ∷ [])
@@ -411,13 +422,14 @@ abbrev pub a_buffer_is_read_where_it_is_null : SourceUnit
 a_buffer_is_read_where_it_is_null =
     unit_of
     (native 1 Void (codes "Java_A_f") (reference_parameter JIntArray (codes "a") ∷ [])
-    (DeclareBuffer 2 JInt (codes "p") (FromCall (call (codes "GetIntArrayElements") (given (codes "a") ∷ Value (Named Null) ∷ [])))
+    (Plain 2 (Declare (Pointer JInt) (codes "p") (FromCall (call (codes "GetIntArrayElements") (given (codes "a") ∷ Value (Named Null) ∷ []))))
     ∷ If 3 (TestExpr (Binary Equal (Variable (codes "p")) (Named Null)))
     (block
-    (PutJint 4 (Element (codes "p") (Number 0 false))
+    (Plain 4 (PutJint (Element (codes "p") (Number 0 false)))
     ∷ [])
     5)
-    ∷ Return 6
+    NoElse
+    ∷ Return 6 None
     ∷ [])
     7
     ∷ [])
@@ -439,14 +451,15 @@ abbrev pub a_buffer_is_released_with_another_reference_to_its_array : SourceUnit
 a_buffer_is_released_with_another_reference_to_its_array =
     unit_of
     (native 1 Void (codes "Java_A_f") (reference_parameter JIntArray (codes "a") ∷ [])
-    (Declare 2 (ReferenceVariable JObject) (codes "b") (FromCall (call (codes "NewLocalRef") (given (codes "a") ∷ [])))
-    ∷ DeclareBuffer 3 JInt (codes "p") (FromCall (call (codes "GetIntArrayElements") (given (codes "a") ∷ Value (Named Null) ∷ [])))
+    (Plain 2 (Declare (Simple (ReferenceVariable JObject)) (codes "b") (FromCall (call (codes "NewLocalRef") (given (codes "a") ∷ []))))
+    ∷ Plain 3 (Declare (Pointer JInt) (codes "p") (FromCall (call (codes "GetIntArrayElements") (given (codes "a") ∷ Value (Named Null) ∷ []))))
     ∷ If 4 (TestExpr (Binary NotEqual (Variable (codes "p")) (Named Null)))
     (block
-    (Perform 5 (call (codes "ReleaseIntArrayElements") (given (codes "b") ∷ given (codes "p") ∷ Value (Number 0 false) ∷ []))
+    (Plain 5 (Perform (call (codes "ReleaseIntArrayElements") (given (codes "b") ∷ given (codes "p") ∷ Value (Number 0 false) ∷ [])))
     ∷ [])
     6)
-    ∷ Return 7
+    NoElse
+    ∷ Return 7 None
     ∷ [])
     8
     ∷ [])
@@ -467,13 +480,14 @@ abbrev pub a_buffer_is_held_on_one_path_alone : SourceUnit
 a_buffer_is_held_on_one_path_alone =
     unit_of
     (native 1 Void (codes "Java_A_f") (reference_parameter JIntArray (codes "a") ∷ [])
-    (DeclareBuffer 2 JInt (codes "p") (FromCall (call (codes "GetIntArrayElements") (given (codes "a") ∷ Value (Named Null) ∷ [])))
+    (Plain 2 (Declare (Pointer JInt) (codes "p") (FromCall (call (codes "GetIntArrayElements") (given (codes "a") ∷ Value (Named Null) ∷ []))))
     ∷ If 3 (TestExpr (Binary NotEqual (Variable (codes "p")) (Named Null)))
     (block
-    (AssignElement 4 (codes "p") (Number 0 false) (Number 1 false)
+    (Plain 4 (AssignElement (codes "p") (Number 0 false) (Number 1 false))
     ∷ [])
     5)
-    ∷ Return 6
+    NoElse
+    ∷ Return 6 None
     ∷ [])
     7
     ∷ [])

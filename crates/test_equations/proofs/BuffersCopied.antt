@@ -3,10 +3,11 @@ use Rattle.std.specs.Prelude.{◌∷◌, pos, false, [], Some, None, codes, refl
 use Rattle.base.specs.declared.element.ElementType.TheVariants.{Int as JInt}
 use Rattle.syntax.specs.declared.declared_type.ReferenceType.TheVariants.{Object as JObject, IntArray as JIntArray}
 use Rattle.syntax.specs.declared.declared_type.VariableType.TheVariants.{Jint as JIntVariable, Reference as ReferenceVariable}
+use Rattle.syntax.specs.declared.declared_type.DeclaredType.TheVariants.{Simple, Pointer}
 use Rattle.syntax.specs.declared.unit.ResultType.TheVariants.{Void}
 use Rattle.syntax.specs.declared.expr.Constant.TheVariants.{Commit, Abort, Null}
 use Rattle.syntax.specs.declared.expr.BinaryOp.TheVariants.{NotEqual}
-use Rattle.syntax.specs.Tree.{Number, Named, Variable, Binary, Value, FromCall, TestExpr, Declare, DeclareBuffer, DeclareArray, AssignElement, Perform, If, Return, SourceUnit}
+use Rattle.syntax.specs.Tree.{Number, Named, Variable, Binary, Value, FromCall, TestExpr, Declare, DeclareArray, AssignElement, Perform, Plain, If, NoElse, Return, SourceUnit}
 use Rattle.semantics.specs.declared.schedule.ScheduleWord.TheVariants.{Turn}
 use Rattle.semantics.specs.World.{World}
 use Rattle.world_values.specs.WorldLines.{NumberValue, NamedObject, ClassLine, ArrayLine, ThreadLine, Lines}
@@ -26,21 +27,22 @@ abbrev pub a_copy_is_written_back : SourceUnit
 a_copy_is_written_back =
     unit_of
     (native 1 Void (codes "Java_A_f") (reference_parameter JIntArray (codes "a") ∷ [])
-    (DeclareBuffer 2 JInt (codes "p") (FromCall (call (codes "GetIntArrayElements") (given (codes "a") ∷ Value (Named Null) ∷ [])))
+    (Plain 2 (Declare (Pointer JInt) (codes "p") (FromCall (call (codes "GetIntArrayElements") (given (codes "a") ∷ Value (Named Null) ∷ []))))
     ∷ If 3 (TestExpr (Binary NotEqual (Variable (codes "p")) (Named Null)))
     (block
-    (AssignElement 3 (codes "p") (Number 0 false) (Number 9 false)
-    ∷ Perform 3 (call (codes "ReleaseIntArrayElements") (given (codes "a") ∷ given (codes "p") ∷ Value (Number 0 false) ∷ []))
+    (Plain 3 (AssignElement (codes "p") (Number 0 false) (Number 9 false))
+    ∷ Plain 3 (Perform (call (codes "ReleaseIntArrayElements") (given (codes "a") ∷ given (codes "p") ∷ Value (Number 0 false) ∷ [])))
     ∷ [])
     3)
-    ∷ Return 4
+    NoElse
+    ∷ Return 4 None
     ∷ [])
     4
     ∷ native 5 Void (codes "Java_A_g") (reference_parameter JIntArray (codes "a") ∷ [])
-    (DeclareArray 5 JInt (codes "b") 1
-    ∷ AssignElement 5 (codes "b") (Number 0 false) (Number 5 false)
-    ∷ Perform 5 (call (codes "SetIntArrayRegion") (given (codes "a") ∷ Value (Number 0 false) ∷ Value (Number 1 false) ∷ given (codes "b") ∷ []))
-    ∷ Return 5
+    (Plain 5 (DeclareArray JInt (codes "b") 1)
+    ∷ Plain 5 (AssignElement (codes "b") (Number 0 false) (Number 5 false))
+    ∷ Plain 5 (Perform (call (codes "SetIntArrayRegion") (given (codes "a") ∷ Value (Number 0 false) ∷ Value (Number 1 false) ∷ given (codes "b") ∷ [])))
+    ∷ Return 5 None
     ∷ [])
     5
     ∷ [])
@@ -79,21 +81,22 @@ abbrev pub a_copy_is_given_up : SourceUnit
 a_copy_is_given_up =
     unit_of
     (native 1 Void (codes "Java_A_f") (reference_parameter JIntArray (codes "a") ∷ [])
-    (DeclareBuffer 2 JInt (codes "p") (FromCall (call (codes "GetIntArrayElements") (given (codes "a") ∷ Value (Named Null) ∷ [])))
+    (Plain 2 (Declare (Pointer JInt) (codes "p") (FromCall (call (codes "GetIntArrayElements") (given (codes "a") ∷ Value (Named Null) ∷ []))))
     ∷ If 3 (TestExpr (Binary NotEqual (Variable (codes "p")) (Named Null)))
     (block
-    (AssignElement 3 (codes "p") (Number 0 false) (Number 9 false)
-    ∷ Perform 3 (call (codes "ReleaseIntArrayElements") (given (codes "a") ∷ given (codes "p") ∷ Value (Named Abort) ∷ []))
+    (Plain 3 (AssignElement (codes "p") (Number 0 false) (Number 9 false))
+    ∷ Plain 3 (Perform (call (codes "ReleaseIntArrayElements") (given (codes "a") ∷ given (codes "p") ∷ Value (Named Abort) ∷ [])))
     ∷ [])
     3)
-    ∷ Return 4
+    NoElse
+    ∷ Return 4 None
     ∷ [])
     4
     ∷ native 5 Void (codes "Java_A_g") (reference_parameter JIntArray (codes "a") ∷ [])
-    (DeclareArray 5 JInt (codes "b") 1
-    ∷ AssignElement 5 (codes "b") (Number 0 false) (Number 5 false)
-    ∷ Perform 5 (call (codes "SetIntArrayRegion") (given (codes "a") ∷ Value (Number 0 false) ∷ Value (Number 1 false) ∷ given (codes "b") ∷ []))
-    ∷ Return 5
+    (Plain 5 (DeclareArray JInt (codes "b") 1)
+    ∷ Plain 5 (AssignElement (codes "b") (Number 0 false) (Number 5 false))
+    ∷ Plain 5 (Perform (call (codes "SetIntArrayRegion") (given (codes "a") ∷ Value (Number 0 false) ∷ Value (Number 1 false) ∷ given (codes "b") ∷ [])))
+    ∷ Return 5 None
     ∷ [])
     5
     ∷ [])
@@ -117,23 +120,24 @@ abbrev pub a_copy_is_written_back_and_kept : SourceUnit
 a_copy_is_written_back_and_kept =
     unit_of
     (native 1 Void (codes "Java_A_f") (reference_parameter JIntArray (codes "a") ∷ [])
-    (DeclareBuffer 2 JInt (codes "p") (FromCall (call (codes "GetIntArrayElements") (given (codes "a") ∷ Value (Named Null) ∷ [])))
+    (Plain 2 (Declare (Pointer JInt) (codes "p") (FromCall (call (codes "GetIntArrayElements") (given (codes "a") ∷ Value (Named Null) ∷ []))))
     ∷ If 3 (TestExpr (Binary NotEqual (Variable (codes "p")) (Named Null)))
     (block
-    (AssignElement 3 (codes "p") (Number 0 false) (Number 9 false)
-    ∷ Perform 3 (call (codes "ReleaseIntArrayElements") (given (codes "a") ∷ given (codes "p") ∷ Value (Named Commit) ∷ []))
-    ∷ AssignElement 3 (codes "p") (Number 1 false) (Number 4 false)
-    ∷ Perform 3 (call (codes "ReleaseIntArrayElements") (given (codes "a") ∷ given (codes "p") ∷ Value (Named Abort) ∷ []))
+    (Plain 3 (AssignElement (codes "p") (Number 0 false) (Number 9 false))
+    ∷ Plain 3 (Perform (call (codes "ReleaseIntArrayElements") (given (codes "a") ∷ given (codes "p") ∷ Value (Named Commit) ∷ [])))
+    ∷ Plain 3 (AssignElement (codes "p") (Number 1 false) (Number 4 false))
+    ∷ Plain 3 (Perform (call (codes "ReleaseIntArrayElements") (given (codes "a") ∷ given (codes "p") ∷ Value (Named Abort) ∷ [])))
     ∷ [])
     3)
-    ∷ Return 4
+    NoElse
+    ∷ Return 4 None
     ∷ [])
     4
     ∷ native 5 Void (codes "Java_A_g") (reference_parameter JIntArray (codes "a") ∷ [])
-    (DeclareArray 5 JInt (codes "b") 1
-    ∷ AssignElement 5 (codes "b") (Number 0 false) (Number 5 false)
-    ∷ Perform 5 (call (codes "SetIntArrayRegion") (given (codes "a") ∷ Value (Number 0 false) ∷ Value (Number 1 false) ∷ given (codes "b") ∷ []))
-    ∷ Return 5
+    (Plain 5 (DeclareArray JInt (codes "b") 1)
+    ∷ Plain 5 (AssignElement (codes "b") (Number 0 false) (Number 5 false))
+    ∷ Plain 5 (Perform (call (codes "SetIntArrayRegion") (given (codes "a") ∷ Value (Number 0 false) ∷ Value (Number 1 false) ∷ given (codes "b") ∷ [])))
+    ∷ Return 5 None
     ∷ [])
     5
     ∷ [])
@@ -156,16 +160,17 @@ abbrev pub a_copy_is_kept_after_a_commit : SourceUnit
 a_copy_is_kept_after_a_commit =
     unit_of
     (native 1 Void (codes "Java_A_f") (reference_parameter JIntArray (codes "a") ∷ [])
-    (DeclareBuffer 2 JInt (codes "p") (FromCall (call (codes "GetIntArrayElements") (given (codes "a") ∷ Value (Named Null) ∷ [])))
+    (Plain 2 (Declare (Pointer JInt) (codes "p") (FromCall (call (codes "GetIntArrayElements") (given (codes "a") ∷ Value (Named Null) ∷ []))))
     ∷ If 3 (TestExpr (Binary NotEqual (Variable (codes "p")) (Named Null)))
     (block
-    (AssignElement 3 (codes "p") (Number 0 false) (Number 9 false)
-    ∷ Perform 3 (call (codes "ReleaseIntArrayElements") (given (codes "a") ∷ given (codes "p") ∷ Value (Named Commit) ∷ []))
-    ∷ AssignElement 3 (codes "p") (Number 1 false) (Number 4 false)
-    ∷ Perform 3 (call (codes "ReleaseIntArrayElements") (given (codes "a") ∷ given (codes "p") ∷ Value (Named Abort) ∷ []))
+    (Plain 3 (AssignElement (codes "p") (Number 0 false) (Number 9 false))
+    ∷ Plain 3 (Perform (call (codes "ReleaseIntArrayElements") (given (codes "a") ∷ given (codes "p") ∷ Value (Named Commit) ∷ [])))
+    ∷ Plain 3 (AssignElement (codes "p") (Number 1 false) (Number 4 false))
+    ∷ Plain 3 (Perform (call (codes "ReleaseIntArrayElements") (given (codes "a") ∷ given (codes "p") ∷ Value (Named Abort) ∷ [])))
     ∷ [])
     3)
-    ∷ Return 4
+    NoElse
+    ∷ Return 4 None
     ∷ [])
     4
     ∷ [])
@@ -205,12 +210,12 @@ abbrev pub a_region_past_the_end_and_a_call_with_its_exception_pending : SourceU
 a_region_past_the_end_and_a_call_with_its_exception_pending =
     unit_of
     (native 1 Void (codes "Java_A_f") (reference_parameter JIntArray (codes "a") ∷ [])
-    (Declare 2 (ReferenceVariable JObject) (codes "x") (FromCall (call (codes "NewLocalRef") (given (codes "a") ∷ [])))
-    ∷ DeclareArray 3 JInt (codes "b") 1
-    ∷ Perform 4 (call (codes "GetIntArrayRegion") (given (codes "a") ∷ Value (Number 2 false) ∷ Value (Number 1 false) ∷ given (codes "b") ∷ []))
-    ∷ Perform 5 (call (codes "DeleteLocalRef") (given (codes "x") ∷ []))
-    ∷ Declare 6 JIntVariable (codes "n") (FromCall (call (codes "GetArrayLength") (given (codes "a") ∷ [])))
-    ∷ Return 7
+    (Plain 2 (Declare (Simple (ReferenceVariable JObject)) (codes "x") (FromCall (call (codes "NewLocalRef") (given (codes "a") ∷ []))))
+    ∷ Plain 3 (DeclareArray JInt (codes "b") 1)
+    ∷ Plain 4 (Perform (call (codes "GetIntArrayRegion") (given (codes "a") ∷ Value (Number 2 false) ∷ Value (Number 1 false) ∷ given (codes "b") ∷ [])))
+    ∷ Plain 5 (Perform (call (codes "DeleteLocalRef") (given (codes "x") ∷ [])))
+    ∷ Plain 6 (Declare (Simple JIntVariable) (codes "n") (FromCall (call (codes "GetArrayLength") (given (codes "a") ∷ []))))
+    ∷ Return 7 None
     ∷ [])
     7
     ∷ [])

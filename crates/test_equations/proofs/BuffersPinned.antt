@@ -3,11 +3,12 @@ use Rattle.std.specs.Prelude.{◌∷◌, pos, false, [], Some, None, codes, refl
 use Rattle.base.specs.declared.element.ElementType.TheVariants.{Int as JInt}
 use Rattle.syntax.specs.declared.declared_type.ReferenceType.TheVariants.{IntArray as JIntArray}
 use Rattle.syntax.specs.declared.declared_type.VariableType.TheVariants.{Uint32 as UInt32, Jint as JIntVariable, Reference as ReferenceVariable}
+use Rattle.syntax.specs.declared.declared_type.DeclaredType.TheVariants.{Simple, Pointer}
 use Rattle.syntax.specs.declared.unit.ResultType.TheVariants.{Void}
 use Rattle.syntax.specs.declared.expr.Constant.TheVariants.{Null}
 use Rattle.syntax.specs.declared.expr.PrefixOp.TheVariants.{ToWord, ToInt}
 use Rattle.syntax.specs.declared.expr.BinaryOp.TheVariants.{NotEqual, Add}
-use Rattle.syntax.specs.Tree.{Number, Named, Variable, Element, Prefix, Binary, Value, FromExpr, FromCall, TestExpr, Declare, DeclareBuffer, DeclareArray, AssignElement, Perform, PutJint, If, Return, SourceUnit}
+use Rattle.syntax.specs.Tree.{Number, Named, Variable, Element, Prefix, Binary, Value, FromExpr, FromCall, TestExpr, Declare, DeclareArray, AssignElement, Perform, PutJint, Plain, If, NoElse, Return, SourceUnit}
 use Rattle.semantics.specs.declared.schedule.ScheduleWord.TheVariants.{Turn, Collect}
 use Rattle.semantics.specs.World.{World}
 use Rattle.world_values.specs.WorldLines.{NumberValue, NamedObject, ClassLine, ArrayLine, ThreadLine, Lines}
@@ -31,22 +32,23 @@ abbrev pub a_pinned_array_between_dropped_ones : SourceUnit
 a_pinned_array_between_dropped_ones =
     unit_of
     (native 1 Void (codes "Java_A_f") []
-    (Declare 2 (ReferenceVariable JIntArray) (codes "d") (FromCall (call (codes "NewIntArray") (Value (Number 3 false) ∷ [])))
-    ∷ Declare 3 (ReferenceVariable JIntArray) (codes "a") (FromCall (call (codes "NewIntArray") (Value (Number 2 false) ∷ [])))
-    ∷ Declare 4 (ReferenceVariable JIntArray) (codes "e") (FromCall (call (codes "NewIntArray") (Value (Number 3 false) ∷ [])))
-    ∷ Perform 5 (call (codes "DeleteLocalRef") (given (codes "d") ∷ []))
-    ∷ Perform 6 (call (codes "DeleteLocalRef") (given (codes "e") ∷ []))
-    ∷ DeclareBuffer 7 JInt (codes "q") (FromCall (call (codes "GetPrimitiveArrayCritical") (given (codes "a") ∷ Value (Named Null) ∷ [])))
+    (Plain 2 (Declare (Simple (ReferenceVariable JIntArray)) (codes "d") (FromCall (call (codes "NewIntArray") (Value (Number 3 false) ∷ []))))
+    ∷ Plain 3 (Declare (Simple (ReferenceVariable JIntArray)) (codes "a") (FromCall (call (codes "NewIntArray") (Value (Number 2 false) ∷ []))))
+    ∷ Plain 4 (Declare (Simple (ReferenceVariable JIntArray)) (codes "e") (FromCall (call (codes "NewIntArray") (Value (Number 3 false) ∷ []))))
+    ∷ Plain 5 (Perform (call (codes "DeleteLocalRef") (given (codes "d") ∷ [])))
+    ∷ Plain 6 (Perform (call (codes "DeleteLocalRef") (given (codes "e") ∷ [])))
+    ∷ Plain 7 (Declare (Pointer JInt) (codes "q") (FromCall (call (codes "GetPrimitiveArrayCritical") (given (codes "a") ∷ Value (Named Null) ∷ []))))
     ∷ If 8 (TestExpr (Binary NotEqual (Variable (codes "q")) (Named Null)))
     (block
-    (AssignElement 8 (codes "q") (Number 0 false) (Number 7 false)
-    ∷ AssignElement 8 (codes "q") (Number 1 false) (Number 8 false)
-    ∷ Declare 8 JIntVariable (codes "s") (FromExpr (Element (codes "q") (Number 0 false)))
-    ∷ Perform 8 (call (codes "ReleasePrimitiveArrayCritical") (given (codes "a") ∷ given (codes "q") ∷ Value (Number 0 false) ∷ []))
-    ∷ PutJint 8 (Variable (codes "s"))
+    (Plain 8 (AssignElement (codes "q") (Number 0 false) (Number 7 false))
+    ∷ Plain 8 (AssignElement (codes "q") (Number 1 false) (Number 8 false))
+    ∷ Plain 8 (Declare (Simple JIntVariable) (codes "s") (FromExpr (Element (codes "q") (Number 0 false))))
+    ∷ Plain 8 (Perform (call (codes "ReleasePrimitiveArrayCritical") (given (codes "a") ∷ given (codes "q") ∷ Value (Number 0 false) ∷ [])))
+    ∷ Plain 8 (PutJint (Variable (codes "s")))
     ∷ [])
     8)
-    ∷ Return 9
+    NoElse
+    ∷ Return 9 None
     ∷ [])
     9
     ∷ [])
@@ -83,23 +85,24 @@ abbrev pub a_pinned_array_is_written_by_another_thread : SourceUnit
 a_pinned_array_is_written_by_another_thread =
     unit_of
     (native 1 Void (codes "Java_A_f") (reference_parameter JIntArray (codes "a") ∷ [])
-    (DeclareBuffer 2 JInt (codes "q") (FromCall (call (codes "GetPrimitiveArrayCritical") (given (codes "a") ∷ Value (Named Null) ∷ [])))
+    (Plain 2 (Declare (Pointer JInt) (codes "q") (FromCall (call (codes "GetPrimitiveArrayCritical") (given (codes "a") ∷ Value (Named Null) ∷ []))))
     ∷ If 3 (TestExpr (Binary NotEqual (Variable (codes "q")) (Named Null)))
     (block
-    (Declare 3 UInt32 (codes "s") (FromExpr (Binary Add (Prefix ToWord (Element (codes "q") (Number 0 false))) (Prefix ToWord (Element (codes "q") (Number 1 false)))))
-    ∷ Perform 3 (call (codes "ReleasePrimitiveArrayCritical") (given (codes "a") ∷ given (codes "q") ∷ Value (Number 0 false) ∷ []))
-    ∷ PutJint 3 (Prefix ToInt (Variable (codes "s")))
+    (Plain 3 (Declare (Simple UInt32) (codes "s") (FromExpr (Binary Add (Prefix ToWord (Element (codes "q") (Number 0 false))) (Prefix ToWord (Element (codes "q") (Number 1 false))))))
+    ∷ Plain 3 (Perform (call (codes "ReleasePrimitiveArrayCritical") (given (codes "a") ∷ given (codes "q") ∷ Value (Number 0 false) ∷ [])))
+    ∷ Plain 3 (PutJint (Prefix ToInt (Variable (codes "s"))))
     ∷ [])
     3)
-    ∷ Return 4
+    NoElse
+    ∷ Return 4 None
     ∷ [])
     4
     ∷ native 5 Void (codes "Java_A_g") (reference_parameter JIntArray (codes "a") ∷ [])
-    (DeclareArray 5 JInt (codes "b") 2
-    ∷ AssignElement 5 (codes "b") (Number 0 false) (Number 10 false)
-    ∷ AssignElement 5 (codes "b") (Number 1 false) (Number 20 false)
-    ∷ Perform 5 (call (codes "SetIntArrayRegion") (given (codes "a") ∷ Value (Number 0 false) ∷ Value (Number 2 false) ∷ given (codes "b") ∷ []))
-    ∷ Return 5
+    (Plain 5 (DeclareArray JInt (codes "b") 2)
+    ∷ Plain 5 (AssignElement (codes "b") (Number 0 false) (Number 10 false))
+    ∷ Plain 5 (AssignElement (codes "b") (Number 1 false) (Number 20 false))
+    ∷ Plain 5 (Perform (call (codes "SetIntArrayRegion") (given (codes "a") ∷ Value (Number 0 false) ∷ Value (Number 2 false) ∷ given (codes "b") ∷ [])))
+    ∷ Return 5 None
     ∷ [])
     5
     ∷ [])
@@ -138,20 +141,21 @@ abbrev pub a_collection_beside_a_pinned_array : SourceUnit
 a_collection_beside_a_pinned_array =
     unit_of
     (native 1 Void (codes "Java_A_f") (reference_parameter JIntArray (codes "a") ∷ [])
-    (DeclareBuffer 2 JInt (codes "q") (FromCall (call (codes "GetPrimitiveArrayCritical") (given (codes "a") ∷ Value (Named Null) ∷ [])))
+    (Plain 2 (Declare (Pointer JInt) (codes "q") (FromCall (call (codes "GetPrimitiveArrayCritical") (given (codes "a") ∷ Value (Named Null) ∷ []))))
     ∷ If 3 (TestExpr (Binary NotEqual (Variable (codes "q")) (Named Null)))
     (block
-    (Declare 3 UInt32 (codes "s") (FromExpr (Binary Add (Prefix ToWord (Element (codes "q") (Number 0 false))) (Prefix ToWord (Element (codes "q") (Number 1 false)))))
-    ∷ Perform 3 (call (codes "ReleasePrimitiveArrayCritical") (given (codes "a") ∷ given (codes "q") ∷ Value (Number 0 false) ∷ []))
-    ∷ PutJint 3 (Prefix ToInt (Variable (codes "s")))
+    (Plain 3 (Declare (Simple UInt32) (codes "s") (FromExpr (Binary Add (Prefix ToWord (Element (codes "q") (Number 0 false))) (Prefix ToWord (Element (codes "q") (Number 1 false))))))
+    ∷ Plain 3 (Perform (call (codes "ReleasePrimitiveArrayCritical") (given (codes "a") ∷ given (codes "q") ∷ Value (Number 0 false) ∷ [])))
+    ∷ Plain 3 (PutJint (Prefix ToInt (Variable (codes "s"))))
     ∷ [])
     3)
-    ∷ Return 4
+    NoElse
+    ∷ Return 4 None
     ∷ [])
     4
     ∷ native 5 Void (codes "Java_A_g") (reference_parameter JIntArray (codes "a") ∷ [])
-    (Declare 5 (ReferenceVariable JIntArray) (codes "b") (FromCall (call (codes "NewIntArray") (Value (Number 2 false) ∷ [])))
-    ∷ Return 5
+    (Plain 5 (Declare (Simple (ReferenceVariable JIntArray)) (codes "b") (FromCall (call (codes "NewIntArray") (Value (Number 2 false) ∷ []))))
+    ∷ Return 5 None
     ∷ [])
     5
     ∷ [])

@@ -3,11 +3,12 @@ use Rattle.std.specs.Prelude.{◌∷◌, pos, true, false, [], Some, None, codes
 use Rattle.base.specs.declared.element.ElementType.TheVariants.{Int as JInt, Byte as JByte, Char as JChar}
 use Rattle.syntax.specs.declared.declared_type.ReferenceType.TheVariants.{String as JString, IntArray as JIntArray, ByteArray as JByteArray, CharArray as JCharArray}
 use Rattle.syntax.specs.declared.declared_type.VariableType.TheVariants.{Jint as JIntVariable, Jboolean as JBoolean}
+use Rattle.syntax.specs.declared.declared_type.DeclaredType.TheVariants.{Simple, Pointer, ConstChars}
 use Rattle.syntax.specs.declared.unit.ResultType.TheVariants.{Void}
 use Rattle.syntax.specs.declared.expr.Constant.TheVariants.{False, Commit, Abort, Null}
 use Rattle.syntax.specs.declared.expr.PrefixOp.TheVariants.{Complement, ToInt}
 use Rattle.syntax.specs.declared.expr.BinaryOp.TheVariants.{NotEqual}
-use Rattle.syntax.specs.Tree.{Number, Named, Variable, Element, Prefix, Binary, Value, AddressOf, FromExpr, FromCall, TestExpr, Declare, DeclareBuffer, DeclareChars, DeclareArray, AssignElement, Perform, PutJint, If, Return, SourceUnit}
+use Rattle.syntax.specs.Tree.{Number, Named, Variable, Element, Prefix, Binary, Value, AddressOf, FromExpr, FromCall, TestExpr, Declare, DeclareArray, AssignElement, Perform, PutJint, Plain, If, NoElse, Return, SourceUnit}
 use Rattle.semantics.specs.declared.schedule.ScheduleWord.TheVariants.{Turn}
 use Rattle.semantics.specs.World.{World}
 use Rattle.world_values.specs.WorldLines.{NumberValue, NamedObject, ClassLine, ArrayLine, StringLine, ThreadLine, Lines}
@@ -39,23 +40,24 @@ abbrev pub a_copy_that_is_committed_twice_overwrites_twice_and_is_the_same_copy_
 a_copy_that_is_committed_twice_overwrites_twice_and_is_the_same_copy_then =
     unit_of
     (native 1 Void (codes "Java_A_f") (reference_parameter JIntArray (codes "a") ∷ [])
-    (DeclareArray 2 JInt (codes "x") 2
-    ∷ AssignElement 3 (codes "x") (Number 0 false) (Number 7 false)
-    ∷ AssignElement 4 (codes "x") (Number 1 false) (Number 8 false)
-    ∷ DeclareBuffer 5 JInt (codes "p") (FromCall (call (codes "GetIntArrayElements") (given (codes "a") ∷ Value (Named Null) ∷ [])))
+    (Plain 2 (DeclareArray JInt (codes "x") 2)
+    ∷ Plain 3 (AssignElement (codes "x") (Number 0 false) (Number 7 false))
+    ∷ Plain 4 (AssignElement (codes "x") (Number 1 false) (Number 8 false))
+    ∷ Plain 5 (Declare (Pointer JInt) (codes "p") (FromCall (call (codes "GetIntArrayElements") (given (codes "a") ∷ Value (Named Null) ∷ []))))
     ∷ If 6 (TestExpr (Binary NotEqual (Variable (codes "p")) (Named Null)))
     (block
-    (Perform 7 (call (codes "SetIntArrayRegion") (given (codes "a") ∷ Value (Number 0 false) ∷ Value (Number 2 false) ∷ given (codes "x") ∷ []))
-    ∷ PutJint 8 (Element (codes "p") (Number 0 false))
-    ∷ AssignElement 9 (codes "p") (Number 1 false) (Number 5 false)
-    ∷ Perform 10 (call (codes "ReleaseIntArrayElements") (given (codes "a") ∷ given (codes "p") ∷ Value (Named Commit) ∷ []))
-    ∷ Perform 11 (call (codes "SetIntArrayRegion") (given (codes "a") ∷ Value (Number 0 false) ∷ Value (Number 2 false) ∷ given (codes "x") ∷ []))
-    ∷ PutJint 12 (Element (codes "p") (Number 1 false))
-    ∷ Perform 13 (call (codes "ReleaseIntArrayElements") (given (codes "a") ∷ given (codes "p") ∷ Value (Named Commit) ∷ []))
-    ∷ Perform 14 (call (codes "ReleaseIntArrayElements") (given (codes "a") ∷ given (codes "p") ∷ Value (Named Abort) ∷ []))
+    (Plain 7 (Perform (call (codes "SetIntArrayRegion") (given (codes "a") ∷ Value (Number 0 false) ∷ Value (Number 2 false) ∷ given (codes "x") ∷ [])))
+    ∷ Plain 8 (PutJint (Element (codes "p") (Number 0 false)))
+    ∷ Plain 9 (AssignElement (codes "p") (Number 1 false) (Number 5 false))
+    ∷ Plain 10 (Perform (call (codes "ReleaseIntArrayElements") (given (codes "a") ∷ given (codes "p") ∷ Value (Named Commit) ∷ [])))
+    ∷ Plain 11 (Perform (call (codes "SetIntArrayRegion") (given (codes "a") ∷ Value (Number 0 false) ∷ Value (Number 2 false) ∷ given (codes "x") ∷ [])))
+    ∷ Plain 12 (PutJint (Element (codes "p") (Number 1 false)))
+    ∷ Plain 13 (Perform (call (codes "ReleaseIntArrayElements") (given (codes "a") ∷ given (codes "p") ∷ Value (Named Commit) ∷ [])))
+    ∷ Plain 14 (Perform (call (codes "ReleaseIntArrayElements") (given (codes "a") ∷ given (codes "p") ∷ Value (Named Abort) ∷ [])))
     ∷ [])
     15)
-    ∷ Return 16
+    NoElse
+    ∷ Return 16 None
     ∷ [])
     17
     ∷ [])
@@ -102,22 +104,24 @@ abbrev pub of_two_copies_the_one_that_is_released_later_stays : SourceUnit
 of_two_copies_the_one_that_is_released_later_stays =
     unit_of
     (native 1 Void (codes "Java_A_f") (reference_parameter JIntArray (codes "a") ∷ [])
-    (DeclareBuffer 2 JInt (codes "p") (FromCall (call (codes "GetIntArrayElements") (given (codes "a") ∷ Value (Named Null) ∷ [])))
+    (Plain 2 (Declare (Pointer JInt) (codes "p") (FromCall (call (codes "GetIntArrayElements") (given (codes "a") ∷ Value (Named Null) ∷ []))))
     ∷ If 3 (TestExpr (Binary NotEqual (Variable (codes "p")) (Named Null)))
     (block
-    (DeclareBuffer 4 JInt (codes "q") (FromCall (call (codes "GetIntArrayElements") (given (codes "a") ∷ Value (Named Null) ∷ [])))
+    (Plain 4 (Declare (Pointer JInt) (codes "q") (FromCall (call (codes "GetIntArrayElements") (given (codes "a") ∷ Value (Named Null) ∷ []))))
     ∷ If 5 (TestExpr (Binary NotEqual (Variable (codes "q")) (Named Null)))
     (block
-    (AssignElement 6 (codes "p") (Number 0 false) (Number 3 false)
-    ∷ AssignElement 7 (codes "q") (Number 0 false) (Number 4 false)
-    ∷ AssignElement 8 (codes "q") (Number 1 false) (Number 5 false)
-    ∷ Perform 9 (call (codes "ReleaseIntArrayElements") (given (codes "a") ∷ given (codes "q") ∷ Value (Number 0 false) ∷ []))
+    (Plain 6 (AssignElement (codes "p") (Number 0 false) (Number 3 false))
+    ∷ Plain 7 (AssignElement (codes "q") (Number 0 false) (Number 4 false))
+    ∷ Plain 8 (AssignElement (codes "q") (Number 1 false) (Number 5 false))
+    ∷ Plain 9 (Perform (call (codes "ReleaseIntArrayElements") (given (codes "a") ∷ given (codes "q") ∷ Value (Number 0 false) ∷ [])))
     ∷ [])
     10)
-    ∷ Perform 11 (call (codes "ReleaseIntArrayElements") (given (codes "a") ∷ given (codes "p") ∷ Value (Number 0 false) ∷ []))
+    NoElse
+    ∷ Plain 11 (Perform (call (codes "ReleaseIntArrayElements") (given (codes "a") ∷ given (codes "p") ∷ Value (Number 0 false) ∷ [])))
     ∷ [])
     12)
-    ∷ Return 13
+    NoElse
+    ∷ Return 13 None
     ∷ [])
     14
     ∷ [])
@@ -146,16 +150,17 @@ abbrev pub a_copy_of_an_array_without_elements_is_a_copy_and_has_none : SourceUn
 a_copy_of_an_array_without_elements_is_a_copy_and_has_none =
     unit_of
     (native 1 Void (codes "Java_A_f") (reference_parameter JIntArray (codes "a") ∷ [])
-    (Declare 2 JBoolean (codes "c") (FromExpr (Named False))
-    ∷ DeclareBuffer 3 JInt (codes "p") (FromCall (call (codes "GetIntArrayElements") (given (codes "a") ∷ AddressOf (codes "c") ∷ [])))
+    (Plain 2 (Declare (Simple JBoolean) (codes "c") (FromExpr (Named False)))
+    ∷ Plain 3 (Declare (Pointer JInt) (codes "p") (FromCall (call (codes "GetIntArrayElements") (given (codes "a") ∷ AddressOf (codes "c") ∷ []))))
     ∷ If 4 (TestExpr (Binary NotEqual (Variable (codes "p")) (Named Null)))
     (block
-    (PutJint 5 (Prefix ToInt (Variable (codes "c")))
-    ∷ PutJint 6 (Element (codes "p") (Number 0 false))
-    ∷ Perform 7 (call (codes "ReleaseIntArrayElements") (given (codes "a") ∷ given (codes "p") ∷ Value (Number 0 false) ∷ []))
+    (Plain 5 (PutJint (Prefix ToInt (Variable (codes "c"))))
+    ∷ Plain 6 (PutJint (Element (codes "p") (Number 0 false)))
+    ∷ Plain 7 (Perform (call (codes "ReleaseIntArrayElements") (given (codes "a") ∷ given (codes "p") ∷ Value (Number 0 false) ∷ [])))
     ∷ [])
     8)
-    ∷ Return 9
+    NoElse
+    ∷ Return 9 None
     ∷ [])
     10
     ∷ [])
@@ -197,15 +202,16 @@ abbrev pub an_element_before_a_view : SourceUnit
 an_element_before_a_view =
     unit_of
     (native 1 Void (codes "Java_A_f") (reference_parameter JIntArray (codes "a") ∷ [])
-    (DeclareBuffer 2 JInt (codes "q") (FromCall (call (codes "GetPrimitiveArrayCritical") (given (codes "a") ∷ Value (Named Null) ∷ [])))
+    (Plain 2 (Declare (Pointer JInt) (codes "q") (FromCall (call (codes "GetPrimitiveArrayCritical") (given (codes "a") ∷ Value (Named Null) ∷ []))))
     ∷ If 3 (TestExpr (Binary NotEqual (Variable (codes "q")) (Named Null)))
     (block
-    (Declare 4 JIntVariable (codes "n") (FromExpr (Element (codes "q") (Prefix ToInt (Prefix Complement (Number 0 true)))))
-    ∷ Perform 5 (call (codes "ReleasePrimitiveArrayCritical") (given (codes "a") ∷ given (codes "q") ∷ Value (Number 0 false) ∷ []))
-    ∷ PutJint 6 (Variable (codes "n"))
+    (Plain 4 (Declare (Simple JIntVariable) (codes "n") (FromExpr (Element (codes "q") (Prefix ToInt (Prefix Complement (Number 0 true))))))
+    ∷ Plain 5 (Perform (call (codes "ReleasePrimitiveArrayCritical") (given (codes "a") ∷ given (codes "q") ∷ Value (Number 0 false) ∷ [])))
+    ∷ Plain 6 (PutJint (Variable (codes "n")))
     ∷ [])
     7)
-    ∷ Return 8
+    NoElse
+    ∷ Return 8 None
     ∷ [])
     9
     ∷ [])
@@ -233,15 +239,16 @@ abbrev pub a_character_past_the_end_of_a_view : SourceUnit
 a_character_past_the_end_of_a_view =
     unit_of
     (native 1 Void (codes "Java_A_f") (reference_parameter JString (codes "s") ∷ [])
-    (DeclareChars 2 (codes "q") (FromCall (call (codes "GetStringCritical") (given (codes "s") ∷ Value (Named Null) ∷ [])))
+    (Plain 2 (Declare ConstChars (codes "q") (FromCall (call (codes "GetStringCritical") (given (codes "s") ∷ Value (Named Null) ∷ []))))
     ∷ If 3 (TestExpr (Binary NotEqual (Variable (codes "q")) (Named Null)))
     (block
-    (Declare 4 JIntVariable (codes "n") (FromExpr (Element (codes "q") (Number 2 false)))
-    ∷ Perform 5 (call (codes "ReleaseStringCritical") (given (codes "s") ∷ given (codes "q") ∷ []))
-    ∷ PutJint 6 (Variable (codes "n"))
+    (Plain 4 (Declare (Simple JIntVariable) (codes "n") (FromExpr (Element (codes "q") (Number 2 false))))
+    ∷ Plain 5 (Perform (call (codes "ReleaseStringCritical") (given (codes "s") ∷ given (codes "q") ∷ [])))
+    ∷ Plain 6 (PutJint (Variable (codes "n")))
     ∷ [])
     7)
-    ∷ Return 8
+    NoElse
+    ∷ Return 8 None
     ∷ [])
     9
     ∷ [])
@@ -287,21 +294,23 @@ abbrev pub a_view_of_an_array_and_one_of_a_string_both_at_once : SourceUnit
 a_view_of_an_array_and_one_of_a_string_both_at_once =
     unit_of
     (native 1 Void (codes "Java_A_f") (reference_parameter JIntArray (codes "a") ∷ reference_parameter JString (codes "s") ∷ [])
-    (DeclareBuffer 2 JInt (codes "p") (FromCall (call (codes "GetPrimitiveArrayCritical") (given (codes "a") ∷ Value (Named Null) ∷ [])))
+    (Plain 2 (Declare (Pointer JInt) (codes "p") (FromCall (call (codes "GetPrimitiveArrayCritical") (given (codes "a") ∷ Value (Named Null) ∷ []))))
     ∷ If 3 (TestExpr (Binary NotEqual (Variable (codes "p")) (Named Null)))
     (block
-    (DeclareChars 4 (codes "q") (FromCall (call (codes "GetStringCritical") (given (codes "s") ∷ Value (Named Null) ∷ [])))
+    (Plain 4 (Declare ConstChars (codes "q") (FromCall (call (codes "GetStringCritical") (given (codes "s") ∷ Value (Named Null) ∷ []))))
     ∷ If 5 (TestExpr (Binary NotEqual (Variable (codes "q")) (Named Null)))
     (block
-    (AssignElement 6 (codes "p") (Number 0 false) (Element (codes "q") (Number 1 false))
-    ∷ Perform 7 (call (codes "ReleaseStringCritical") (given (codes "s") ∷ given (codes "q") ∷ []))
+    (Plain 6 (AssignElement (codes "p") (Number 0 false) (Element (codes "q") (Number 1 false)))
+    ∷ Plain 7 (Perform (call (codes "ReleaseStringCritical") (given (codes "s") ∷ given (codes "q") ∷ [])))
     ∷ [])
     8)
-    ∷ AssignElement 9 (codes "p") (Number 1 false) (Element (codes "p") (Number 0 false))
-    ∷ Perform 10 (call (codes "ReleasePrimitiveArrayCritical") (given (codes "a") ∷ given (codes "p") ∷ Value (Number 0 false) ∷ []))
+    NoElse
+    ∷ Plain 9 (AssignElement (codes "p") (Number 1 false) (Element (codes "p") (Number 0 false)))
+    ∷ Plain 10 (Perform (call (codes "ReleasePrimitiveArrayCritical") (given (codes "a") ∷ given (codes "p") ∷ Value (Number 0 false) ∷ [])))
     ∷ [])
     11)
-    ∷ Return 12
+    NoElse
+    ∷ Return 12 None
     ∷ [])
     13
     ∷ [])
@@ -348,21 +357,23 @@ abbrev pub two_views_of_one_array_show_the_same_elements : SourceUnit
 two_views_of_one_array_show_the_same_elements =
     unit_of
     (native 1 Void (codes "Java_A_f") (reference_parameter JIntArray (codes "a") ∷ [])
-    (DeclareBuffer 2 JInt (codes "p") (FromCall (call (codes "GetPrimitiveArrayCritical") (given (codes "a") ∷ Value (Named Null) ∷ [])))
+    (Plain 2 (Declare (Pointer JInt) (codes "p") (FromCall (call (codes "GetPrimitiveArrayCritical") (given (codes "a") ∷ Value (Named Null) ∷ []))))
     ∷ If 3 (TestExpr (Binary NotEqual (Variable (codes "p")) (Named Null)))
     (block
-    (DeclareBuffer 4 JInt (codes "q") (FromCall (call (codes "GetPrimitiveArrayCritical") (given (codes "a") ∷ Value (Named Null) ∷ [])))
+    (Plain 4 (Declare (Pointer JInt) (codes "q") (FromCall (call (codes "GetPrimitiveArrayCritical") (given (codes "a") ∷ Value (Named Null) ∷ []))))
     ∷ If 5 (TestExpr (Binary NotEqual (Variable (codes "q")) (Named Null)))
     (block
-    (AssignElement 6 (codes "p") (Number 0 false) (Number 6 false)
-    ∷ AssignElement 7 (codes "q") (Number 1 false) (Element (codes "q") (Number 0 false))
-    ∷ Perform 8 (call (codes "ReleasePrimitiveArrayCritical") (given (codes "a") ∷ given (codes "q") ∷ Value (Named Abort) ∷ []))
+    (Plain 6 (AssignElement (codes "p") (Number 0 false) (Number 6 false))
+    ∷ Plain 7 (AssignElement (codes "q") (Number 1 false) (Element (codes "q") (Number 0 false)))
+    ∷ Plain 8 (Perform (call (codes "ReleasePrimitiveArrayCritical") (given (codes "a") ∷ given (codes "q") ∷ Value (Named Abort) ∷ [])))
     ∷ [])
     9)
-    ∷ Perform 10 (call (codes "ReleasePrimitiveArrayCritical") (given (codes "a") ∷ given (codes "p") ∷ Value (Named Abort) ∷ []))
+    NoElse
+    ∷ Plain 10 (Perform (call (codes "ReleasePrimitiveArrayCritical") (given (codes "a") ∷ given (codes "p") ∷ Value (Named Abort) ∷ [])))
     ∷ [])
     11)
-    ∷ Return 12
+    NoElse
+    ∷ Return 12 None
     ∷ [])
     13
     ∷ [])
@@ -394,21 +405,23 @@ abbrev pub what_is_written_to_a_view_is_converted_to_the_type_of_its_elements : 
 what_is_written_to_a_view_is_converted_to_the_type_of_its_elements =
     unit_of
     (native 1 Void (codes "Java_A_f") (reference_parameter JCharArray (codes "c") ∷ reference_parameter JByteArray (codes "b") ∷ [])
-    (DeclareBuffer 2 JChar (codes "p") (FromCall (call (codes "GetPrimitiveArrayCritical") (given (codes "c") ∷ Value (Named Null) ∷ [])))
+    (Plain 2 (Declare (Pointer JChar) (codes "p") (FromCall (call (codes "GetPrimitiveArrayCritical") (given (codes "c") ∷ Value (Named Null) ∷ []))))
     ∷ If 3 (TestExpr (Binary NotEqual (Variable (codes "p")) (Named Null)))
     (block
-    (AssignElement 4 (codes "p") (Number 1 false) (Prefix ToInt (Prefix Complement (Number 0 true)))
-    ∷ Perform 5 (call (codes "ReleasePrimitiveArrayCritical") (given (codes "c") ∷ given (codes "p") ∷ Value (Number 0 false) ∷ []))
+    (Plain 4 (AssignElement (codes "p") (Number 1 false) (Prefix ToInt (Prefix Complement (Number 0 true))))
+    ∷ Plain 5 (Perform (call (codes "ReleasePrimitiveArrayCritical") (given (codes "c") ∷ given (codes "p") ∷ Value (Number 0 false) ∷ [])))
     ∷ [])
     6)
-    ∷ DeclareBuffer 7 JByte (codes "q") (FromCall (call (codes "GetPrimitiveArrayCritical") (given (codes "b") ∷ Value (Named Null) ∷ [])))
+    NoElse
+    ∷ Plain 7 (Declare (Pointer JByte) (codes "q") (FromCall (call (codes "GetPrimitiveArrayCritical") (given (codes "b") ∷ Value (Named Null) ∷ []))))
     ∷ If 8 (TestExpr (Binary NotEqual (Variable (codes "q")) (Named Null)))
     (block
-    (AssignElement 9 (codes "q") (Number 0 false) (Number 300 false)
-    ∷ Perform 10 (call (codes "ReleasePrimitiveArrayCritical") (given (codes "b") ∷ given (codes "q") ∷ Value (Number 0 false) ∷ []))
+    (Plain 9 (AssignElement (codes "q") (Number 0 false) (Number 300 false))
+    ∷ Plain 10 (Perform (call (codes "ReleasePrimitiveArrayCritical") (given (codes "b") ∷ given (codes "q") ∷ Value (Number 0 false) ∷ [])))
     ∷ [])
     11)
-    ∷ Return 12
+    NoElse
+    ∷ Return 12 None
     ∷ [])
     13
     ∷ [])
@@ -452,16 +465,17 @@ abbrev pub characters_are_released_while_an_exception_is_pending : SourceUnit
 characters_are_released_while_an_exception_is_pending =
     unit_of
     (native 1 Void (codes "Java_A_f") (reference_parameter JString (codes "s") ∷ [])
-    (DeclareArray 2 JChar (codes "x") 1
-    ∷ DeclareChars 3 (codes "p") (FromCall (call (codes "GetStringChars") (given (codes "s") ∷ Value (Named Null) ∷ [])))
+    (Plain 2 (DeclareArray JChar (codes "x") 1)
+    ∷ Plain 3 (Declare ConstChars (codes "p") (FromCall (call (codes "GetStringChars") (given (codes "s") ∷ Value (Named Null) ∷ []))))
     ∷ If 4 (TestExpr (Binary NotEqual (Variable (codes "p")) (Named Null)))
     (block
-    (Perform 5 (call (codes "GetStringRegion") (given (codes "s") ∷ Value (Number 2 false) ∷ Value (Number 1 false) ∷ given (codes "x") ∷ []))
-    ∷ PutJint 6 (Element (codes "p") (Number 0 false))
-    ∷ Perform 7 (call (codes "ReleaseStringChars") (given (codes "s") ∷ given (codes "p") ∷ []))
+    (Plain 5 (Perform (call (codes "GetStringRegion") (given (codes "s") ∷ Value (Number 2 false) ∷ Value (Number 1 false) ∷ given (codes "x") ∷ [])))
+    ∷ Plain 6 (PutJint (Element (codes "p") (Number 0 false)))
+    ∷ Plain 7 (Perform (call (codes "ReleaseStringChars") (given (codes "s") ∷ given (codes "p") ∷ [])))
     ∷ [])
     8)
-    ∷ Return 9
+    NoElse
+    ∷ Return 9 None
     ∷ [])
     10
     ∷ [])

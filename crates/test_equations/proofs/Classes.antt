@@ -2,11 +2,12 @@
 use Rattle.std.specs.Prelude.{◌∷◌, false, [], Some, None, codes, refl}
 use Rattle.syntax.specs.declared.declared_type.ReferenceType.TheVariants.{Object as JObject, Class as JClass}
 use Rattle.syntax.specs.declared.declared_type.VariableType.TheVariants.{Jboolean as JBoolean, Reference as ReferenceVariable}
+use Rattle.syntax.specs.declared.declared_type.DeclaredType.TheVariants.{Simple}
 use Rattle.syntax.specs.declared.unit.ResultType.TheVariants.{Void}
 use Rattle.syntax.specs.declared.expr.Constant.TheVariants.{Null}
 use Rattle.syntax.specs.declared.expr.PrefixOp.TheVariants.{ToInt}
 use Rattle.syntax.specs.declared.expr.BinaryOp.TheVariants.{Equal}
-use Rattle.syntax.specs.Tree.{Number, Named, Variable, Prefix, Binary, Value, Text, FromCall, TestExpr, Declare, PutJint, If, Return, SourceUnit}
+use Rattle.syntax.specs.Tree.{Number, Named, Variable, Prefix, Binary, Value, Text, FromCall, TestExpr, Declare, PutJint, Plain, If, NoElse, Return, SourceUnit}
 use Rattle.semantics.specs.declared.schedule.ScheduleWord.TheVariants.{Turn}
 use Rattle.semantics.specs.World.{World}
 use Rattle.world_values.specs.WorldLines.{NamedObject, NamedClass, ClassLine, ObjectLine, ThreadLine, Lines}
@@ -38,21 +39,21 @@ abbrev pub classes_and_their_superclasses : SourceUnit
 classes_and_their_superclasses =
     unit_of
     (native 1 Void (codes "Java_A_f") []
-    (Declare 2 (ReferenceVariable JClass) (codes "b") (FromCall (call (codes "FindClass") (Text (codes "B") ∷ [])))
-    ∷ Declare 3 (ReferenceVariable JClass) (codes "a") (FromCall (call (codes "GetSuperclass") (given (codes "b") ∷ [])))
-    ∷ Declare 4 (ReferenceVariable JClass) (codes "object") (FromCall (call (codes "GetSuperclass") (given (codes "a") ∷ [])))
-    ∷ Declare 5 (ReferenceVariable JClass) (codes "none") (FromCall (call (codes "GetSuperclass") (given (codes "object") ∷ [])))
-    ∷ Declare 6 (ReferenceVariable JClass) (codes "ints") (FromCall (call (codes "FindClass") (Text (codes "[I") ∷ [])))
-    ∷ Declare 7 (ReferenceVariable JClass) (codes "above") (FromCall (call (codes "GetSuperclass") (given (codes "ints") ∷ [])))
-    ∷ Declare 8 JBoolean (codes "x") (FromCall (call (codes "IsSameObject") (given (codes "a") ∷ given (codes "cls") ∷ [])))
-    ∷ Declare 9 JBoolean (codes "y") (FromCall (call (codes "IsSameObject") (given (codes "above") ∷ given (codes "object") ∷ [])))
-    ∷ Declare 10 JBoolean (codes "z") (FromCall (call (codes "IsSameObject") (given (codes "none") ∷ Value (Named Null) ∷ [])))
-    ∷ Declare 11 JBoolean (codes "w") (FromCall (call (codes "IsSameObject") (given (codes "a") ∷ given (codes "b") ∷ [])))
-    ∷ PutJint 12 (Prefix ToInt (Variable (codes "x")))
-    ∷ PutJint 13 (Prefix ToInt (Variable (codes "y")))
-    ∷ PutJint 14 (Prefix ToInt (Variable (codes "z")))
-    ∷ PutJint 15 (Prefix ToInt (Variable (codes "w")))
-    ∷ Return 16
+    (Plain 2 (Declare (Simple (ReferenceVariable JClass)) (codes "b") (FromCall (call (codes "FindClass") (Text (codes "B") ∷ []))))
+    ∷ Plain 3 (Declare (Simple (ReferenceVariable JClass)) (codes "a") (FromCall (call (codes "GetSuperclass") (given (codes "b") ∷ []))))
+    ∷ Plain 4 (Declare (Simple (ReferenceVariable JClass)) (codes "object") (FromCall (call (codes "GetSuperclass") (given (codes "a") ∷ []))))
+    ∷ Plain 5 (Declare (Simple (ReferenceVariable JClass)) (codes "none") (FromCall (call (codes "GetSuperclass") (given (codes "object") ∷ []))))
+    ∷ Plain 6 (Declare (Simple (ReferenceVariable JClass)) (codes "ints") (FromCall (call (codes "FindClass") (Text (codes "[I") ∷ []))))
+    ∷ Plain 7 (Declare (Simple (ReferenceVariable JClass)) (codes "above") (FromCall (call (codes "GetSuperclass") (given (codes "ints") ∷ []))))
+    ∷ Plain 8 (Declare (Simple JBoolean) (codes "x") (FromCall (call (codes "IsSameObject") (given (codes "a") ∷ given (codes "cls") ∷ []))))
+    ∷ Plain 9 (Declare (Simple JBoolean) (codes "y") (FromCall (call (codes "IsSameObject") (given (codes "above") ∷ given (codes "object") ∷ []))))
+    ∷ Plain 10 (Declare (Simple JBoolean) (codes "z") (FromCall (call (codes "IsSameObject") (given (codes "none") ∷ Value (Named Null) ∷ []))))
+    ∷ Plain 11 (Declare (Simple JBoolean) (codes "w") (FromCall (call (codes "IsSameObject") (given (codes "a") ∷ given (codes "b") ∷ []))))
+    ∷ Plain 12 (PutJint (Prefix ToInt (Variable (codes "x"))))
+    ∷ Plain 13 (PutJint (Prefix ToInt (Variable (codes "y"))))
+    ∷ Plain 14 (PutJint (Prefix ToInt (Variable (codes "z"))))
+    ∷ Plain 15 (PutJint (Prefix ToInt (Variable (codes "w"))))
+    ∷ Return 16 None
     ∷ [])
     17
     ∷ [])
@@ -102,21 +103,21 @@ abbrev pub which_class_is_assignable_to_which : SourceUnit
 which_class_is_assignable_to_which =
     unit_of
     (native 1 Void (codes "Java_A_f") (reference_parameter JClass (codes "b") ∷ [])
-    (Declare 2 (ReferenceVariable JClass) (codes "as") (FromCall (call (codes "FindClass") (Text (codes "[LA;") ∷ [])))
-    ∷ Declare 3 (ReferenceVariable JClass) (codes "bs") (FromCall (call (codes "FindClass") (Text (codes "[LB;") ∷ [])))
-    ∷ Declare 4 (ReferenceVariable JClass) (codes "object") (FromCall (call (codes "FindClass") (Text (codes "java/lang/Object") ∷ [])))
-    ∷ Declare 5 (ReferenceVariable JClass) (codes "ints") (FromCall (call (codes "FindClass") (Text (codes "[I") ∷ [])))
-    ∷ Declare 6 JBoolean (codes "p") (FromCall (call (codes "IsAssignableFrom") (given (codes "b") ∷ given (codes "cls") ∷ [])))
-    ∷ Declare 7 JBoolean (codes "q") (FromCall (call (codes "IsAssignableFrom") (given (codes "cls") ∷ given (codes "b") ∷ [])))
-    ∷ Declare 8 JBoolean (codes "r") (FromCall (call (codes "IsAssignableFrom") (given (codes "bs") ∷ given (codes "as") ∷ [])))
-    ∷ Declare 9 JBoolean (codes "s") (FromCall (call (codes "IsAssignableFrom") (given (codes "as") ∷ given (codes "bs") ∷ [])))
-    ∷ Declare 10 JBoolean (codes "t") (FromCall (call (codes "IsAssignableFrom") (given (codes "ints") ∷ given (codes "object") ∷ [])))
-    ∷ PutJint 11 (Prefix ToInt (Variable (codes "p")))
-    ∷ PutJint 12 (Prefix ToInt (Variable (codes "q")))
-    ∷ PutJint 13 (Prefix ToInt (Variable (codes "r")))
-    ∷ PutJint 14 (Prefix ToInt (Variable (codes "s")))
-    ∷ PutJint 15 (Prefix ToInt (Variable (codes "t")))
-    ∷ Return 16
+    (Plain 2 (Declare (Simple (ReferenceVariable JClass)) (codes "as") (FromCall (call (codes "FindClass") (Text (codes "[LA;") ∷ []))))
+    ∷ Plain 3 (Declare (Simple (ReferenceVariable JClass)) (codes "bs") (FromCall (call (codes "FindClass") (Text (codes "[LB;") ∷ []))))
+    ∷ Plain 4 (Declare (Simple (ReferenceVariable JClass)) (codes "object") (FromCall (call (codes "FindClass") (Text (codes "java/lang/Object") ∷ []))))
+    ∷ Plain 5 (Declare (Simple (ReferenceVariable JClass)) (codes "ints") (FromCall (call (codes "FindClass") (Text (codes "[I") ∷ []))))
+    ∷ Plain 6 (Declare (Simple JBoolean) (codes "p") (FromCall (call (codes "IsAssignableFrom") (given (codes "b") ∷ given (codes "cls") ∷ []))))
+    ∷ Plain 7 (Declare (Simple JBoolean) (codes "q") (FromCall (call (codes "IsAssignableFrom") (given (codes "cls") ∷ given (codes "b") ∷ []))))
+    ∷ Plain 8 (Declare (Simple JBoolean) (codes "r") (FromCall (call (codes "IsAssignableFrom") (given (codes "bs") ∷ given (codes "as") ∷ []))))
+    ∷ Plain 9 (Declare (Simple JBoolean) (codes "s") (FromCall (call (codes "IsAssignableFrom") (given (codes "as") ∷ given (codes "bs") ∷ []))))
+    ∷ Plain 10 (Declare (Simple JBoolean) (codes "t") (FromCall (call (codes "IsAssignableFrom") (given (codes "ints") ∷ given (codes "object") ∷ []))))
+    ∷ Plain 11 (PutJint (Prefix ToInt (Variable (codes "p"))))
+    ∷ Plain 12 (PutJint (Prefix ToInt (Variable (codes "q"))))
+    ∷ Plain 13 (PutJint (Prefix ToInt (Variable (codes "r"))))
+    ∷ Plain 14 (PutJint (Prefix ToInt (Variable (codes "s"))))
+    ∷ Plain 15 (PutJint (Prefix ToInt (Variable (codes "t"))))
+    ∷ Return 16 None
     ∷ [])
     17
     ∷ [])
@@ -161,16 +162,16 @@ abbrev pub which_object_is_an_instance_of_which_class : SourceUnit
 which_object_is_an_instance_of_which_class =
     unit_of
     (native 1 Void (codes "Java_A_f") (reference_parameter JObject (codes "o") ∷ reference_parameter JClass (codes "b") ∷ [])
-    (Declare 2 (ReferenceVariable JClass) (codes "c") (FromCall (call (codes "GetObjectClass") (given (codes "cls") ∷ [])))
-    ∷ Declare 3 JBoolean (codes "p") (FromCall (call (codes "IsInstanceOf") (given (codes "o") ∷ given (codes "cls") ∷ [])))
-    ∷ Declare 4 JBoolean (codes "q") (FromCall (call (codes "IsInstanceOf") (given (codes "o") ∷ given (codes "b") ∷ [])))
-    ∷ Declare 5 JBoolean (codes "r") (FromCall (call (codes "IsInstanceOf") (Value (Named Null) ∷ given (codes "b") ∷ [])))
-    ∷ Declare 6 JBoolean (codes "s") (FromCall (call (codes "IsInstanceOf") (given (codes "c") ∷ given (codes "c") ∷ [])))
-    ∷ PutJint 7 (Prefix ToInt (Variable (codes "p")))
-    ∷ PutJint 8 (Prefix ToInt (Variable (codes "q")))
-    ∷ PutJint 9 (Prefix ToInt (Variable (codes "r")))
-    ∷ PutJint 10 (Prefix ToInt (Variable (codes "s")))
-    ∷ Return 11
+    (Plain 2 (Declare (Simple (ReferenceVariable JClass)) (codes "c") (FromCall (call (codes "GetObjectClass") (given (codes "cls") ∷ []))))
+    ∷ Plain 3 (Declare (Simple JBoolean) (codes "p") (FromCall (call (codes "IsInstanceOf") (given (codes "o") ∷ given (codes "cls") ∷ []))))
+    ∷ Plain 4 (Declare (Simple JBoolean) (codes "q") (FromCall (call (codes "IsInstanceOf") (given (codes "o") ∷ given (codes "b") ∷ []))))
+    ∷ Plain 5 (Declare (Simple JBoolean) (codes "r") (FromCall (call (codes "IsInstanceOf") (Value (Named Null) ∷ given (codes "b") ∷ []))))
+    ∷ Plain 6 (Declare (Simple JBoolean) (codes "s") (FromCall (call (codes "IsInstanceOf") (given (codes "c") ∷ given (codes "c") ∷ []))))
+    ∷ Plain 7 (PutJint (Prefix ToInt (Variable (codes "p"))))
+    ∷ Plain 8 (PutJint (Prefix ToInt (Variable (codes "q"))))
+    ∷ Plain 9 (PutJint (Prefix ToInt (Variable (codes "r"))))
+    ∷ Plain 10 (PutJint (Prefix ToInt (Variable (codes "s"))))
+    ∷ Return 11 None
     ∷ [])
     12
     ∷ [])
@@ -209,13 +210,14 @@ abbrev pub a_class_that_is_not_there : SourceUnit
 a_class_that_is_not_there =
     unit_of
     (native 1 Void (codes "Java_A_f") []
-    (Declare 2 (ReferenceVariable JClass) (codes "c") (FromCall (call (codes "FindClass") (Text (codes "B") ∷ [])))
+    (Plain 2 (Declare (Simple (ReferenceVariable JClass)) (codes "c") (FromCall (call (codes "FindClass") (Text (codes "B") ∷ []))))
     ∷ If 3 (TestExpr (Binary Equal (Variable (codes "c")) (Named Null)))
     (block
-    (PutJint 3 (Number 1 false)
+    (Plain 3 (PutJint (Number 1 false))
     ∷ [])
     3)
-    ∷ Return 4
+    NoElse
+    ∷ Return 4 None
     ∷ [])
     5
     ∷ [])
@@ -251,8 +253,8 @@ abbrev pub an_object_that_is_no_class : SourceUnit
 an_object_that_is_no_class =
     unit_of
     (native 1 Void (codes "Java_A_f") (reference_parameter JObject (codes "o") ∷ [])
-    (Declare 2 (ReferenceVariable JObject) (codes "x") (FromCall (call (codes "AllocObject") (given (codes "o") ∷ [])))
-    ∷ Return 3
+    (Plain 2 (Declare (Simple (ReferenceVariable JObject)) (codes "x") (FromCall (call (codes "AllocObject") (given (codes "o") ∷ []))))
+    ∷ Return 3 None
     ∷ [])
     4
     ∷ [])
@@ -290,9 +292,9 @@ abbrev pub an_object_of_an_array_class : SourceUnit
 an_object_of_an_array_class =
     unit_of
     (native 1 Void (codes "Java_A_f") []
-    (Declare 2 (ReferenceVariable JClass) (codes "c") (FromCall (call (codes "FindClass") (Text (codes "[I") ∷ [])))
-    ∷ Declare 3 (ReferenceVariable JObject) (codes "x") (FromCall (call (codes "AllocObject") (given (codes "c") ∷ [])))
-    ∷ Return 4
+    (Plain 2 (Declare (Simple (ReferenceVariable JClass)) (codes "c") (FromCall (call (codes "FindClass") (Text (codes "[I") ∷ []))))
+    ∷ Plain 3 (Declare (Simple (ReferenceVariable JObject)) (codes "x") (FromCall (call (codes "AllocObject") (given (codes "c") ∷ []))))
+    ∷ Return 4 None
     ∷ [])
     5
     ∷ [])
@@ -316,9 +318,9 @@ abbrev pub a_string_is_not_made_so : SourceUnit
 a_string_is_not_made_so =
     unit_of
     (native 1 Void (codes "Java_A_f") []
-    (Declare 2 (ReferenceVariable JClass) (codes "c") (FromCall (call (codes "FindClass") (Text (codes "java/lang/String") ∷ [])))
-    ∷ Declare 3 (ReferenceVariable JObject) (codes "x") (FromCall (call (codes "AllocObject") (given (codes "c") ∷ [])))
-    ∷ Return 4
+    (Plain 2 (Declare (Simple (ReferenceVariable JClass)) (codes "c") (FromCall (call (codes "FindClass") (Text (codes "java/lang/String") ∷ []))))
+    ∷ Plain 3 (Declare (Simple (ReferenceVariable JObject)) (codes "x") (FromCall (call (codes "AllocObject") (given (codes "c") ∷ []))))
+    ∷ Return 4 None
     ∷ [])
     5
     ∷ [])
@@ -342,9 +344,9 @@ abbrev pub an_error_is_made_without_its_message : SourceUnit
 an_error_is_made_without_its_message =
     unit_of
     (native 1 Void (codes "Java_A_f") []
-    (Declare 2 (ReferenceVariable JClass) (codes "c") (FromCall (call (codes "FindClass") (Text (codes "java/lang/VirtualMachineError") ∷ [])))
-    ∷ Declare 3 (ReferenceVariable JObject) (codes "x") (FromCall (call (codes "AllocObject") (given (codes "c") ∷ [])))
-    ∷ Return 4
+    (Plain 2 (Declare (Simple (ReferenceVariable JClass)) (codes "c") (FromCall (call (codes "FindClass") (Text (codes "java/lang/VirtualMachineError") ∷ []))))
+    ∷ Plain 3 (Declare (Simple (ReferenceVariable JObject)) (codes "x") (FromCall (call (codes "AllocObject") (given (codes "c") ∷ []))))
+    ∷ Return 4 None
     ∷ [])
     5
     ∷ [])

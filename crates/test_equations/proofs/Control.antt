@@ -2,10 +2,11 @@
 use Rattle.std.specs.Prelude.{◌∷◌, true, false, [], Some, None, codes, refl}
 use Rattle.base.specs.declared.element.ElementType.TheVariants.{Byte as JByte}
 use Rattle.syntax.specs.declared.declared_type.VariableType.TheVariants.{Uint32 as UInt32}
+use Rattle.syntax.specs.declared.declared_type.DeclaredType.TheVariants.{Simple}
 use Rattle.syntax.specs.declared.unit.ResultType.TheVariants.{Void}
 use Rattle.syntax.specs.declared.expr.PrefixOp.TheVariants.{ToInt}
 use Rattle.syntax.specs.declared.expr.BinaryOp.TheVariants.{LogicalAnd, Equal, Less, Add, Divide}
-use Rattle.syntax.specs.Tree.{Number, Variable, Element, Prefix, Binary, FromExpr, TestExpr, Declare, DeclareArray, Assign, AssignElement, PutJint, If, While, Return, SourceUnit}
+use Rattle.syntax.specs.Tree.{Number, Variable, Element, Prefix, Binary, FromExpr, TestExpr, Declare, DeclareArray, Assign, AssignElement, PutJint, Plain, If, NoElse, While, Return, SourceUnit}
 use Rattle.semantics.specs.declared.schedule.ScheduleWord.TheVariants.{Turn}
 use Rattle.semantics.specs.World.{World}
 use Rattle.world_values.specs.WorldLines.{ClassLine, ThreadLine, Lines}
@@ -26,11 +27,12 @@ a_right_side_that_does_not_decide_is_left_alone =
     (native 1 Void (codes "Java_A_f") []
     (If 2 (TestExpr (Binary LogicalAnd (Binary Equal (Number 1 true) (Number 2 true)) (Binary Equal (Binary Divide (Number 1 true) (Number 0 true)) (Number 0 true))))
     (block
-    (PutJint 2 (Number 1 false)
+    (Plain 2 (PutJint (Number 1 false))
     ∷ [])
     2)
-    ∷ PutJint 3 (Number 2 false)
-    ∷ Return 4
+    NoElse
+    ∷ Plain 3 (PutJint (Number 2 false))
+    ∷ Return 4 None
     ∷ [])
     4
     ∷ [])
@@ -68,11 +70,12 @@ a_right_side_that_decides_is_worked_out =
     (native 1 Void (codes "Java_A_f") []
     (If 2 (TestExpr (Binary LogicalAnd (Binary Equal (Number 1 true) (Number 1 true)) (Binary Equal (Binary Divide (Number 1 true) (Number 0 true)) (Number 0 true))))
     (block
-    (PutJint 2 (Number 1 false)
+    (Plain 2 (PutJint (Number 1 false))
     ∷ [])
     2)
-    ∷ PutJint 3 (Number 2 false)
-    ∷ Return 4
+    NoElse
+    ∷ Plain 3 (PutJint (Number 2 false))
+    ∷ Return 4 None
     ∷ [])
     4
     ∷ [])
@@ -116,14 +119,14 @@ abbrev pub a_loop : SourceUnit
 a_loop =
     unit_of
     (native 1 Void (codes "Java_A_f") []
-    (Declare 2 UInt32 (codes "i") (FromExpr (Number 0 true))
+    (Plain 2 (Declare (Simple UInt32) (codes "i") (FromExpr (Number 0 true)))
     ∷ While 3 (Binary Less (Variable (codes "i")) (Number 3 true))
     (block
-    (Assign 3 (codes "i") (FromExpr (Binary Add (Variable (codes "i")) (Number 1 true)))
+    (Plain 3 (Assign (codes "i") (FromExpr (Binary Add (Variable (codes "i")) (Number 1 true))))
     ∷ [])
     3)
-    ∷ PutJint 4 (Prefix ToInt (Variable (codes "i")))
-    ∷ Return 5
+    ∷ Plain 4 (PutJint (Prefix ToInt (Variable (codes "i"))))
+    ∷ Return 5 None
     ∷ [])
     5
     ∷ [])
@@ -148,11 +151,11 @@ abbrev pub elements_are_converted_and_indexes_checked : SourceUnit
 elements_are_converted_and_indexes_checked =
     unit_of
     (native 1 Void (codes "Java_A_f") []
-    (DeclareArray 2 JByte (codes "b") 2
-    ∷ AssignElement 3 (codes "b") (Number 1 false) (Number 200 false)
-    ∷ PutJint 4 (Element (codes "b") (Number 1 false))
-    ∷ AssignElement 5 (codes "b") (Number 2 false) (Number 1 false)
-    ∷ Return 6
+    (Plain 2 (DeclareArray JByte (codes "b") 2)
+    ∷ Plain 3 (AssignElement (codes "b") (Number 1 false) (Number 200 false))
+    ∷ Plain 4 (PutJint (Element (codes "b") (Number 1 false)))
+    ∷ Plain 5 (AssignElement (codes "b") (Number 2 false) (Number 1 false))
+    ∷ Return 6 None
     ∷ [])
     6
     ∷ [])

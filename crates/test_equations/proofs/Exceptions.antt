@@ -2,10 +2,11 @@
 use Rattle.std.specs.Prelude.{◌∷◌, false, [], Some, None, codes, refl}
 use Rattle.syntax.specs.declared.declared_type.ReferenceType.TheVariants.{Class as JClass}
 use Rattle.syntax.specs.declared.declared_type.VariableType.TheVariants.{Jint as JIntVariable, Reference as ReferenceVariable}
+use Rattle.syntax.specs.declared.declared_type.DeclaredType.TheVariants.{Simple}
 use Rattle.syntax.specs.declared.unit.ResultType.TheVariants.{Void}
 use Rattle.syntax.specs.declared.expr.Constant.TheVariants.{Null}
 use Rattle.syntax.specs.declared.expr.BinaryOp.TheVariants.{NotEqual}
-use Rattle.syntax.specs.Tree.{Named, Variable, Binary, Text, FromCall, TestExpr, Declare, If, Return, SourceUnit}
+use Rattle.syntax.specs.Tree.{Named, Variable, Binary, Text, FromCall, TestExpr, Declare, Plain, If, NoElse, Return, SourceUnit}
 use Rattle.semantics.specs.declared.schedule.ScheduleWord.TheVariants.{Turn}
 use Rattle.semantics.specs.World.{World}
 use Rattle.world_values.specs.WorldLines.{ClassLine, ThreadLine, Lines}
@@ -24,13 +25,14 @@ abbrev pub an_exception_with_a_message : SourceUnit
 an_exception_with_a_message =
     unit_of
     (native 1 Void (codes "Java_A_f") []
-    (Declare 2 (ReferenceVariable JClass) (codes "c") (FromCall (call (codes "FindClass") (Text (codes "java/lang/RuntimeException") ∷ [])))
+    (Plain 2 (Declare (Simple (ReferenceVariable JClass)) (codes "c") (FromCall (call (codes "FindClass") (Text (codes "java/lang/RuntimeException") ∷ []))))
     ∷ If 3 (TestExpr (Binary NotEqual (Variable (codes "c")) (Named Null)))
     (block
-    (Declare 3 JIntVariable (codes "r") (FromCall (call (codes "ThrowNew") (given (codes "c") ∷ Text (codes "hi") ∷ [])))
+    (Plain 3 (Declare (Simple JIntVariable) (codes "r") (FromCall (call (codes "ThrowNew") (given (codes "c") ∷ Text (codes "hi") ∷ []))))
     ∷ [])
     3)
-    ∷ Return 4
+    NoElse
+    ∷ Return 4 None
     ∷ [])
     4
     ∷ [])

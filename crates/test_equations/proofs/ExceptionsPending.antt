@@ -3,11 +3,12 @@ use Rattle.std.specs.Prelude.{◌∷◌, pos, false, [], Some, None, codes, refl
 use Rattle.base.specs.declared.element.ElementType.TheVariants.{Int as JInt}
 use Rattle.syntax.specs.declared.declared_type.ReferenceType.TheVariants.{Object as JObject, Class as JClass, Throwable as JThrowable, IntArray as JIntArray}
 use Rattle.syntax.specs.declared.declared_type.VariableType.TheVariants.{Jint as JIntVariable, Jboolean as JBoolean, JfieldId as JFieldId, Reference as ReferenceVariable}
+use Rattle.syntax.specs.declared.declared_type.DeclaredType.TheVariants.{Simple, Pointer}
 use Rattle.syntax.specs.declared.unit.ResultType.TheVariants.{Void}
 use Rattle.syntax.specs.declared.expr.Constant.TheVariants.{Null}
 use Rattle.syntax.specs.declared.expr.PrefixOp.TheVariants.{ToInt}
 use Rattle.syntax.specs.declared.expr.BinaryOp.TheVariants.{Equal, NotEqual}
-use Rattle.syntax.specs.Tree.{Number, Named, Variable, Prefix, Binary, Value, Text, FromCall, TestExpr, TestCall, Declare, DeclareBuffer, Assign, AssignElement, Perform, PutJint, If, Return, SourceUnit}
+use Rattle.syntax.specs.Tree.{Number, Named, Variable, Prefix, Binary, Value, Text, FromCall, TestExpr, TestCall, Declare, Assign, AssignElement, Perform, PutJint, Plain, If, NoElse, Return, SourceUnit}
 use Rattle.semantics.specs.declared.schedule.ScheduleWord.TheVariants.{Turn}
 use Rattle.semantics.specs.World.{World}
 use Rattle.world_values.specs.WorldLines.{NumberValue, NamedObject, NamedClass, ClassLine, FieldLine, ObjectLine, ArrayLine, ThreadLine, CallLine, Lines}
@@ -39,25 +40,26 @@ abbrev pub an_exception_is_thrown_and_cleared : SourceUnit
 an_exception_is_thrown_and_cleared =
     unit_of
     (native 1 Void (codes "Java_A_f") []
-    (Declare 2 (ReferenceVariable JClass) (codes "c") (FromCall (call (codes "FindClass") (Text (codes "java/lang/Exception") ∷ [])))
-    ∷ Declare 3 (ReferenceVariable JThrowable) (codes "t") (FromCall (call (codes "AllocObject") (given (codes "c") ∷ [])))
-    ∷ Declare 4 JIntVariable (codes "r") (FromCall (call (codes "Throw") (given (codes "t") ∷ [])))
-    ∷ Declare 5 JBoolean (codes "before") (FromCall (call (codes "ExceptionCheck") []))
-    ∷ Declare 6 (ReferenceVariable JThrowable) (codes "u") (FromCall (call (codes "ExceptionOccurred") []))
-    ∷ Perform 7 (call (codes "ExceptionClear") [])
-    ∷ Declare 8 JBoolean (codes "after") (FromCall (call (codes "ExceptionCheck") []))
-    ∷ Declare 9 (ReferenceVariable JThrowable) (codes "none") (FromCall (call (codes "ExceptionOccurred") []))
-    ∷ Declare 10 JBoolean (codes "same") (FromCall (call (codes "IsSameObject") (given (codes "t") ∷ given (codes "u") ∷ [])))
-    ∷ PutJint 11 (Variable (codes "r"))
-    ∷ PutJint 12 (Prefix ToInt (Variable (codes "before")))
-    ∷ PutJint 13 (Prefix ToInt (Variable (codes "after")))
-    ∷ PutJint 14 (Prefix ToInt (Variable (codes "same")))
+    (Plain 2 (Declare (Simple (ReferenceVariable JClass)) (codes "c") (FromCall (call (codes "FindClass") (Text (codes "java/lang/Exception") ∷ []))))
+    ∷ Plain 3 (Declare (Simple (ReferenceVariable JThrowable)) (codes "t") (FromCall (call (codes "AllocObject") (given (codes "c") ∷ []))))
+    ∷ Plain 4 (Declare (Simple JIntVariable) (codes "r") (FromCall (call (codes "Throw") (given (codes "t") ∷ []))))
+    ∷ Plain 5 (Declare (Simple JBoolean) (codes "before") (FromCall (call (codes "ExceptionCheck") [])))
+    ∷ Plain 6 (Declare (Simple (ReferenceVariable JThrowable)) (codes "u") (FromCall (call (codes "ExceptionOccurred") [])))
+    ∷ Plain 7 (Perform (call (codes "ExceptionClear") []))
+    ∷ Plain 8 (Declare (Simple JBoolean) (codes "after") (FromCall (call (codes "ExceptionCheck") [])))
+    ∷ Plain 9 (Declare (Simple (ReferenceVariable JThrowable)) (codes "none") (FromCall (call (codes "ExceptionOccurred") [])))
+    ∷ Plain 10 (Declare (Simple JBoolean) (codes "same") (FromCall (call (codes "IsSameObject") (given (codes "t") ∷ given (codes "u") ∷ []))))
+    ∷ Plain 11 (PutJint (Variable (codes "r")))
+    ∷ Plain 12 (PutJint (Prefix ToInt (Variable (codes "before"))))
+    ∷ Plain 13 (PutJint (Prefix ToInt (Variable (codes "after"))))
+    ∷ Plain 14 (PutJint (Prefix ToInt (Variable (codes "same"))))
     ∷ If 15 (TestExpr (Binary Equal (Variable (codes "none")) (Named Null)))
     (block
-    (PutJint 15 (Number 7 false)
+    (Plain 15 (PutJint (Number 7 false))
     ∷ [])
     15)
-    ∷ Return 16
+    NoElse
+    ∷ Return 16 None
     ∷ [])
     17
     ∷ [])
@@ -107,26 +109,28 @@ abbrev pub what_may_be_called_while_an_exception_is_pending : SourceUnit
 what_may_be_called_while_an_exception_is_pending =
     unit_of
     (native 1 Void (codes "Java_A_f") (reference_parameter JIntArray (codes "a") ∷ [])
-    (DeclareBuffer 2 JInt (codes "p") (FromCall (call (codes "GetIntArrayElements") (given (codes "a") ∷ Value (Named Null) ∷ [])))
+    (Plain 2 (Declare (Pointer JInt) (codes "p") (FromCall (call (codes "GetIntArrayElements") (given (codes "a") ∷ Value (Named Null) ∷ []))))
     ∷ If 3 (TestExpr (Binary NotEqual (Variable (codes "p")) (Named Null)))
     (block
-    (Perform 4 (call (codes "MonitorEnter") (given (codes "a") ∷ []))
-    ∷ Declare 5 (ReferenceVariable JObject) (codes "x") (FromCall (call (codes "NewLocalRef") (given (codes "a") ∷ [])))
+    (Plain 4 (Perform (call (codes "MonitorEnter") (given (codes "a") ∷ [])))
+    ∷ Plain 5 (Declare (Simple (ReferenceVariable JObject)) (codes "x") (FromCall (call (codes "NewLocalRef") (given (codes "a") ∷ []))))
     ∷ If 6 (TestCall (call (codes "PushLocalFrame") (Value (Number 2 false) ∷ [])))
     (block
-    (Declare 7 (ReferenceVariable JClass) (codes "c") (FromCall (call (codes "FindClass") (Text (codes "java/lang/Exception") ∷ [])))
-    ∷ Declare 8 JIntVariable (codes "r") (FromCall (call (codes "ThrowNew") (given (codes "c") ∷ Text [] ∷ [])))
-    ∷ Assign 9 (codes "x") (FromCall (call (codes "PopLocalFrame") (Value (Named Null) ∷ [])))
+    (Plain 7 (Declare (Simple (ReferenceVariable JClass)) (codes "c") (FromCall (call (codes "FindClass") (Text (codes "java/lang/Exception") ∷ []))))
+    ∷ Plain 8 (Declare (Simple JIntVariable) (codes "r") (FromCall (call (codes "ThrowNew") (given (codes "c") ∷ Text [] ∷ []))))
+    ∷ Plain 9 (Assign (codes "x") (FromCall (call (codes "PopLocalFrame") (Value (Named Null) ∷ []))))
     ∷ [])
     10)
-    ∷ AssignElement 11 (codes "p") (Number 0 false) (Number 5 false)
-    ∷ Perform 12 (call (codes "ReleaseIntArrayElements") (given (codes "a") ∷ given (codes "p") ∷ Value (Number 0 false) ∷ []))
-    ∷ Perform 13 (call (codes "DeleteLocalRef") (given (codes "x") ∷ []))
-    ∷ Perform 14 (call (codes "MonitorExit") (given (codes "a") ∷ []))
-    ∷ PutJint 15 (Number 4 false)
+    NoElse
+    ∷ Plain 11 (AssignElement (codes "p") (Number 0 false) (Number 5 false))
+    ∷ Plain 12 (Perform (call (codes "ReleaseIntArrayElements") (given (codes "a") ∷ given (codes "p") ∷ Value (Number 0 false) ∷ [])))
+    ∷ Plain 13 (Perform (call (codes "DeleteLocalRef") (given (codes "x") ∷ [])))
+    ∷ Plain 14 (Perform (call (codes "MonitorExit") (given (codes "a") ∷ [])))
+    ∷ Plain 15 (PutJint (Number 4 false))
     ∷ [])
     16)
-    ∷ Return 17
+    NoElse
+    ∷ Return 17 None
     ∷ [])
     18
     ∷ [])
@@ -163,8 +167,8 @@ abbrev pub an_uncaught_exception_ends_all_calls_of_its_thread : SourceUnit
 an_uncaught_exception_ends_all_calls_of_its_thread =
     unit_of
     (native 1 Void (codes "Java_A_f") []
-    (Declare 2 JFieldId (codes "i") (FromCall (call (codes "GetFieldID") (given (codes "cls") ∷ Text (codes "n") ∷ Text (codes "I") ∷ [])))
-    ∷ Return 3
+    (Plain 2 (Declare (Simple JFieldId) (codes "i") (FromCall (call (codes "GetFieldID") (given (codes "cls") ∷ Text (codes "n") ∷ Text (codes "I") ∷ []))))
+    ∷ Return 3 None
     ∷ [])
     4
     ∷ [])
@@ -201,8 +205,8 @@ abbrev pub an_object_that_cannot_be_thrown : SourceUnit
 an_object_that_cannot_be_thrown =
     unit_of
     (native 1 Void (codes "Java_A_f") (reference_parameter JObject (codes "o") ∷ [])
-    (Declare 2 JIntVariable (codes "r") (FromCall (call (codes "Throw") (given (codes "o") ∷ [])))
-    ∷ Return 3
+    (Plain 2 (Declare (Simple JIntVariable) (codes "r") (FromCall (call (codes "Throw") (given (codes "o") ∷ []))))
+    ∷ Return 3 None
     ∷ [])
     4
     ∷ [])
@@ -239,8 +243,8 @@ abbrev pub a_class_that_cannot_be_thrown : SourceUnit
 a_class_that_cannot_be_thrown =
     unit_of
     (native 1 Void (codes "Java_A_f") []
-    (Declare 2 JIntVariable (codes "r") (FromCall (call (codes "ThrowNew") (given (codes "cls") ∷ Text (codes "no") ∷ [])))
-    ∷ Return 3
+    (Plain 2 (Declare (Simple JIntVariable) (codes "r") (FromCall (call (codes "ThrowNew") (given (codes "cls") ∷ Text (codes "no") ∷ []))))
+    ∷ Return 3 None
     ∷ [])
     4
     ∷ [])
@@ -263,8 +267,8 @@ abbrev pub a_class_of_the_program_that_can_be_thrown : SourceUnit
 a_class_of_the_program_that_can_be_thrown =
     unit_of
     (native 1 Void (codes "Java_A_f") (reference_parameter JClass (codes "b") ∷ [])
-    (Declare 2 JIntVariable (codes "r") (FromCall (call (codes "ThrowNew") (given (codes "b") ∷ Text (codes "x") ∷ [])))
-    ∷ Return 3
+    (Plain 2 (Declare (Simple JIntVariable) (codes "r") (FromCall (call (codes "ThrowNew") (given (codes "b") ∷ Text (codes "x") ∷ []))))
+    ∷ Return 3 None
     ∷ [])
     4
     ∷ [])
@@ -305,11 +309,11 @@ abbrev pub an_exception_that_replaces_a_pending_one : SourceUnit
 an_exception_that_replaces_a_pending_one =
     unit_of
     (native 1 Void (codes "Java_A_f") []
-    (Declare 2 JFieldId (codes "i") (FromCall (call (codes "GetFieldID") (given (codes "cls") ∷ Text (codes "n") ∷ Text (codes "I") ∷ [])))
-    ∷ Perform 3 (call (codes "MonitorExit") (given (codes "cls") ∷ []))
-    ∷ Declare 4 (ReferenceVariable JThrowable) (codes "t") (FromCall (call (codes "ExceptionOccurred") []))
-    ∷ Perform 5 (call (codes "ExceptionClear") [])
-    ∷ Return 6
+    (Plain 2 (Declare (Simple JFieldId) (codes "i") (FromCall (call (codes "GetFieldID") (given (codes "cls") ∷ Text (codes "n") ∷ Text (codes "I") ∷ []))))
+    ∷ Plain 3 (Perform (call (codes "MonitorExit") (given (codes "cls") ∷ [])))
+    ∷ Plain 4 (Declare (Simple (ReferenceVariable JThrowable)) (codes "t") (FromCall (call (codes "ExceptionOccurred") [])))
+    ∷ Plain 5 (Perform (call (codes "ExceptionClear") []))
+    ∷ Return 6 None
     ∷ [])
     7
     ∷ [])

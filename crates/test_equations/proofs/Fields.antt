@@ -2,11 +2,12 @@
 use Rattle.std.specs.Prelude.{◌∷◌, pos, true, false, [], Some, None, codes, refl}
 use Rattle.syntax.specs.declared.declared_type.ReferenceType.TheVariants.{Object as JObject, Class as JClass}
 use Rattle.syntax.specs.declared.declared_type.VariableType.TheVariants.{Jint as JIntVariable, Jboolean as JBoolean, JfieldId as JFieldId, Reference as ReferenceVariable}
+use Rattle.syntax.specs.declared.declared_type.DeclaredType.TheVariants.{Simple}
 use Rattle.syntax.specs.declared.unit.ResultType.TheVariants.{Void}
 use Rattle.syntax.specs.declared.expr.Constant.TheVariants.{Null}
 use Rattle.syntax.specs.declared.expr.PrefixOp.TheVariants.{Complement, ToInt}
 use Rattle.syntax.specs.declared.expr.BinaryOp.TheVariants.{Equal}
-use Rattle.syntax.specs.Tree.{Number, Named, Variable, Prefix, Binary, Value, Text, FromExpr, FromCall, TestExpr, Declare, Perform, PutJint, If, Return, SourceUnit}
+use Rattle.syntax.specs.Tree.{Number, Named, Variable, Prefix, Binary, Value, Text, FromExpr, FromCall, TestExpr, Declare, Perform, PutJint, Plain, If, NoElse, Return, SourceUnit}
 use Rattle.semantics.specs.declared.schedule.ScheduleWord.TheVariants.{Turn}
 use Rattle.semantics.specs.World.{World}
 use Rattle.world_values.specs.WorldLines.{NumberValue, NullValue, NamedObject, NamedClass, ClassLine, FieldLine, StaticLine, ObjectLine, ThreadLine, Lines}
@@ -40,23 +41,23 @@ abbrev pub fields_of_each_number_type : SourceUnit
 fields_of_each_number_type =
     unit_of
     (native 1 Void (codes "Java_A_f") (reference_parameter JObject (codes "o") ∷ [])
-    (Declare 2 JFieldId (codes "i") (FromCall (call (codes "GetFieldID") (given (codes "cls") ∷ Text (codes "i") ∷ Text (codes "I") ∷ [])))
-    ∷ Declare 3 JFieldId (codes "s") (FromCall (call (codes "GetFieldID") (given (codes "cls") ∷ Text (codes "s") ∷ Text (codes "S") ∷ [])))
-    ∷ Declare 4 JFieldId (codes "b") (FromCall (call (codes "GetFieldID") (given (codes "cls") ∷ Text (codes "b") ∷ Text (codes "B") ∷ [])))
-    ∷ Declare 5 JFieldId (codes "c") (FromCall (call (codes "GetFieldID") (given (codes "cls") ∷ Text (codes "c") ∷ Text (codes "C") ∷ [])))
-    ∷ Perform 6 (call (codes "SetIntField") (given (codes "o") ∷ given (codes "i") ∷ Value (Prefix ToInt (Number 4294967295 true)) ∷ []))
-    ∷ Perform 7 (call (codes "SetShortField") (given (codes "o") ∷ given (codes "s") ∷ Value (Number 70000 false) ∷ []))
-    ∷ Perform 8 (call (codes "SetByteField") (given (codes "o") ∷ given (codes "b") ∷ Value (Number 200 false) ∷ []))
-    ∷ Perform 9 (call (codes "SetCharField") (given (codes "o") ∷ given (codes "c") ∷ Value (Prefix ToInt (Prefix Complement (Number 0 true))) ∷ []))
-    ∷ Declare 10 JIntVariable (codes "vi") (FromCall (call (codes "GetIntField") (given (codes "o") ∷ given (codes "i") ∷ [])))
-    ∷ Declare 11 JIntVariable (codes "vs") (FromCall (call (codes "GetShortField") (given (codes "o") ∷ given (codes "s") ∷ [])))
-    ∷ Declare 12 JIntVariable (codes "vb") (FromCall (call (codes "GetByteField") (given (codes "o") ∷ given (codes "b") ∷ [])))
-    ∷ Declare 13 JIntVariable (codes "vc") (FromCall (call (codes "GetCharField") (given (codes "o") ∷ given (codes "c") ∷ [])))
-    ∷ PutJint 14 (Variable (codes "vi"))
-    ∷ PutJint 15 (Variable (codes "vs"))
-    ∷ PutJint 16 (Variable (codes "vb"))
-    ∷ PutJint 17 (Variable (codes "vc"))
-    ∷ Return 18
+    (Plain 2 (Declare (Simple JFieldId) (codes "i") (FromCall (call (codes "GetFieldID") (given (codes "cls") ∷ Text (codes "i") ∷ Text (codes "I") ∷ []))))
+    ∷ Plain 3 (Declare (Simple JFieldId) (codes "s") (FromCall (call (codes "GetFieldID") (given (codes "cls") ∷ Text (codes "s") ∷ Text (codes "S") ∷ []))))
+    ∷ Plain 4 (Declare (Simple JFieldId) (codes "b") (FromCall (call (codes "GetFieldID") (given (codes "cls") ∷ Text (codes "b") ∷ Text (codes "B") ∷ []))))
+    ∷ Plain 5 (Declare (Simple JFieldId) (codes "c") (FromCall (call (codes "GetFieldID") (given (codes "cls") ∷ Text (codes "c") ∷ Text (codes "C") ∷ []))))
+    ∷ Plain 6 (Perform (call (codes "SetIntField") (given (codes "o") ∷ given (codes "i") ∷ Value (Prefix ToInt (Number 4294967295 true)) ∷ [])))
+    ∷ Plain 7 (Perform (call (codes "SetShortField") (given (codes "o") ∷ given (codes "s") ∷ Value (Number 70000 false) ∷ [])))
+    ∷ Plain 8 (Perform (call (codes "SetByteField") (given (codes "o") ∷ given (codes "b") ∷ Value (Number 200 false) ∷ [])))
+    ∷ Plain 9 (Perform (call (codes "SetCharField") (given (codes "o") ∷ given (codes "c") ∷ Value (Prefix ToInt (Prefix Complement (Number 0 true))) ∷ [])))
+    ∷ Plain 10 (Declare (Simple JIntVariable) (codes "vi") (FromCall (call (codes "GetIntField") (given (codes "o") ∷ given (codes "i") ∷ []))))
+    ∷ Plain 11 (Declare (Simple JIntVariable) (codes "vs") (FromCall (call (codes "GetShortField") (given (codes "o") ∷ given (codes "s") ∷ []))))
+    ∷ Plain 12 (Declare (Simple JIntVariable) (codes "vb") (FromCall (call (codes "GetByteField") (given (codes "o") ∷ given (codes "b") ∷ []))))
+    ∷ Plain 13 (Declare (Simple JIntVariable) (codes "vc") (FromCall (call (codes "GetCharField") (given (codes "o") ∷ given (codes "c") ∷ []))))
+    ∷ Plain 14 (PutJint (Variable (codes "vi")))
+    ∷ Plain 15 (PutJint (Variable (codes "vs")))
+    ∷ Plain 16 (PutJint (Variable (codes "vb")))
+    ∷ Plain 17 (PutJint (Variable (codes "vc")))
+    ∷ Return 18 None
     ∷ [])
     19
     ∷ [])
@@ -112,23 +113,23 @@ abbrev pub static_fields_of_each_number_type : SourceUnit
 static_fields_of_each_number_type =
     unit_of
     (native 1 Void (codes "Java_A_f") []
-    (Declare 2 JFieldId (codes "i") (FromCall (call (codes "GetStaticFieldID") (given (codes "cls") ∷ Text (codes "i") ∷ Text (codes "I") ∷ [])))
-    ∷ Declare 3 JFieldId (codes "s") (FromCall (call (codes "GetStaticFieldID") (given (codes "cls") ∷ Text (codes "s") ∷ Text (codes "S") ∷ [])))
-    ∷ Declare 4 JFieldId (codes "b") (FromCall (call (codes "GetStaticFieldID") (given (codes "cls") ∷ Text (codes "b") ∷ Text (codes "B") ∷ [])))
-    ∷ Declare 5 JFieldId (codes "c") (FromCall (call (codes "GetStaticFieldID") (given (codes "cls") ∷ Text (codes "c") ∷ Text (codes "C") ∷ [])))
-    ∷ Perform 6 (call (codes "SetStaticIntField") (given (codes "cls") ∷ given (codes "i") ∷ Value (Number 7 false) ∷ []))
-    ∷ Perform 7 (call (codes "SetStaticShortField") (given (codes "cls") ∷ given (codes "s") ∷ Value (Number 32768 false) ∷ []))
-    ∷ Perform 8 (call (codes "SetStaticByteField") (given (codes "cls") ∷ given (codes "b") ∷ Value (Number 128 false) ∷ []))
-    ∷ Perform 9 (call (codes "SetStaticCharField") (given (codes "cls") ∷ given (codes "c") ∷ Value (Number 65536 false) ∷ []))
-    ∷ Declare 10 JIntVariable (codes "vi") (FromCall (call (codes "GetStaticIntField") (given (codes "cls") ∷ given (codes "i") ∷ [])))
-    ∷ Declare 11 JIntVariable (codes "vs") (FromCall (call (codes "GetStaticShortField") (given (codes "cls") ∷ given (codes "s") ∷ [])))
-    ∷ Declare 12 JIntVariable (codes "vb") (FromCall (call (codes "GetStaticByteField") (given (codes "cls") ∷ given (codes "b") ∷ [])))
-    ∷ Declare 13 JIntVariable (codes "vc") (FromCall (call (codes "GetStaticCharField") (given (codes "cls") ∷ given (codes "c") ∷ [])))
-    ∷ PutJint 14 (Variable (codes "vi"))
-    ∷ PutJint 15 (Variable (codes "vs"))
-    ∷ PutJint 16 (Variable (codes "vb"))
-    ∷ PutJint 17 (Variable (codes "vc"))
-    ∷ Return 18
+    (Plain 2 (Declare (Simple JFieldId) (codes "i") (FromCall (call (codes "GetStaticFieldID") (given (codes "cls") ∷ Text (codes "i") ∷ Text (codes "I") ∷ []))))
+    ∷ Plain 3 (Declare (Simple JFieldId) (codes "s") (FromCall (call (codes "GetStaticFieldID") (given (codes "cls") ∷ Text (codes "s") ∷ Text (codes "S") ∷ []))))
+    ∷ Plain 4 (Declare (Simple JFieldId) (codes "b") (FromCall (call (codes "GetStaticFieldID") (given (codes "cls") ∷ Text (codes "b") ∷ Text (codes "B") ∷ []))))
+    ∷ Plain 5 (Declare (Simple JFieldId) (codes "c") (FromCall (call (codes "GetStaticFieldID") (given (codes "cls") ∷ Text (codes "c") ∷ Text (codes "C") ∷ []))))
+    ∷ Plain 6 (Perform (call (codes "SetStaticIntField") (given (codes "cls") ∷ given (codes "i") ∷ Value (Number 7 false) ∷ [])))
+    ∷ Plain 7 (Perform (call (codes "SetStaticShortField") (given (codes "cls") ∷ given (codes "s") ∷ Value (Number 32768 false) ∷ [])))
+    ∷ Plain 8 (Perform (call (codes "SetStaticByteField") (given (codes "cls") ∷ given (codes "b") ∷ Value (Number 128 false) ∷ [])))
+    ∷ Plain 9 (Perform (call (codes "SetStaticCharField") (given (codes "cls") ∷ given (codes "c") ∷ Value (Number 65536 false) ∷ [])))
+    ∷ Plain 10 (Declare (Simple JIntVariable) (codes "vi") (FromCall (call (codes "GetStaticIntField") (given (codes "cls") ∷ given (codes "i") ∷ []))))
+    ∷ Plain 11 (Declare (Simple JIntVariable) (codes "vs") (FromCall (call (codes "GetStaticShortField") (given (codes "cls") ∷ given (codes "s") ∷ []))))
+    ∷ Plain 12 (Declare (Simple JIntVariable) (codes "vb") (FromCall (call (codes "GetStaticByteField") (given (codes "cls") ∷ given (codes "b") ∷ []))))
+    ∷ Plain 13 (Declare (Simple JIntVariable) (codes "vc") (FromCall (call (codes "GetStaticCharField") (given (codes "cls") ∷ given (codes "c") ∷ []))))
+    ∷ Plain 14 (PutJint (Variable (codes "vi")))
+    ∷ Plain 15 (PutJint (Variable (codes "vs")))
+    ∷ Plain 16 (PutJint (Variable (codes "vb")))
+    ∷ Plain 17 (PutJint (Variable (codes "vc")))
+    ∷ Return 18 None
     ∷ [])
     19
     ∷ [])
@@ -179,23 +180,24 @@ abbrev pub fields_of_references : SourceUnit
 fields_of_references =
     unit_of
     (native 1 Void (codes "Java_A_f") (reference_parameter JObject (codes "o") ∷ [])
-    (Declare 2 JFieldId (codes "n") (FromCall (call (codes "GetFieldID") (given (codes "cls") ∷ Text (codes "next") ∷ Text (codes "LA;") ∷ [])))
-    ∷ Declare 3 JFieldId (codes "l") (FromCall (call (codes "GetStaticFieldID") (given (codes "cls") ∷ Text (codes "last") ∷ Text (codes "LA;") ∷ [])))
-    ∷ Declare 4 (ReferenceVariable JObject) (codes "x") (FromCall (call (codes "AllocObject") (given (codes "cls") ∷ [])))
-    ∷ Perform 5 (call (codes "SetObjectField") (given (codes "o") ∷ given (codes "n") ∷ given (codes "x") ∷ []))
-    ∷ Perform 6 (call (codes "SetStaticObjectField") (given (codes "cls") ∷ given (codes "l") ∷ given (codes "o") ∷ []))
-    ∷ Declare 7 (ReferenceVariable JObject) (codes "y") (FromCall (call (codes "GetStaticObjectField") (given (codes "cls") ∷ given (codes "l") ∷ [])))
-    ∷ Declare 8 (ReferenceVariable JObject) (codes "z") (FromCall (call (codes "GetObjectField") (given (codes "y") ∷ given (codes "n") ∷ [])))
-    ∷ Declare 9 JBoolean (codes "same") (FromCall (call (codes "IsSameObject") (given (codes "x") ∷ given (codes "z") ∷ [])))
-    ∷ PutJint 10 (Prefix ToInt (Variable (codes "same")))
-    ∷ Perform 11 (call (codes "SetObjectField") (given (codes "x") ∷ given (codes "n") ∷ Value (Named Null) ∷ []))
-    ∷ Declare 12 (ReferenceVariable JObject) (codes "w") (FromCall (call (codes "GetObjectField") (given (codes "x") ∷ given (codes "n") ∷ [])))
+    (Plain 2 (Declare (Simple JFieldId) (codes "n") (FromCall (call (codes "GetFieldID") (given (codes "cls") ∷ Text (codes "next") ∷ Text (codes "LA;") ∷ []))))
+    ∷ Plain 3 (Declare (Simple JFieldId) (codes "l") (FromCall (call (codes "GetStaticFieldID") (given (codes "cls") ∷ Text (codes "last") ∷ Text (codes "LA;") ∷ []))))
+    ∷ Plain 4 (Declare (Simple (ReferenceVariable JObject)) (codes "x") (FromCall (call (codes "AllocObject") (given (codes "cls") ∷ []))))
+    ∷ Plain 5 (Perform (call (codes "SetObjectField") (given (codes "o") ∷ given (codes "n") ∷ given (codes "x") ∷ [])))
+    ∷ Plain 6 (Perform (call (codes "SetStaticObjectField") (given (codes "cls") ∷ given (codes "l") ∷ given (codes "o") ∷ [])))
+    ∷ Plain 7 (Declare (Simple (ReferenceVariable JObject)) (codes "y") (FromCall (call (codes "GetStaticObjectField") (given (codes "cls") ∷ given (codes "l") ∷ []))))
+    ∷ Plain 8 (Declare (Simple (ReferenceVariable JObject)) (codes "z") (FromCall (call (codes "GetObjectField") (given (codes "y") ∷ given (codes "n") ∷ []))))
+    ∷ Plain 9 (Declare (Simple JBoolean) (codes "same") (FromCall (call (codes "IsSameObject") (given (codes "x") ∷ given (codes "z") ∷ []))))
+    ∷ Plain 10 (PutJint (Prefix ToInt (Variable (codes "same"))))
+    ∷ Plain 11 (Perform (call (codes "SetObjectField") (given (codes "x") ∷ given (codes "n") ∷ Value (Named Null) ∷ [])))
+    ∷ Plain 12 (Declare (Simple (ReferenceVariable JObject)) (codes "w") (FromCall (call (codes "GetObjectField") (given (codes "x") ∷ given (codes "n") ∷ []))))
     ∷ If 13 (TestExpr (Binary Equal (Variable (codes "w")) (Named Null)))
     (block
-    (PutJint 13 (Number 5 false)
+    (Plain 13 (PutJint (Number 5 false))
     ∷ [])
     13)
-    ∷ Return 14
+    NoElse
+    ∷ Return 14 None
     ∷ [])
     15
     ∷ [])
@@ -240,14 +242,14 @@ abbrev pub a_field_of_the_superclass_under_one_of_the_same_name : SourceUnit
 a_field_of_the_superclass_under_one_of_the_same_name =
     unit_of
     (native 1 Void (codes "Java_A_f") (reference_parameter JObject (codes "o") ∷ [])
-    (Declare 2 (ReferenceVariable JClass) (codes "b") (FromCall (call (codes "GetObjectClass") (given (codes "o") ∷ [])))
-    ∷ Declare 3 JFieldId (codes "own") (FromCall (call (codes "GetFieldID") (given (codes "b") ∷ Text (codes "n") ∷ Text (codes "I") ∷ [])))
-    ∷ Declare 4 JFieldId (codes "above") (FromCall (call (codes "GetFieldID") (given (codes "cls") ∷ Text (codes "n") ∷ Text (codes "I") ∷ [])))
-    ∷ Declare 5 JFieldId (codes "other") (FromCall (call (codes "GetFieldID") (given (codes "b") ∷ Text (codes "m") ∷ Text (codes "S") ∷ [])))
-    ∷ Perform 6 (call (codes "SetIntField") (given (codes "o") ∷ given (codes "own") ∷ Value (Number 5 false) ∷ []))
-    ∷ Perform 7 (call (codes "SetIntField") (given (codes "o") ∷ given (codes "above") ∷ Value (Number 6 false) ∷ []))
-    ∷ Perform 8 (call (codes "SetShortField") (given (codes "o") ∷ given (codes "other") ∷ Value (Number 7 false) ∷ []))
-    ∷ Return 9
+    (Plain 2 (Declare (Simple (ReferenceVariable JClass)) (codes "b") (FromCall (call (codes "GetObjectClass") (given (codes "o") ∷ []))))
+    ∷ Plain 3 (Declare (Simple JFieldId) (codes "own") (FromCall (call (codes "GetFieldID") (given (codes "b") ∷ Text (codes "n") ∷ Text (codes "I") ∷ []))))
+    ∷ Plain 4 (Declare (Simple JFieldId) (codes "above") (FromCall (call (codes "GetFieldID") (given (codes "cls") ∷ Text (codes "n") ∷ Text (codes "I") ∷ []))))
+    ∷ Plain 5 (Declare (Simple JFieldId) (codes "other") (FromCall (call (codes "GetFieldID") (given (codes "b") ∷ Text (codes "m") ∷ Text (codes "S") ∷ []))))
+    ∷ Plain 6 (Perform (call (codes "SetIntField") (given (codes "o") ∷ given (codes "own") ∷ Value (Number 5 false) ∷ [])))
+    ∷ Plain 7 (Perform (call (codes "SetIntField") (given (codes "o") ∷ given (codes "above") ∷ Value (Number 6 false) ∷ [])))
+    ∷ Plain 8 (Perform (call (codes "SetShortField") (given (codes "o") ∷ given (codes "other") ∷ Value (Number 7 false) ∷ [])))
+    ∷ Return 9 None
     ∷ [])
     10
     ∷ [])
@@ -291,11 +293,11 @@ abbrev pub a_static_of_the_superclass : SourceUnit
 a_static_of_the_superclass =
     unit_of
     (native 1 Void (codes "Java_A_f") (reference_parameter JClass (codes "b") ∷ [])
-    (Declare 2 JFieldId (codes "s") (FromCall (call (codes "GetStaticFieldID") (given (codes "b") ∷ Text (codes "s") ∷ Text (codes "I") ∷ [])))
-    ∷ Perform 3 (call (codes "SetStaticIntField") (given (codes "b") ∷ given (codes "s") ∷ Value (Number 4 false) ∷ []))
-    ∷ Declare 4 JIntVariable (codes "v") (FromCall (call (codes "GetStaticIntField") (given (codes "cls") ∷ given (codes "s") ∷ [])))
-    ∷ PutJint 5 (Variable (codes "v"))
-    ∷ Return 6
+    (Plain 2 (Declare (Simple JFieldId) (codes "s") (FromCall (call (codes "GetStaticFieldID") (given (codes "b") ∷ Text (codes "s") ∷ Text (codes "I") ∷ []))))
+    ∷ Plain 3 (Perform (call (codes "SetStaticIntField") (given (codes "b") ∷ given (codes "s") ∷ Value (Number 4 false) ∷ [])))
+    ∷ Plain 4 (Declare (Simple JIntVariable) (codes "v") (FromCall (call (codes "GetStaticIntField") (given (codes "cls") ∷ given (codes "s") ∷ []))))
+    ∷ Plain 5 (PutJint (Variable (codes "v")))
+    ∷ Return 6 None
     ∷ [])
     7
     ∷ [])
@@ -336,15 +338,16 @@ abbrev pub a_field_of_another_signature_is_not_found : SourceUnit
 a_field_of_another_signature_is_not_found =
     unit_of
     (native 1 Void (codes "Java_A_f") []
-    (Declare 2 JFieldId (codes "i") (FromCall (call (codes "GetFieldID") (given (codes "cls") ∷ Text (codes "n") ∷ Text (codes "S") ∷ [])))
-    ∷ Declare 3 JBoolean (codes "thrown") (FromCall (call (codes "ExceptionCheck") []))
-    ∷ PutJint 4 (Prefix ToInt (Variable (codes "thrown")))
+    (Plain 2 (Declare (Simple JFieldId) (codes "i") (FromCall (call (codes "GetFieldID") (given (codes "cls") ∷ Text (codes "n") ∷ Text (codes "S") ∷ []))))
+    ∷ Plain 3 (Declare (Simple JBoolean) (codes "thrown") (FromCall (call (codes "ExceptionCheck") [])))
+    ∷ Plain 4 (PutJint (Prefix ToInt (Variable (codes "thrown"))))
     ∷ If 5 (TestExpr (Binary Equal (Variable (codes "i")) (Named Null)))
     (block
-    (PutJint 5 (Number 3 false)
+    (Plain 5 (PutJint (Number 3 false))
     ∷ [])
     5)
-    ∷ Return 6
+    NoElse
+    ∷ Return 6 None
     ∷ [])
     7
     ∷ [])
@@ -381,8 +384,8 @@ abbrev pub a_field_is_not_found_as_a_static : SourceUnit
 a_field_is_not_found_as_a_static =
     unit_of
     (native 1 Void (codes "Java_A_f") []
-    (Declare 2 JFieldId (codes "i") (FromCall (call (codes "GetStaticFieldID") (given (codes "cls") ∷ Text (codes "n") ∷ Text (codes "I") ∷ [])))
-    ∷ Return 3
+    (Plain 2 (Declare (Simple JFieldId) (codes "i") (FromCall (call (codes "GetStaticFieldID") (given (codes "cls") ∷ Text (codes "n") ∷ Text (codes "I") ∷ []))))
+    ∷ Return 3 None
     ∷ [])
     4
     ∷ [])
@@ -406,9 +409,9 @@ abbrev pub a_field_id_of_null : SourceUnit
 a_field_id_of_null =
     unit_of
     (native 1 Void (codes "Java_A_f") (reference_parameter JObject (codes "o") ∷ [])
-    (Declare 2 JFieldId (codes "i") (FromExpr (Named Null))
-    ∷ Declare 3 JIntVariable (codes "v") (FromCall (call (codes "GetIntField") (given (codes "o") ∷ given (codes "i") ∷ [])))
-    ∷ Return 4
+    (Plain 2 (Declare (Simple JFieldId) (codes "i") (FromExpr (Named Null)))
+    ∷ Plain 3 (Declare (Simple JIntVariable) (codes "v") (FromCall (call (codes "GetIntField") (given (codes "o") ∷ given (codes "i") ∷ []))))
+    ∷ Return 4 None
     ∷ [])
     5
     ∷ [])
@@ -446,8 +449,8 @@ abbrev pub null_as_a_field_id : SourceUnit
 null_as_a_field_id =
     unit_of
     (native 1 Void (codes "Java_A_f") (reference_parameter JObject (codes "o") ∷ [])
-    (Declare 2 JIntVariable (codes "v") (FromCall (call (codes "GetIntField") (given (codes "o") ∷ Value (Named Null) ∷ [])))
-    ∷ Return 3
+    (Plain 2 (Declare (Simple JIntVariable) (codes "v") (FromCall (call (codes "GetIntField") (given (codes "o") ∷ Value (Named Null) ∷ []))))
+    ∷ Return 3 None
     ∷ [])
     4
     ∷ [])
@@ -471,9 +474,9 @@ abbrev pub a_field_of_another_type : SourceUnit
 a_field_of_another_type =
     unit_of
     (native 1 Void (codes "Java_A_f") (reference_parameter JObject (codes "o") ∷ [])
-    (Declare 2 JFieldId (codes "i") (FromCall (call (codes "GetFieldID") (given (codes "cls") ∷ Text (codes "n") ∷ Text (codes "I") ∷ [])))
-    ∷ Declare 3 JIntVariable (codes "v") (FromCall (call (codes "GetShortField") (given (codes "o") ∷ given (codes "i") ∷ [])))
-    ∷ Return 4
+    (Plain 2 (Declare (Simple JFieldId) (codes "i") (FromCall (call (codes "GetFieldID") (given (codes "cls") ∷ Text (codes "n") ∷ Text (codes "I") ∷ []))))
+    ∷ Plain 3 (Declare (Simple JIntVariable) (codes "v") (FromCall (call (codes "GetShortField") (given (codes "o") ∷ given (codes "i") ∷ []))))
+    ∷ Return 4 None
     ∷ [])
     5
     ∷ [])
@@ -497,9 +500,9 @@ abbrev pub a_static_id_for_a_field : SourceUnit
 a_static_id_for_a_field =
     unit_of
     (native 1 Void (codes "Java_A_f") (reference_parameter JObject (codes "o") ∷ [])
-    (Declare 2 JFieldId (codes "i") (FromCall (call (codes "GetStaticFieldID") (given (codes "cls") ∷ Text (codes "n") ∷ Text (codes "I") ∷ [])))
-    ∷ Perform 3 (call (codes "SetIntField") (given (codes "o") ∷ given (codes "i") ∷ Value (Number 1 false) ∷ []))
-    ∷ Return 4
+    (Plain 2 (Declare (Simple JFieldId) (codes "i") (FromCall (call (codes "GetStaticFieldID") (given (codes "cls") ∷ Text (codes "n") ∷ Text (codes "I") ∷ []))))
+    ∷ Plain 3 (Perform (call (codes "SetIntField") (given (codes "o") ∷ given (codes "i") ∷ Value (Number 1 false) ∷ [])))
+    ∷ Return 4 None
     ∷ [])
     5
     ∷ [])
@@ -538,9 +541,9 @@ abbrev pub an_object_that_has_not_the_field : SourceUnit
 an_object_that_has_not_the_field =
     unit_of
     (native 1 Void (codes "Java_A_f") []
-    (Declare 2 JFieldId (codes "i") (FromCall (call (codes "GetFieldID") (given (codes "cls") ∷ Text (codes "n") ∷ Text (codes "I") ∷ [])))
-    ∷ Declare 3 JIntVariable (codes "v") (FromCall (call (codes "GetIntField") (given (codes "cls") ∷ given (codes "i") ∷ [])))
-    ∷ Return 4
+    (Plain 2 (Declare (Simple JFieldId) (codes "i") (FromCall (call (codes "GetFieldID") (given (codes "cls") ∷ Text (codes "n") ∷ Text (codes "I") ∷ []))))
+    ∷ Plain 3 (Declare (Simple JIntVariable) (codes "v") (FromCall (call (codes "GetIntField") (given (codes "cls") ∷ given (codes "i") ∷ []))))
+    ∷ Return 4 None
     ∷ [])
     5
     ∷ [])
@@ -564,9 +567,9 @@ abbrev pub a_value_that_does_not_fit_a_field : SourceUnit
 a_value_that_does_not_fit_a_field =
     unit_of
     (native 1 Void (codes "Java_A_f") (reference_parameter JObject (codes "o") ∷ [])
-    (Declare 2 JFieldId (codes "i") (FromCall (call (codes "GetFieldID") (given (codes "cls") ∷ Text (codes "next") ∷ Text (codes "LA;") ∷ [])))
-    ∷ Perform 3 (call (codes "SetObjectField") (given (codes "o") ∷ given (codes "i") ∷ given (codes "cls") ∷ []))
-    ∷ Return 4
+    (Plain 2 (Declare (Simple JFieldId) (codes "i") (FromCall (call (codes "GetFieldID") (given (codes "cls") ∷ Text (codes "next") ∷ Text (codes "LA;") ∷ []))))
+    ∷ Plain 3 (Perform (call (codes "SetObjectField") (given (codes "o") ∷ given (codes "i") ∷ given (codes "cls") ∷ [])))
+    ∷ Return 4 None
     ∷ [])
     5
     ∷ [])
@@ -605,9 +608,9 @@ abbrev pub a_class_that_has_not_the_static : SourceUnit
 a_class_that_has_not_the_static =
     unit_of
     (native 1 Void (codes "Java_A_f") (reference_parameter JClass (codes "b") ∷ [])
-    (Declare 2 JFieldId (codes "i") (FromCall (call (codes "GetStaticFieldID") (given (codes "cls") ∷ Text (codes "n") ∷ Text (codes "I") ∷ [])))
-    ∷ Declare 3 JIntVariable (codes "v") (FromCall (call (codes "GetStaticIntField") (given (codes "b") ∷ given (codes "i") ∷ [])))
-    ∷ Return 4
+    (Plain 2 (Declare (Simple JFieldId) (codes "i") (FromCall (call (codes "GetStaticFieldID") (given (codes "cls") ∷ Text (codes "n") ∷ Text (codes "I") ∷ []))))
+    ∷ Plain 3 (Declare (Simple JIntVariable) (codes "v") (FromCall (call (codes "GetStaticIntField") (given (codes "b") ∷ given (codes "i") ∷ []))))
+    ∷ Return 4 None
     ∷ [])
     5
     ∷ [])
@@ -646,9 +649,9 @@ abbrev pub a_value_that_does_not_fit_a_static : SourceUnit
 a_value_that_does_not_fit_a_static =
     unit_of
     (native 1 Void (codes "Java_A_f") (reference_parameter JObject (codes "o") ∷ [])
-    (Declare 2 JFieldId (codes "i") (FromCall (call (codes "GetStaticFieldID") (given (codes "cls") ∷ Text (codes "t") ∷ Text (codes "Ljava/lang/Throwable;") ∷ [])))
-    ∷ Perform 3 (call (codes "SetStaticObjectField") (given (codes "cls") ∷ given (codes "i") ∷ given (codes "o") ∷ []))
-    ∷ Return 4
+    (Plain 2 (Declare (Simple JFieldId) (codes "i") (FromCall (call (codes "GetStaticFieldID") (given (codes "cls") ∷ Text (codes "t") ∷ Text (codes "Ljava/lang/Throwable;") ∷ []))))
+    ∷ Plain 3 (Perform (call (codes "SetStaticObjectField") (given (codes "cls") ∷ given (codes "i") ∷ given (codes "o") ∷ [])))
+    ∷ Return 4 None
     ∷ [])
     5
     ∷ [])

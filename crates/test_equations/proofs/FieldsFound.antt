@@ -2,8 +2,9 @@
 use Rattle.std.specs.Prelude.{◌∷◌, pos, false, [], Some, None, codes, refl}
 use Rattle.syntax.specs.declared.declared_type.ReferenceType.TheVariants.{Object as JObject, Class as JClass}
 use Rattle.syntax.specs.declared.declared_type.VariableType.TheVariants.{JfieldId as JFieldId, Reference as ReferenceVariable}
+use Rattle.syntax.specs.declared.declared_type.DeclaredType.TheVariants.{Simple}
 use Rattle.syntax.specs.declared.unit.ResultType.TheVariants.{Void}
-use Rattle.syntax.specs.Tree.{Number, Value, Text, FromCall, Declare, Perform, PutJint, Return, SourceUnit}
+use Rattle.syntax.specs.Tree.{Number, Value, Text, FromCall, Declare, Perform, PutJint, Plain, Return, SourceUnit}
 use Rattle.semantics.specs.declared.schedule.ScheduleWord.TheVariants.{Turn, Collect}
 use Rattle.semantics.specs.World.{World}
 use Rattle.world_values.specs.WorldLines.{NumberValue, NamedObject, ClassLine, FieldLine, ObjectLine, ThreadLine, Lines}
@@ -24,11 +25,11 @@ abbrev pub a_field_is_set_and_an_object_made : SourceUnit
 a_field_is_set_and_an_object_made =
     unit_of
     (native 1 Void (codes "Java_A_f") (reference_parameter JObject (codes "o") ∷ [])
-    (Declare 2 (ReferenceVariable JClass) (codes "c") (FromCall (call (codes "GetObjectClass") (given (codes "o") ∷ [])))
-    ∷ Declare 3 JFieldId (codes "i") (FromCall (call (codes "GetFieldID") (given (codes "c") ∷ Text (codes "n") ∷ Text (codes "I") ∷ [])))
-    ∷ Perform 4 (call (codes "SetIntField") (given (codes "o") ∷ given (codes "i") ∷ Value (Number 5 false) ∷ []))
-    ∷ Declare 5 (ReferenceVariable JObject) (codes "x") (FromCall (call (codes "AllocObject") (given (codes "c") ∷ [])))
-    ∷ Return 6
+    (Plain 2 (Declare (Simple (ReferenceVariable JClass)) (codes "c") (FromCall (call (codes "GetObjectClass") (given (codes "o") ∷ []))))
+    ∷ Plain 3 (Declare (Simple JFieldId) (codes "i") (FromCall (call (codes "GetFieldID") (given (codes "c") ∷ Text (codes "n") ∷ Text (codes "I") ∷ []))))
+    ∷ Plain 4 (Perform (call (codes "SetIntField") (given (codes "o") ∷ given (codes "i") ∷ Value (Number 5 false) ∷ [])))
+    ∷ Plain 5 (Declare (Simple (ReferenceVariable JObject)) (codes "x") (FromCall (call (codes "AllocObject") (given (codes "c") ∷ []))))
+    ∷ Return 6 None
     ∷ [])
     6
     ∷ [])
@@ -63,8 +64,8 @@ abbrev pub a_field_that_is_not_there : SourceUnit
 a_field_that_is_not_there =
     unit_of
     (native 1 Void (codes "Java_A_f") []
-    (Declare 1 JFieldId (codes "i") (FromCall (call (codes "GetFieldID") (given (codes "cls") ∷ Text (codes "m") ∷ Text (codes "I") ∷ [])))
-    ∷ Return 1
+    (Plain 1 (Declare (Simple JFieldId) (codes "i") (FromCall (call (codes "GetFieldID") (given (codes "cls") ∷ Text (codes "m") ∷ Text (codes "I") ∷ []))))
+    ∷ Return 1 None
     ∷ [])
     1
     ∷ [])
@@ -110,13 +111,13 @@ abbrev pub objects_without_references_are_dropped : SourceUnit
 objects_without_references_are_dropped =
     unit_of
     (native 1 Void (codes "Java_A_f") []
-    (Declare 2 (ReferenceVariable JObject) (codes "d") (FromCall (call (codes "AllocObject") (given (codes "cls") ∷ [])))
-    ∷ Declare 3 (ReferenceVariable JObject) (codes "o") (FromCall (call (codes "AllocObject") (given (codes "cls") ∷ [])))
-    ∷ Perform 4 (call (codes "DeleteLocalRef") (given (codes "d") ∷ []))
-    ∷ Perform 5 (call (codes "MonitorEnter") (given (codes "o") ∷ []))
-    ∷ Perform 6 (call (codes "MonitorExit") (given (codes "o") ∷ []))
-    ∷ PutJint 7 (Number 1 false)
-    ∷ Return 8
+    (Plain 2 (Declare (Simple (ReferenceVariable JObject)) (codes "d") (FromCall (call (codes "AllocObject") (given (codes "cls") ∷ []))))
+    ∷ Plain 3 (Declare (Simple (ReferenceVariable JObject)) (codes "o") (FromCall (call (codes "AllocObject") (given (codes "cls") ∷ []))))
+    ∷ Plain 4 (Perform (call (codes "DeleteLocalRef") (given (codes "d") ∷ [])))
+    ∷ Plain 5 (Perform (call (codes "MonitorEnter") (given (codes "o") ∷ [])))
+    ∷ Plain 6 (Perform (call (codes "MonitorExit") (given (codes "o") ∷ [])))
+    ∷ Plain 7 (PutJint (Number 1 false))
+    ∷ Return 8 None
     ∷ [])
     8
     ∷ [])

@@ -2,10 +2,11 @@
 use Rattle.std.specs.Prelude.{◌∷◌, true, false, [], Some, None, codes, refl}
 use Rattle.syntax.specs.declared.declared_type.ReferenceType.TheVariants.{Object as JObject, IntArray as JIntArray}
 use Rattle.syntax.specs.declared.declared_type.VariableType.TheVariants.{Uint32 as UInt32, Jint as JIntVariable, Reference as ReferenceVariable}
+use Rattle.syntax.specs.declared.declared_type.DeclaredType.TheVariants.{Simple}
 use Rattle.syntax.specs.declared.unit.ResultType.TheVariants.{Void}
 use Rattle.syntax.specs.declared.expr.Constant.TheVariants.{Null}
 use Rattle.syntax.specs.declared.expr.BinaryOp.TheVariants.{Less, Add}
-use Rattle.syntax.specs.Tree.{Number, Named, Variable, Binary, Value, FromExpr, FromCall, TestCall, Declare, Assign, PutJint, If, While, Return, SourceUnit}
+use Rattle.syntax.specs.Tree.{Number, Named, Variable, Binary, Value, FromExpr, FromCall, TestCall, Declare, Assign, PutJint, Plain, If, NoElse, While, Return, SourceUnit}
 use Rattle.semantics.specs.declared.schedule.ScheduleWord.TheVariants.{Turn, Collect}
 use Rattle.semantics.specs.World.{World}
 use Rattle.world_values.specs.WorldLines.{ClassLine, ThreadLine, Lines}
@@ -28,15 +29,16 @@ abbrev pub a_frame_is_popped : SourceUnit
 a_frame_is_popped =
     unit_of
     (native 1 Void (codes "Java_A_f") []
-    (Declare 2 (ReferenceVariable JObject) (codes "x") (FromExpr (Named Null))
+    (Plain 2 (Declare (Simple (ReferenceVariable JObject)) (codes "x") (FromExpr (Named Null)))
     ∷ If 3 (TestCall (call (codes "PushLocalFrame") (Value (Number 4 false) ∷ [])))
     (block
-    (Declare 4 (ReferenceVariable JIntArray) (codes "y") (FromCall (call (codes "NewIntArray") (Value (Number 1 false) ∷ [])))
-    ∷ Declare 5 (ReferenceVariable JIntArray) (codes "z") (FromCall (call (codes "NewIntArray") (Value (Number 2 false) ∷ [])))
-    ∷ Assign 6 (codes "x") (FromCall (call (codes "PopLocalFrame") (given (codes "y") ∷ [])))
+    (Plain 4 (Declare (Simple (ReferenceVariable JIntArray)) (codes "y") (FromCall (call (codes "NewIntArray") (Value (Number 1 false) ∷ []))))
+    ∷ Plain 5 (Declare (Simple (ReferenceVariable JIntArray)) (codes "z") (FromCall (call (codes "NewIntArray") (Value (Number 2 false) ∷ []))))
+    ∷ Plain 6 (Assign (codes "x") (FromCall (call (codes "PopLocalFrame") (given (codes "y") ∷ []))))
     ∷ [])
     7)
-    ∷ Return 8
+    NoElse
+    ∷ Return 8 None
     ∷ [])
     8
     ∷ [])
@@ -81,9 +83,9 @@ abbrev pub capacity_that_is_granted : SourceUnit
 capacity_that_is_granted =
     unit_of
     (native 1 Void (codes "Java_A_f") []
-    (Declare 1 JIntVariable (codes "e") (FromCall (call (codes "EnsureLocalCapacity") (Value (Number 1023 false) ∷ [])))
-    ∷ PutJint 1 (Variable (codes "e"))
-    ∷ Return 1
+    (Plain 1 (Declare (Simple JIntVariable) (codes "e") (FromCall (call (codes "EnsureLocalCapacity") (Value (Number 1023 false) ∷ []))))
+    ∷ Plain 1 (PutJint (Variable (codes "e")))
+    ∷ Return 1 None
     ∷ [])
     1
     ∷ [])
@@ -103,9 +105,9 @@ abbrev pub capacity_that_is_refused : SourceUnit
 capacity_that_is_refused =
     unit_of
     (native 1 Void (codes "Java_A_f") []
-    (Declare 1 JIntVariable (codes "e") (FromCall (call (codes "EnsureLocalCapacity") (Value (Number 1024 false) ∷ [])))
-    ∷ PutJint 1 (Variable (codes "e"))
-    ∷ Return 1
+    (Plain 1 (Declare (Simple JIntVariable) (codes "e") (FromCall (call (codes "EnsureLocalCapacity") (Value (Number 1024 false) ∷ []))))
+    ∷ Plain 1 (PutJint (Variable (codes "e")))
+    ∷ Return 1 None
     ∷ [])
     1
     ∷ [])
@@ -128,14 +130,14 @@ abbrev pub a_frame_that_is_full : SourceUnit
 a_frame_that_is_full =
     unit_of
     (native 1 Void (codes "Java_A_f") []
-    (Declare 2 UInt32 (codes "i") (FromExpr (Number 0 true))
+    (Plain 2 (Declare (Simple UInt32) (codes "i") (FromExpr (Number 0 true)))
     ∷ While 3 (Binary Less (Variable (codes "i")) (Number 17 true))
     (block
-    (Declare 3 (ReferenceVariable JObject) (codes "x") (FromCall (call (codes "NewLocalRef") (given (codes "cls") ∷ [])))
-    ∷ Assign 3 (codes "i") (FromExpr (Binary Add (Variable (codes "i")) (Number 1 true)))
+    (Plain 3 (Declare (Simple (ReferenceVariable JObject)) (codes "x") (FromCall (call (codes "NewLocalRef") (given (codes "cls") ∷ []))))
+    ∷ Plain 3 (Assign (codes "i") (FromExpr (Binary Add (Variable (codes "i")) (Number 1 true))))
     ∷ [])
     3)
-    ∷ Return 4
+    ∷ Return 4 None
     ∷ [])
     4
     ∷ [])
@@ -159,15 +161,15 @@ abbrev pub a_frame_with_more_room : SourceUnit
 a_frame_with_more_room =
     unit_of
     (native 1 Void (codes "Java_A_f") []
-    (Declare 2 UInt32 (codes "i") (FromExpr (Number 0 true))
-    ∷ Declare 3 JIntVariable (codes "e") (FromCall (call (codes "EnsureLocalCapacity") (Value (Number 17 false) ∷ [])))
+    (Plain 2 (Declare (Simple UInt32) (codes "i") (FromExpr (Number 0 true)))
+    ∷ Plain 3 (Declare (Simple JIntVariable) (codes "e") (FromCall (call (codes "EnsureLocalCapacity") (Value (Number 17 false) ∷ []))))
     ∷ While 4 (Binary Less (Variable (codes "i")) (Number 17 true))
     (block
-    (Declare 4 (ReferenceVariable JObject) (codes "x") (FromCall (call (codes "NewLocalRef") (given (codes "cls") ∷ [])))
-    ∷ Assign 4 (codes "i") (FromExpr (Binary Add (Variable (codes "i")) (Number 1 true)))
+    (Plain 4 (Declare (Simple (ReferenceVariable JObject)) (codes "x") (FromCall (call (codes "NewLocalRef") (given (codes "cls") ∷ []))))
+    ∷ Plain 4 (Assign (codes "i") (FromExpr (Binary Add (Variable (codes "i")) (Number 1 true))))
     ∷ [])
     4)
-    ∷ Return 5
+    ∷ Return 5 None
     ∷ [])
     5
     ∷ [])

@@ -2,9 +2,10 @@
 use Rattle.std.specs.Prelude.{◌∷◌, true, false, [], Some, None, codes, refl}
 use Rattle.syntax.specs.declared.declared_type.ReferenceType.TheVariants.{Object as JObject}
 use Rattle.syntax.specs.declared.declared_type.VariableType.TheVariants.{Jint as JIntVariable, Reference as ReferenceVariable}
+use Rattle.syntax.specs.declared.declared_type.DeclaredType.TheVariants.{Simple}
 use Rattle.syntax.specs.declared.unit.ResultType.TheVariants.{Void}
 use Rattle.syntax.specs.declared.expr.PrefixOp.TheVariants.{ToInt}
-use Rattle.syntax.specs.Tree.{Number, Prefix, Value, FromCall, Declare, Assign, Perform, Return, SourceUnit}
+use Rattle.syntax.specs.Tree.{Number, Prefix, Value, FromCall, Declare, Assign, Perform, Plain, Return, SourceUnit}
 use Rattle.semantics.specs.declared.schedule.ScheduleWord.TheVariants.{Turn}
 use Rattle.semantics.specs.World.{World}
 use Rattle.world_values.specs.WorldLines.{NamedObject, ClassLine, ObjectLine, ThreadLine, Lines}
@@ -27,15 +28,15 @@ a_global_reference_that_another_thread_deletes =
     unit_of
     (static_reference 1 JObject (codes "g")
     ∷ native 2 Void (codes "Java_A_f") (reference_parameter JObject (codes "o") ∷ [])
-    (Assign 3 (codes "g") (FromCall (call (codes "NewGlobalRef") (given (codes "o") ∷ [])))
-    ∷ Declare 4 (ReferenceVariable JObject) (codes "x") (FromCall (call (codes "NewLocalRef") (given (codes "g") ∷ [])))
-    ∷ Declare 5 (ReferenceVariable JObject) (codes "y") (FromCall (call (codes "NewLocalRef") (given (codes "g") ∷ [])))
-    ∷ Return 6
+    (Plain 3 (Assign (codes "g") (FromCall (call (codes "NewGlobalRef") (given (codes "o") ∷ []))))
+    ∷ Plain 4 (Declare (Simple (ReferenceVariable JObject)) (codes "x") (FromCall (call (codes "NewLocalRef") (given (codes "g") ∷ []))))
+    ∷ Plain 5 (Declare (Simple (ReferenceVariable JObject)) (codes "y") (FromCall (call (codes "NewLocalRef") (given (codes "g") ∷ []))))
+    ∷ Return 6 None
     ∷ [])
     6
     ∷ native 7 Void (codes "Java_A_h") []
-    (Perform 7 (call (codes "DeleteGlobalRef") (given (codes "g") ∷ []))
-    ∷ Return 7
+    (Plain 7 (Perform (call (codes "DeleteGlobalRef") (given (codes "g") ∷ [])))
+    ∷ Return 7 None
     ∷ [])
     7
     ∷ [])
@@ -77,11 +78,11 @@ an_exception_is_checked_before_a_deleted_global_reference =
     unit_of
     (static_reference 1 JObject (codes "g")
     ∷ native 2 Void (codes "Java_A_f") []
-    (Assign 3 (codes "g") (FromCall (call (codes "NewGlobalRef") (given (codes "cls") ∷ [])))
-    ∷ Perform 4 (call (codes "DeleteGlobalRef") (given (codes "g") ∷ []))
-    ∷ Declare 5 JIntVariable (codes "e") (FromCall (call (codes "EnsureLocalCapacity") (Value (Prefix ToInt (Number 4294967295 true)) ∷ [])))
-    ∷ Declare 6 (ReferenceVariable JObject) (codes "x") (FromCall (call (codes "NewLocalRef") (given (codes "g") ∷ [])))
-    ∷ Return 7
+    (Plain 3 (Assign (codes "g") (FromCall (call (codes "NewGlobalRef") (given (codes "cls") ∷ []))))
+    ∷ Plain 4 (Perform (call (codes "DeleteGlobalRef") (given (codes "g") ∷ [])))
+    ∷ Plain 5 (Declare (Simple JIntVariable) (codes "e") (FromCall (call (codes "EnsureLocalCapacity") (Value (Prefix ToInt (Number 4294967295 true)) ∷ []))))
+    ∷ Plain 6 (Declare (Simple (ReferenceVariable JObject)) (codes "x") (FromCall (call (codes "NewLocalRef") (given (codes "g") ∷ []))))
+    ∷ Return 7 None
     ∷ [])
     7
     ∷ [])
@@ -121,12 +122,12 @@ a_deleted_global_reference =
     unit_of
     (static_reference 1 JObject (codes "g")
     ∷ native 2 Void (codes "Java_A_f") []
-    (Assign 3 (codes "g") (FromCall (call (codes "NewGlobalRef") (given (codes "cls") ∷ [])))
-    ∷ Perform 4 (call (codes "DeleteGlobalRef") (given (codes "g") ∷ []))
-    ∷ Declare 5 JIntVariable (codes "e") (FromCall (call (codes "EnsureLocalCapacity") (Value (Prefix ToInt (Number 4294967295 true)) ∷ [])))
-    ∷ Perform 5 (call (codes "ExceptionClear") [])
-    ∷ Declare 6 (ReferenceVariable JObject) (codes "x") (FromCall (call (codes "NewLocalRef") (given (codes "g") ∷ [])))
-    ∷ Return 7
+    (Plain 3 (Assign (codes "g") (FromCall (call (codes "NewGlobalRef") (given (codes "cls") ∷ []))))
+    ∷ Plain 4 (Perform (call (codes "DeleteGlobalRef") (given (codes "g") ∷ [])))
+    ∷ Plain 5 (Declare (Simple JIntVariable) (codes "e") (FromCall (call (codes "EnsureLocalCapacity") (Value (Prefix ToInt (Number 4294967295 true)) ∷ []))))
+    ∷ Plain 5 (Perform (call (codes "ExceptionClear") []))
+    ∷ Plain 6 (Declare (Simple (ReferenceVariable JObject)) (codes "x") (FromCall (call (codes "NewLocalRef") (given (codes "g") ∷ []))))
+    ∷ Return 7 None
     ∷ [])
     7
     ∷ [])

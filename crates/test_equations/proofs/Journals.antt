@@ -1,7 +1,7 @@
 -- The cases of texts/journals.cases, as gate/worked_equations writes them.
-use Rattle.std.specs.Prelude.{◌∷◌, ◌++◌, true, false, [], None, codes, refl}
+use Rattle.std.specs.Prelude.{◌∷◌, ◌++◌, true, false, [], Some, None, codes, refl}
 use Rattle.syntax.specs.declared.unit.ResultType.TheVariants.{Jint as IntResult}
-use Rattle.syntax.specs.Tree.{Number, ReturnValue, SourceUnit}
+use Rattle.syntax.specs.Tree.{Number, Return, SourceUnit}
 use Rattle.semantics.specs.World.{World}
 use Rattle.world_values.specs.WorldLines.{ClassLine, ThreadLine, Lines}
 use Rattle.world_values.specs.WorldMeaning.{world_of}
@@ -16,7 +16,7 @@ abbrev pub eight_threads : SourceUnit
 eight_threads =
     unit_of
     (native 1 IntResult (codes "Java_A_f") []
-    (ReturnValue 1 (Number 0 false)
+    (Return 1 (Some (Number 0 false))
     ∷ [])
     1
     ∷ [])

@@ -2,11 +2,12 @@
 use Rattle.std.specs.Prelude.{◌∷◌, ◌++◌, true, false, [], Some, None, codes, refl, replicate}
 use Rattle.syntax.specs.declared.declared_type.ReferenceType.TheVariants.{Class as JClass, Throwable as JThrowable, IntArray as JIntArray}
 use Rattle.syntax.specs.declared.declared_type.VariableType.TheVariants.{Jint as JIntVariable, Jboolean as JBoolean, Reference as ReferenceVariable}
+use Rattle.syntax.specs.declared.declared_type.DeclaredType.TheVariants.{Simple}
 use Rattle.syntax.specs.declared.unit.ResultType.TheVariants.{Void}
 use Rattle.syntax.specs.declared.expr.Constant.TheVariants.{Null}
 use Rattle.syntax.specs.declared.expr.PrefixOp.TheVariants.{ToInt}
 use Rattle.syntax.specs.declared.expr.BinaryOp.TheVariants.{Equal}
-use Rattle.syntax.specs.Tree.{Number, Named, Variable, Prefix, Binary, Value, Text, FromCall, TestExpr, Declare, Perform, PutJint, If, Return, SourceUnit}
+use Rattle.syntax.specs.Tree.{Number, Named, Variable, Prefix, Binary, Value, Text, FromCall, TestExpr, Declare, Perform, PutJint, Plain, If, NoElse, Return, SourceUnit}
 use Rattle.semantics.specs.declared.schedule.ScheduleWord.TheVariants.{Turn}
 use Rattle.semantics.specs.World.{World}
 use Rattle.world_values.specs.WorldLines.{ClassLine, ThreadLine, Lines}
@@ -30,13 +31,13 @@ abbrev pub an_exception_object_that_has_no_room : SourceUnit
 an_exception_object_that_has_no_room =
     unit_of
     (native 1 Void (codes "Java_A_f") []
-    (Declare 2 (ReferenceVariable JIntArray) (codes "a") (FromCall (call (codes "NewIntArray") (Value (Number 373 false) ∷ [])))
-    ∷ Declare 3 (ReferenceVariable JClass) (codes "c") (FromCall (call (codes "FindClass") (Text (codes "B") ∷ [])))
-    ∷ Declare 4 (ReferenceVariable JThrowable) (codes "t") (FromCall (call (codes "ExceptionOccurred") []))
-    ∷ Perform 5 (call (codes "ExceptionClear") [])
-    ∷ Declare 6 JBoolean (codes "same") (FromCall (call (codes "IsInstanceOf") (given (codes "t") ∷ given (codes "cls") ∷ [])))
-    ∷ PutJint 7 (Prefix ToInt (Variable (codes "same")))
-    ∷ Return 8
+    (Plain 2 (Declare (Simple (ReferenceVariable JIntArray)) (codes "a") (FromCall (call (codes "NewIntArray") (Value (Number 373 false) ∷ []))))
+    ∷ Plain 3 (Declare (Simple (ReferenceVariable JClass)) (codes "c") (FromCall (call (codes "FindClass") (Text (codes "B") ∷ []))))
+    ∷ Plain 4 (Declare (Simple (ReferenceVariable JThrowable)) (codes "t") (FromCall (call (codes "ExceptionOccurred") [])))
+    ∷ Plain 5 (Perform (call (codes "ExceptionClear") []))
+    ∷ Plain 6 (Declare (Simple JBoolean) (codes "same") (FromCall (call (codes "IsInstanceOf") (given (codes "t") ∷ given (codes "cls") ∷ []))))
+    ∷ Plain 7 (PutJint (Prefix ToInt (Variable (codes "same"))))
+    ∷ Return 8 None
     ∷ [])
     9
     ∷ [])
@@ -76,12 +77,12 @@ abbrev pub a_message_and_its_exception_are_made_both_or_neither : SourceUnit
 a_message_and_its_exception_are_made_both_or_neither =
     unit_of
     (native 1 Void (codes "Java_A_f") []
-    (Declare 2 (ReferenceVariable JIntArray) (codes "a") (FromCall (call (codes "NewIntArray") (Value (Number 368 false) ∷ [])))
-    ∷ Declare 3 (ReferenceVariable JClass) (codes "c") (FromCall (call (codes "FindClass") (Text (codes "java/lang/Error") ∷ [])))
-    ∷ Declare 4 JIntVariable (codes "r") (FromCall (call (codes "ThrowNew") (given (codes "c") ∷ Text (codes "x") ∷ [])))
-    ∷ Perform 5 (call (codes "ExceptionClear") [])
-    ∷ PutJint 6 (Variable (codes "r"))
-    ∷ Return 7
+    (Plain 2 (Declare (Simple (ReferenceVariable JIntArray)) (codes "a") (FromCall (call (codes "NewIntArray") (Value (Number 368 false) ∷ []))))
+    ∷ Plain 3 (Declare (Simple (ReferenceVariable JClass)) (codes "c") (FromCall (call (codes "FindClass") (Text (codes "java/lang/Error") ∷ []))))
+    ∷ Plain 4 (Declare (Simple JIntVariable) (codes "r") (FromCall (call (codes "ThrowNew") (given (codes "c") ∷ Text (codes "x") ∷ []))))
+    ∷ Plain 5 (Perform (call (codes "ExceptionClear") []))
+    ∷ Plain 6 (PutJint (Variable (codes "r")))
+    ∷ Return 7 None
     ∷ [])
     8
     ∷ [])
@@ -110,18 +111,19 @@ abbrev pub room_after_a_reference_is_deleted : SourceUnit
 room_after_a_reference_is_deleted =
     unit_of
     (native 1 Void (codes "Java_A_f") []
-    (Declare 2 (ReferenceVariable JIntArray) (codes "a") (FromCall (call (codes "NewIntArray") (Value (Number 300 false) ∷ [])))
-    ∷ Declare 3 (ReferenceVariable JIntArray) (codes "b") (FromCall (call (codes "NewIntArray") (Value (Number 100 false) ∷ [])))
+    (Plain 2 (Declare (Simple (ReferenceVariable JIntArray)) (codes "a") (FromCall (call (codes "NewIntArray") (Value (Number 300 false) ∷ []))))
+    ∷ Plain 3 (Declare (Simple (ReferenceVariable JIntArray)) (codes "b") (FromCall (call (codes "NewIntArray") (Value (Number 100 false) ∷ []))))
     ∷ If 4 (TestExpr (Binary Equal (Variable (codes "b")) (Named Null)))
     (block
-    (Perform 4 (call (codes "ExceptionClear") [])
+    (Plain 4 (Perform (call (codes "ExceptionClear") []))
     ∷ [])
     4)
-    ∷ Perform 5 (call (codes "DeleteLocalRef") (given (codes "a") ∷ []))
-    ∷ Declare 6 (ReferenceVariable JIntArray) (codes "c") (FromCall (call (codes "NewIntArray") (Value (Number 100 false) ∷ [])))
-    ∷ Declare 7 JIntVariable (codes "n") (FromCall (call (codes "GetArrayLength") (given (codes "c") ∷ [])))
-    ∷ PutJint 8 (Variable (codes "n"))
-    ∷ Return 9
+    NoElse
+    ∷ Plain 5 (Perform (call (codes "DeleteLocalRef") (given (codes "a") ∷ [])))
+    ∷ Plain 6 (Declare (Simple (ReferenceVariable JIntArray)) (codes "c") (FromCall (call (codes "NewIntArray") (Value (Number 100 false) ∷ []))))
+    ∷ Plain 7 (Declare (Simple JIntVariable) (codes "n") (FromCall (call (codes "GetArrayLength") (given (codes "c") ∷ []))))
+    ∷ Plain 8 (PutJint (Variable (codes "n")))
+    ∷ Return 9 None
     ∷ [])
     10
     ∷ [])

@@ -2,9 +2,10 @@
 use Rattle.std.specs.Prelude.{◌∷◌, true, false, [], Some, None, codes, refl}
 use Rattle.syntax.specs.declared.declared_type.ReferenceType.TheVariants.{Object as JObject, Class as JClass}
 use Rattle.syntax.specs.declared.declared_type.VariableType.TheVariants.{Jint as JIntVariable, Jboolean as JBoolean, JmethodId as JMethodId, Reference as ReferenceVariable}
+use Rattle.syntax.specs.declared.declared_type.DeclaredType.TheVariants.{Simple}
 use Rattle.syntax.specs.declared.unit.ResultType.TheVariants.{Void, Jint as IntResult, Reference as ReferenceResult}
 use Rattle.syntax.specs.declared.expr.PrefixOp.TheVariants.{ToInt}
-use Rattle.syntax.specs.Tree.{Number, Variable, Prefix, Value, Text, FromCall, Declare, Assign, Perform, PutJint, Return, ReturnValue, SourceUnit}
+use Rattle.syntax.specs.Tree.{Number, Variable, Prefix, Value, Text, FromCall, Declare, Assign, Perform, PutJint, Plain, Return, SourceUnit}
 use Rattle.semantics.specs.declared.schedule.ScheduleWord.TheVariants.{Turn}
 use Rattle.semantics.specs.World.{World}
 use Rattle.world_values.specs.WorldLines.{MethodsLine, ClassLine, ThreadLine, Lines}
@@ -25,14 +26,14 @@ abbrev pub a_number_is_passed_to_a_method_and_comes_back : SourceUnit
 a_number_is_passed_to_a_method_and_comes_back =
     unit_of
     (native 1 Void (codes "Java_A_f") []
-    (Declare 2 JMethodId (codes "m") (FromCall (call (codes "GetStaticMethodID") (given (codes "cls") ∷ Text (codes "g") ∷ Text (codes "(I)I") ∷ [])))
-    ∷ Declare 3 JIntVariable (codes "r") (FromCall (call (codes "CallStaticIntMethod") (given (codes "cls") ∷ given (codes "m") ∷ Value (Number 20 false) ∷ [])))
-    ∷ PutJint 4 (Variable (codes "r"))
-    ∷ Return 5
+    (Plain 2 (Declare (Simple JMethodId) (codes "m") (FromCall (call (codes "GetStaticMethodID") (given (codes "cls") ∷ Text (codes "g") ∷ Text (codes "(I)I") ∷ []))))
+    ∷ Plain 3 (Declare (Simple JIntVariable) (codes "r") (FromCall (call (codes "CallStaticIntMethod") (given (codes "cls") ∷ given (codes "m") ∷ Value (Number 20 false) ∷ []))))
+    ∷ Plain 4 (PutJint (Variable (codes "r")))
+    ∷ Return 5 None
     ∷ [])
     5
     ∷ native 6 IntResult (codes "Java_A_g") (int_parameter (codes "n") ∷ [])
-    (ReturnValue 6 (Variable (codes "n"))
+    (Return 6 (Some (Variable (codes "n")))
     ∷ [])
     6
     ∷ [])
@@ -71,14 +72,14 @@ abbrev pub an_object_that_a_method_made_comes_into_the_frame_of_its_caller : Sou
 an_object_that_a_method_made_comes_into_the_frame_of_its_caller =
     unit_of
     (native 1 Void (codes "Java_A_f") []
-    (Declare 2 JMethodId (codes "m") (FromCall (call (codes "GetStaticMethodID") (given (codes "cls") ∷ Text (codes "g") ∷ Text (codes "()Ljava/lang/Object;") ∷ [])))
-    ∷ Declare 3 (ReferenceVariable JObject) (codes "p") (FromCall (call (codes "CallStaticObjectMethod") (given (codes "cls") ∷ given (codes "m") ∷ [])))
-    ∷ Return 4
+    (Plain 2 (Declare (Simple JMethodId) (codes "m") (FromCall (call (codes "GetStaticMethodID") (given (codes "cls") ∷ Text (codes "g") ∷ Text (codes "()Ljava/lang/Object;") ∷ []))))
+    ∷ Plain 3 (Declare (Simple (ReferenceVariable JObject)) (codes "p") (FromCall (call (codes "CallStaticObjectMethod") (given (codes "cls") ∷ given (codes "m") ∷ []))))
+    ∷ Return 4 None
     ∷ [])
     4
     ∷ native 5 (ReferenceResult JObject) (codes "Java_A_g") []
-    (Declare 6 (ReferenceVariable JObject) (codes "made") (FromCall (call (codes "AllocObject") (given (codes "cls") ∷ [])))
-    ∷ ReturnValue 7 (Variable (codes "made"))
+    (Plain 6 (Declare (Simple (ReferenceVariable JObject)) (codes "made") (FromCall (call (codes "AllocObject") (given (codes "cls") ∷ []))))
+    ∷ Return 7 (Some (Variable (codes "made")))
     ∷ [])
     7
     ∷ [])
@@ -108,18 +109,18 @@ abbrev pub an_exception_stays_pending_in_the_caller_of_a_method : SourceUnit
 an_exception_stays_pending_in_the_caller_of_a_method =
     unit_of
     (native 1 Void (codes "Java_A_f") []
-    (Declare 2 JMethodId (codes "m") (FromCall (call (codes "GetStaticMethodID") (given (codes "cls") ∷ Text (codes "g") ∷ Text (codes "()I") ∷ [])))
-    ∷ Declare 3 JIntVariable (codes "r") (FromCall (call (codes "CallStaticIntMethod") (given (codes "cls") ∷ given (codes "m") ∷ [])))
-    ∷ Declare 4 JBoolean (codes "thrown") (FromCall (call (codes "ExceptionCheck") []))
-    ∷ Perform 5 (call (codes "ExceptionClear") [])
-    ∷ PutJint 6 (Variable (codes "r"))
-    ∷ PutJint 7 (Prefix ToInt (Variable (codes "thrown")))
-    ∷ Return 8
+    (Plain 2 (Declare (Simple JMethodId) (codes "m") (FromCall (call (codes "GetStaticMethodID") (given (codes "cls") ∷ Text (codes "g") ∷ Text (codes "()I") ∷ []))))
+    ∷ Plain 3 (Declare (Simple JIntVariable) (codes "r") (FromCall (call (codes "CallStaticIntMethod") (given (codes "cls") ∷ given (codes "m") ∷ []))))
+    ∷ Plain 4 (Declare (Simple JBoolean) (codes "thrown") (FromCall (call (codes "ExceptionCheck") [])))
+    ∷ Plain 5 (Perform (call (codes "ExceptionClear") []))
+    ∷ Plain 6 (PutJint (Variable (codes "r")))
+    ∷ Plain 7 (PutJint (Prefix ToInt (Variable (codes "thrown"))))
+    ∷ Return 8 None
     ∷ [])
     8
     ∷ native 9 IntResult (codes "Java_A_g") []
-    (Declare 10 (ReferenceVariable JClass) (codes "missing") (FromCall (call (codes "FindClass") (Text (codes "B") ∷ [])))
-    ∷ ReturnValue 11 (Number 7 false)
+    (Plain 10 (Declare (Simple (ReferenceVariable JClass)) (codes "missing") (FromCall (call (codes "FindClass") (Text (codes "B") ∷ []))))
+    ∷ Return 11 (Some (Number 7 false))
     ∷ [])
     11
     ∷ [])
@@ -151,21 +152,21 @@ a_reference_lives_between_its_call_and_the_entry_of_the_method =
     unit_of
     (static_reference 1 JObject (codes "s")
     ∷ native 2 Void (codes "Java_A_f") []
-    (Declare 3 (ReferenceVariable JObject) (codes "o") (FromCall (call (codes "AllocObject") (given (codes "cls") ∷ [])))
-    ∷ Assign 4 (codes "s") (FromCall (call (codes "NewGlobalRef") (given (codes "o") ∷ [])))
-    ∷ Perform 5 (call (codes "DeleteLocalRef") (given (codes "o") ∷ []))
-    ∷ Declare 6 JMethodId (codes "m") (FromCall (call (codes "GetStaticMethodID") (given (codes "cls") ∷ Text (codes "g") ∷ Text (codes "(Ljava/lang/Object;)V") ∷ [])))
-    ∷ Perform 7 (call (codes "CallStaticVoidMethod") (given (codes "cls") ∷ given (codes "m") ∷ given (codes "s") ∷ []))
-    ∷ Return 8
+    (Plain 3 (Declare (Simple (ReferenceVariable JObject)) (codes "o") (FromCall (call (codes "AllocObject") (given (codes "cls") ∷ []))))
+    ∷ Plain 4 (Assign (codes "s") (FromCall (call (codes "NewGlobalRef") (given (codes "o") ∷ []))))
+    ∷ Plain 5 (Perform (call (codes "DeleteLocalRef") (given (codes "o") ∷ [])))
+    ∷ Plain 6 (Declare (Simple JMethodId) (codes "m") (FromCall (call (codes "GetStaticMethodID") (given (codes "cls") ∷ Text (codes "g") ∷ Text (codes "(Ljava/lang/Object;)V") ∷ []))))
+    ∷ Plain 7 (Perform (call (codes "CallStaticVoidMethod") (given (codes "cls") ∷ given (codes "m") ∷ given (codes "s") ∷ [])))
+    ∷ Return 8 None
     ∷ [])
     8
     ∷ native 9 Void (codes "Java_A_g") (reference_parameter JObject (codes "p") ∷ [])
-    (Return 9
+    (Return 9 None
     ∷ [])
     9
     ∷ native 10 Void (codes "Java_A_h") []
-    (Perform 11 (call (codes "DeleteGlobalRef") (given (codes "s") ∷ []))
-    ∷ Return 12
+    (Plain 11 (Perform (call (codes "DeleteGlobalRef") (given (codes "s") ∷ [])))
+    ∷ Return 12 None
     ∷ [])
     12
     ∷ [])
@@ -204,14 +205,14 @@ abbrev pub a_method_is_called_by_the_class_that_its_id_was_got_from : SourceUnit
 a_method_is_called_by_the_class_that_its_id_was_got_from =
     unit_of
     (native 1 Void (codes "Java_A_f") []
-    (Declare 2 (ReferenceVariable JClass) (codes "b") (FromCall (call (codes "FindClass") (Text (codes "B") ∷ [])))
-    ∷ Declare 3 JMethodId (codes "m") (FromCall (call (codes "GetStaticMethodID") (given (codes "b") ∷ Text (codes "g") ∷ Text (codes "()V") ∷ [])))
-    ∷ Perform 4 (call (codes "CallStaticVoidMethod") (given (codes "cls") ∷ given (codes "m") ∷ []))
-    ∷ Return 5
+    (Plain 2 (Declare (Simple (ReferenceVariable JClass)) (codes "b") (FromCall (call (codes "FindClass") (Text (codes "B") ∷ []))))
+    ∷ Plain 3 (Declare (Simple JMethodId) (codes "m") (FromCall (call (codes "GetStaticMethodID") (given (codes "b") ∷ Text (codes "g") ∷ Text (codes "()V") ∷ []))))
+    ∷ Plain 4 (Perform (call (codes "CallStaticVoidMethod") (given (codes "cls") ∷ given (codes "m") ∷ [])))
+    ∷ Return 5 None
     ∷ [])
     5
     ∷ native 6 Void (codes "Java_B_g") []
-    (Return 6
+    (Return 6 None
     ∷ [])
     6
     ∷ [])

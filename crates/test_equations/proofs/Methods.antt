@@ -2,10 +2,11 @@
 use Rattle.std.specs.Prelude.{◌∷◌, true, false, [], Some, None, codes, refl}
 use Rattle.syntax.specs.declared.declared_type.ReferenceType.TheVariants.{Object as JObject, ByteArray as JByteArray}
 use Rattle.syntax.specs.declared.declared_type.VariableType.TheVariants.{JmethodId as JMethodId}
+use Rattle.syntax.specs.declared.declared_type.DeclaredType.TheVariants.{Simple}
 use Rattle.syntax.specs.declared.unit.ResultType.TheVariants.{Void, Jint as IntResult, Reference as ReferenceResult}
 use Rattle.syntax.specs.declared.expr.Constant.TheVariants.{Null}
 use Rattle.syntax.specs.declared.expr.BinaryOp.TheVariants.{Equal}
-use Rattle.syntax.specs.Tree.{Number, Named, Variable, Binary, Text, FromExpr, FromCall, TestExpr, Declare, Assign, PutJint, IfElse, Return, ReturnValue, SourceUnit}
+use Rattle.syntax.specs.Tree.{Number, Named, Variable, Binary, Text, FromExpr, FromCall, TestExpr, Declare, Assign, PutJint, Plain, If, ElseBlock, Return, SourceUnit}
 use Rattle.semantics.specs.declared.schedule.ScheduleWord.TheVariants.{Turn}
 use Rattle.semantics.specs.World.{World}
 use Rattle.world_values.specs.WorldLines.{MethodsLine, ClassLine, ThreadLine, Lines}
@@ -25,21 +26,21 @@ abbrev pub a_method_of_the_superclass : SourceUnit
 a_method_of_the_superclass =
     unit_of
     (native 1 Void (codes "Java_A_f") []
-    (Declare 2 JMethodId (codes "m") (FromCall (call (codes "GetStaticMethodID") (given (codes "cls") ∷ Text (codes "g") ∷ Text (codes "(I[B)Ljava/lang/Object;") ∷ [])))
-    ∷ IfElse 3 (TestExpr (Binary Equal (Variable (codes "m")) (Named Null)))
+    (Plain 2 (Declare (Simple JMethodId) (codes "m") (FromCall (call (codes "GetStaticMethodID") (given (codes "cls") ∷ Text (codes "g") ∷ Text (codes "(I[B)Ljava/lang/Object;") ∷ []))))
+    ∷ If 3 (TestExpr (Binary Equal (Variable (codes "m")) (Named Null)))
     (block
-    (PutJint 3 (Number 0 false)
+    (Plain 3 (PutJint (Number 0 false))
     ∷ [])
     3)
-    (block
-    (PutJint 3 (Number 1 false)
+    (ElseBlock (block
+    (Plain 3 (PutJint (Number 1 false))
     ∷ [])
-    3)
-    ∷ Return 4
+    3))
+    ∷ Return 4 None
     ∷ [])
     4
     ∷ native 5 (ReferenceResult JObject) (codes "Java_B_g") (int_parameter (codes "n") ∷ reference_parameter JByteArray (codes "a") ∷ [])
-    (ReturnValue 5 (Variable (codes "a"))
+    (Return 5 (Some (Variable (codes "a")))
     ∷ [])
     5
     ∷ [])
@@ -77,13 +78,13 @@ abbrev pub a_method_of_another_signature : SourceUnit
 a_method_of_another_signature =
     unit_of
     (native 1 Void (codes "Java_A_f") []
-    (Declare 2 JMethodId (codes "m") (FromExpr (Named Null))
-    ∷ Assign 3 (codes "m") (FromCall (call (codes "GetStaticMethodID") (given (codes "cls") ∷ Text (codes "g") ∷ Text (codes "(I)V") ∷ [])))
-    ∷ Return 4
+    (Plain 2 (Declare (Simple JMethodId) (codes "m") (FromExpr (Named Null)))
+    ∷ Plain 3 (Assign (codes "m") (FromCall (call (codes "GetStaticMethodID") (given (codes "cls") ∷ Text (codes "g") ∷ Text (codes "(I)V") ∷ []))))
+    ∷ Return 4 None
     ∷ [])
     4
     ∷ native 5 IntResult (codes "Java_A_g") (int_parameter (codes "n") ∷ [])
-    (ReturnValue 5 (Variable (codes "n"))
+    (Return 5 (Some (Variable (codes "n")))
     ∷ [])
     5
     ∷ [])
@@ -119,12 +120,12 @@ abbrev pub methods_in_a_world_without : SourceUnit
 methods_in_a_world_without =
     unit_of
     (native 1 Void (codes "Java_A_f") []
-    (Return 1
+    (Return 1 None
     ∷ [])
     1
     ∷ native 2 Void (codes "Java_A_g") []
-    (Declare 3 JMethodId (codes "m") (FromCall (call (codes "GetStaticMethodID") (given (codes "cls") ∷ Text (codes "f") ∷ Text (codes "()V") ∷ [])))
-    ∷ Return 4
+    (Plain 3 (Declare (Simple JMethodId) (codes "m") (FromCall (call (codes "GetStaticMethodID") (given (codes "cls") ∷ Text (codes "f") ∷ Text (codes "()V") ∷ []))))
+    ∷ Return 4 None
     ∷ [])
     4
     ∷ [])

@@ -2,7 +2,7 @@
 use Rattle.std.specs.Prelude.{◌∷◌, false, [], Some, None, codes, refl}
 use Rattle.syntax.specs.declared.declared_type.ReferenceType.TheVariants.{Object as JObject}
 use Rattle.syntax.specs.declared.unit.ResultType.TheVariants.{Void}
-use Rattle.syntax.specs.Tree.{Perform, Return, SourceUnit}
+use Rattle.syntax.specs.Tree.{Perform, Plain, Return, SourceUnit}
 use Rattle.semantics.specs.declared.schedule.ScheduleWord.TheVariants.{Turn}
 use Rattle.semantics.specs.World.{World}
 use Rattle.world_values.specs.WorldLines.{NamedObject, ClassLine, ObjectLine, ThreadLine, Lines}
@@ -23,11 +23,11 @@ abbrev pub a_monitor_that_is_entered_twice : SourceUnit
 a_monitor_that_is_entered_twice =
     unit_of
     (native 1 Void (codes "Java_A_f") (reference_parameter JObject (codes "o") ∷ [])
-    (Perform 2 (call (codes "MonitorEnter") (given (codes "o") ∷ []))
-    ∷ Perform 3 (call (codes "MonitorEnter") (given (codes "o") ∷ []))
-    ∷ Perform 4 (call (codes "MonitorExit") (given (codes "o") ∷ []))
-    ∷ Perform 5 (call (codes "MonitorExit") (given (codes "o") ∷ []))
-    ∷ Return 6
+    (Plain 2 (Perform (call (codes "MonitorEnter") (given (codes "o") ∷ [])))
+    ∷ Plain 3 (Perform (call (codes "MonitorEnter") (given (codes "o") ∷ [])))
+    ∷ Plain 4 (Perform (call (codes "MonitorExit") (given (codes "o") ∷ [])))
+    ∷ Plain 5 (Perform (call (codes "MonitorExit") (given (codes "o") ∷ [])))
+    ∷ Return 6 None
     ∷ [])
     6
     ∷ [])
@@ -62,8 +62,8 @@ abbrev pub a_monitor_that_is_not_owned : SourceUnit
 a_monitor_that_is_not_owned =
     unit_of
     (native 1 Void (codes "Java_A_f") (reference_parameter JObject (codes "o") ∷ [])
-    (Perform 1 (call (codes "MonitorExit") (given (codes "o") ∷ []))
-    ∷ Return 1
+    (Plain 1 (Perform (call (codes "MonitorExit") (given (codes "o") ∷ [])))
+    ∷ Return 1 None
     ∷ [])
     1
     ∷ [])
@@ -102,11 +102,11 @@ abbrev pub two_threads_that_wait_for_each_other : SourceUnit
 two_threads_that_wait_for_each_other =
     unit_of
     (native 1 Void (codes "Java_A_f") (reference_parameter JObject (codes "o") ∷ reference_parameter JObject (codes "p") ∷ [])
-    (Perform 2 (call (codes "MonitorEnter") (given (codes "o") ∷ []))
-    ∷ Perform 3 (call (codes "MonitorEnter") (given (codes "p") ∷ []))
-    ∷ Perform 4 (call (codes "MonitorExit") (given (codes "p") ∷ []))
-    ∷ Perform 5 (call (codes "MonitorExit") (given (codes "o") ∷ []))
-    ∷ Return 6
+    (Plain 2 (Perform (call (codes "MonitorEnter") (given (codes "o") ∷ [])))
+    ∷ Plain 3 (Perform (call (codes "MonitorEnter") (given (codes "p") ∷ [])))
+    ∷ Plain 4 (Perform (call (codes "MonitorExit") (given (codes "p") ∷ [])))
+    ∷ Plain 5 (Perform (call (codes "MonitorExit") (given (codes "o") ∷ [])))
+    ∷ Return 6 None
     ∷ [])
     6
     ∷ [])

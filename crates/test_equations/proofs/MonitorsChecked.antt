@@ -3,11 +3,12 @@ use Rattle.std.specs.Prelude.{◌∷◌, ◌++◌, true, false, [], Some, None, 
 use Rattle.base.specs.declared.element.ElementType.TheVariants.{Int as JInt}
 use Rattle.syntax.specs.declared.declared_type.ReferenceType.TheVariants.{Object as JObject, Class as JClass, String as JString, IntArray as JIntArray}
 use Rattle.syntax.specs.declared.declared_type.VariableType.TheVariants.{Jint as JIntVariable, Jboolean as JBoolean, Reference as ReferenceVariable}
+use Rattle.syntax.specs.declared.declared_type.DeclaredType.TheVariants.{Simple, Pointer, ConstChars}
 use Rattle.syntax.specs.declared.unit.ResultType.TheVariants.{Void}
 use Rattle.syntax.specs.declared.expr.Constant.TheVariants.{Null}
 use Rattle.syntax.specs.declared.expr.PrefixOp.TheVariants.{ToInt}
 use Rattle.syntax.specs.declared.expr.BinaryOp.TheVariants.{NotEqual}
-use Rattle.syntax.specs.Tree.{Number, Named, Variable, Prefix, Binary, Value, Text, FromCall, TestExpr, TestCall, Declare, DeclareBuffer, DeclareChars, Assign, Perform, PutJint, If, Return, SourceUnit}
+use Rattle.syntax.specs.Tree.{Number, Named, Variable, Prefix, Binary, Value, Text, FromCall, TestExpr, TestCall, Declare, Assign, Perform, PutJint, Plain, If, NoElse, Return, SourceUnit}
 use Rattle.type_rules.specs.declared.rule.TypeRule.TheVariants.{TypeMisfit, ArgumentCount}
 use Rattle.semantics.specs.declared.schedule.ScheduleWord.TheVariants.{Turn}
 use Rattle.semantics.specs.World.{World}
@@ -33,13 +34,13 @@ abbrev pub both_calls_give_zero_and_nothing_is_pending : SourceUnit
 both_calls_give_zero_and_nothing_is_pending =
     unit_of
     (native 1 Void (codes "Java_A_f") (reference_parameter JObject (codes "o") ∷ [])
-    (Declare 2 JIntVariable (codes "in") (FromCall (call (codes "MonitorEnter") (given (codes "o") ∷ [])))
-    ∷ PutJint 3 (Variable (codes "in"))
-    ∷ Declare 4 JIntVariable (codes "out") (FromCall (call (codes "MonitorExit") (given (codes "o") ∷ [])))
-    ∷ PutJint 5 (Variable (codes "out"))
-    ∷ Declare 6 JBoolean (codes "pending") (FromCall (call (codes "ExceptionCheck") []))
-    ∷ PutJint 7 (Prefix ToInt (Variable (codes "pending")))
-    ∷ Return 8
+    (Plain 2 (Declare (Simple JIntVariable) (codes "in") (FromCall (call (codes "MonitorEnter") (given (codes "o") ∷ []))))
+    ∷ Plain 3 (PutJint (Variable (codes "in")))
+    ∷ Plain 4 (Declare (Simple JIntVariable) (codes "out") (FromCall (call (codes "MonitorExit") (given (codes "o") ∷ []))))
+    ∷ Plain 5 (PutJint (Variable (codes "out")))
+    ∷ Plain 6 (Declare (Simple JBoolean) (codes "pending") (FromCall (call (codes "ExceptionCheck") [])))
+    ∷ Plain 7 (PutJint (Prefix ToInt (Variable (codes "pending"))))
+    ∷ Return 8 None
     ∷ [])
     9
     ∷ [])
@@ -79,11 +80,11 @@ abbrev pub the_exception_of_an_exit_is_pending : SourceUnit
 the_exception_of_an_exit_is_pending =
     unit_of
     (native 1 Void (codes "Java_A_f") (reference_parameter JObject (codes "o") ∷ [])
-    (Perform 2 (call (codes "MonitorEnter") (given (codes "o") ∷ []))
-    ∷ Perform 3 (call (codes "MonitorExit") (given (codes "o") ∷ []))
-    ∷ Declare 4 JIntVariable (codes "out") (FromCall (call (codes "MonitorExit") (given (codes "o") ∷ [])))
-    ∷ PutJint 5 (Variable (codes "out"))
-    ∷ Return 6
+    (Plain 2 (Perform (call (codes "MonitorEnter") (given (codes "o") ∷ [])))
+    ∷ Plain 3 (Perform (call (codes "MonitorExit") (given (codes "o") ∷ [])))
+    ∷ Plain 4 (Declare (Simple JIntVariable) (codes "out") (FromCall (call (codes "MonitorExit") (given (codes "o") ∷ []))))
+    ∷ Plain 5 (PutJint (Variable (codes "out")))
+    ∷ Return 6 None
     ∷ [])
     7
     ∷ [])
@@ -113,16 +114,16 @@ abbrev pub a_monitor_is_left_while_an_exception_is_pending : SourceUnit
 a_monitor_is_left_while_an_exception_is_pending =
     unit_of
     (native 1 Void (codes "Java_A_f") (reference_parameter JObject (codes "o") ∷ [])
-    (Perform 2 (call (codes "MonitorEnter") (given (codes "o") ∷ []))
-    ∷ Declare 3 (ReferenceVariable JClass) (codes "c") (FromCall (call (codes "FindClass") (Text (codes "B") ∷ [])))
-    ∷ Declare 4 JIntVariable (codes "out") (FromCall (call (codes "MonitorExit") (given (codes "o") ∷ [])))
-    ∷ PutJint 5 (Variable (codes "out"))
-    ∷ Return 6
+    (Plain 2 (Perform (call (codes "MonitorEnter") (given (codes "o") ∷ [])))
+    ∷ Plain 3 (Declare (Simple (ReferenceVariable JClass)) (codes "c") (FromCall (call (codes "FindClass") (Text (codes "B") ∷ []))))
+    ∷ Plain 4 (Declare (Simple JIntVariable) (codes "out") (FromCall (call (codes "MonitorExit") (given (codes "o") ∷ []))))
+    ∷ Plain 5 (PutJint (Variable (codes "out")))
+    ∷ Return 6 None
     ∷ [])
     7
     ∷ native 8 Void (codes "Java_A_g") (reference_parameter JObject (codes "o") ∷ [])
-    (Perform 9 (call (codes "MonitorEnter") (given (codes "o") ∷ []))
-    ∷ Return 10
+    (Plain 9 (Perform (call (codes "MonitorEnter") (given (codes "o") ∷ [])))
+    ∷ Return 10 None
     ∷ [])
     11
     ∷ [])
@@ -161,9 +162,9 @@ abbrev pub the_exception_of_an_exit_replaces_a_pending_one : SourceUnit
 the_exception_of_an_exit_replaces_a_pending_one =
     unit_of
     (native 1 Void (codes "Java_A_f") (reference_parameter JObject (codes "o") ∷ [])
-    (Declare 2 (ReferenceVariable JClass) (codes "c") (FromCall (call (codes "FindClass") (Text (codes "B") ∷ [])))
-    ∷ Perform 3 (call (codes "MonitorExit") (given (codes "o") ∷ []))
-    ∷ Return 4
+    (Plain 2 (Declare (Simple (ReferenceVariable JClass)) (codes "c") (FromCall (call (codes "FindClass") (Text (codes "B") ∷ []))))
+    ∷ Plain 3 (Perform (call (codes "MonitorExit") (given (codes "o") ∷ [])))
+    ∷ Return 4 None
     ∷ [])
     5
     ∷ [])
@@ -187,9 +188,9 @@ abbrev pub the_exception_of_an_exit_is_refused : SourceUnit
 the_exception_of_an_exit_is_refused =
     unit_of
     (native 1 Void (codes "Java_A_f") (reference_parameter JObject (codes "o") ∷ [])
-    (Declare 2 JIntVariable (codes "out") (FromCall (call (codes "MonitorExit") (given (codes "o") ∷ [])))
-    ∷ PutJint 3 (Variable (codes "out"))
-    ∷ Return 4
+    (Plain 2 (Declare (Simple JIntVariable) (codes "out") (FromCall (call (codes "MonitorExit") (given (codes "o") ∷ []))))
+    ∷ Plain 3 (PutJint (Variable (codes "out")))
+    ∷ Return 4 None
     ∷ [])
     5
     ∷ [])
@@ -212,9 +213,9 @@ abbrev pub an_exit_that_throws_nothing_has_nothing_to_refuse : SourceUnit
 an_exit_that_throws_nothing_has_nothing_to_refuse =
     unit_of
     (native 1 Void (codes "Java_A_f") (reference_parameter JObject (codes "o") ∷ [])
-    (Perform 2 (call (codes "MonitorEnter") (given (codes "o") ∷ []))
-    ∷ Perform 3 (call (codes "MonitorExit") (given (codes "o") ∷ []))
-    ∷ Return 4
+    (Plain 2 (Perform (call (codes "MonitorEnter") (given (codes "o") ∷ [])))
+    ∷ Plain 3 (Perform (call (codes "MonitorExit") (given (codes "o") ∷ [])))
+    ∷ Return 4 None
     ∷ [])
     5
     ∷ [])
@@ -266,8 +267,8 @@ abbrev pub a_monitor_of_null_is_left : SourceUnit
 a_monitor_of_null_is_left =
     unit_of
     (native 1 Void (codes "Java_A_f") (reference_parameter JObject (codes "o") ∷ [])
-    (Perform 2 (call (codes "MonitorExit") (given (codes "o") ∷ []))
-    ∷ Return 3
+    (Plain 2 (Perform (call (codes "MonitorExit") (given (codes "o") ∷ [])))
+    ∷ Return 3 None
     ∷ [])
     4
     ∷ [])
@@ -303,8 +304,8 @@ abbrev pub a_monitor_of_the_constant_null_is_entered : SourceUnit
 a_monitor_of_the_constant_null_is_entered =
     unit_of
     (native 1 Void (codes "Java_A_f") []
-    (Perform 2 (call (codes "MonitorEnter") (Value (Named Null) ∷ []))
-    ∷ Return 3
+    (Plain 2 (Perform (call (codes "MonitorEnter") (Value (Named Null) ∷ [])))
+    ∷ Return 3 None
     ∷ [])
     4
     ∷ [])
@@ -344,10 +345,10 @@ a_monitor_is_entered_by_a_deleted_global_reference =
     unit_of
     (static_reference 1 JObject (codes "g")
     ∷ native 2 Void (codes "Java_A_f") (reference_parameter JObject (codes "o") ∷ [])
-    (Assign 3 (codes "g") (FromCall (call (codes "NewGlobalRef") (given (codes "o") ∷ [])))
-    ∷ Perform 4 (call (codes "DeleteGlobalRef") (given (codes "g") ∷ []))
-    ∷ Perform 5 (call (codes "MonitorEnter") (given (codes "g") ∷ []))
-    ∷ Return 6
+    (Plain 3 (Assign (codes "g") (FromCall (call (codes "NewGlobalRef") (given (codes "o") ∷ []))))
+    ∷ Plain 4 (Perform (call (codes "DeleteGlobalRef") (given (codes "g") ∷ [])))
+    ∷ Plain 5 (Perform (call (codes "MonitorEnter") (given (codes "g") ∷ [])))
+    ∷ Return 6 None
     ∷ [])
     7
     ∷ [])
@@ -376,12 +377,12 @@ a_monitor_is_left_by_a_deleted_global_reference_while_an_exception_is_pending =
     unit_of
     (static_reference 1 JObject (codes "g")
     ∷ native 2 Void (codes "Java_A_f") (reference_parameter JObject (codes "o") ∷ [])
-    (Assign 3 (codes "g") (FromCall (call (codes "NewGlobalRef") (given (codes "o") ∷ [])))
-    ∷ Perform 4 (call (codes "MonitorEnter") (given (codes "g") ∷ []))
-    ∷ Perform 5 (call (codes "DeleteGlobalRef") (given (codes "g") ∷ []))
-    ∷ Declare 6 (ReferenceVariable JClass) (codes "c") (FromCall (call (codes "FindClass") (Text (codes "B") ∷ [])))
-    ∷ Perform 7 (call (codes "MonitorExit") (given (codes "g") ∷ []))
-    ∷ Return 8
+    (Plain 3 (Assign (codes "g") (FromCall (call (codes "NewGlobalRef") (given (codes "o") ∷ []))))
+    ∷ Plain 4 (Perform (call (codes "MonitorEnter") (given (codes "g") ∷ [])))
+    ∷ Plain 5 (Perform (call (codes "DeleteGlobalRef") (given (codes "g") ∷ [])))
+    ∷ Plain 6 (Declare (Simple (ReferenceVariable JClass)) (codes "c") (FromCall (call (codes "FindClass") (Text (codes "B") ∷ []))))
+    ∷ Plain 7 (Perform (call (codes "MonitorExit") (given (codes "g") ∷ [])))
+    ∷ Return 8 None
     ∷ [])
     9
     ∷ [])
@@ -409,11 +410,11 @@ a_monitor_is_entered_by_a_deleted_global_reference_while_an_exception_is_pending
     unit_of
     (static_reference 1 JObject (codes "g")
     ∷ native 2 Void (codes "Java_A_f") (reference_parameter JObject (codes "o") ∷ [])
-    (Assign 3 (codes "g") (FromCall (call (codes "NewGlobalRef") (given (codes "o") ∷ [])))
-    ∷ Perform 4 (call (codes "DeleteGlobalRef") (given (codes "g") ∷ []))
-    ∷ Declare 5 (ReferenceVariable JClass) (codes "c") (FromCall (call (codes "FindClass") (Text (codes "B") ∷ [])))
-    ∷ Perform 6 (call (codes "MonitorEnter") (given (codes "g") ∷ []))
-    ∷ Return 7
+    (Plain 3 (Assign (codes "g") (FromCall (call (codes "NewGlobalRef") (given (codes "o") ∷ []))))
+    ∷ Plain 4 (Perform (call (codes "DeleteGlobalRef") (given (codes "g") ∷ [])))
+    ∷ Plain 5 (Declare (Simple (ReferenceVariable JClass)) (codes "c") (FromCall (call (codes "FindClass") (Text (codes "B") ∷ []))))
+    ∷ Plain 6 (Perform (call (codes "MonitorEnter") (given (codes "g") ∷ [])))
+    ∷ Return 7 None
     ∷ [])
     8
     ∷ [])
@@ -441,14 +442,14 @@ abbrev pub a_thread_with_an_exception_pending_does_not_wait : SourceUnit
 a_thread_with_an_exception_pending_does_not_wait =
     unit_of
     (native 1 Void (codes "Java_A_f") (reference_parameter JObject (codes "o") ∷ [])
-    (Perform 2 (call (codes "MonitorEnter") (given (codes "o") ∷ []))
-    ∷ Return 3
+    (Plain 2 (Perform (call (codes "MonitorEnter") (given (codes "o") ∷ [])))
+    ∷ Return 3 None
     ∷ [])
     4
     ∷ native 5 Void (codes "Java_A_g") (reference_parameter JObject (codes "o") ∷ [])
-    (Declare 6 (ReferenceVariable JClass) (codes "c") (FromCall (call (codes "FindClass") (Text (codes "B") ∷ [])))
-    ∷ Perform 7 (call (codes "MonitorEnter") (given (codes "o") ∷ []))
-    ∷ Return 8
+    (Plain 6 (Declare (Simple (ReferenceVariable JClass)) (codes "c") (FromCall (call (codes "FindClass") (Text (codes "B") ∷ []))))
+    ∷ Plain 7 (Perform (call (codes "MonitorEnter") (given (codes "o") ∷ [])))
+    ∷ Return 8 None
     ∷ [])
     9
     ∷ [])
@@ -475,14 +476,15 @@ abbrev pub a_monitor_is_entered_while_a_buffer_is_critical : SourceUnit
 a_monitor_is_entered_while_a_buffer_is_critical =
     unit_of
     (native 1 Void (codes "Java_A_f") (reference_parameter JIntArray (codes "a") ∷ [])
-    (DeclareBuffer 2 JInt (codes "p") (FromCall (call (codes "GetPrimitiveArrayCritical") (given (codes "a") ∷ Value (Named Null) ∷ [])))
+    (Plain 2 (Declare (Pointer JInt) (codes "p") (FromCall (call (codes "GetPrimitiveArrayCritical") (given (codes "a") ∷ Value (Named Null) ∷ []))))
     ∷ If 3 (TestExpr (Binary NotEqual (Variable (codes "p")) (Named Null)))
     (block
-    (Perform 4 (call (codes "MonitorEnter") (given (codes "a") ∷ []))
-    ∷ Perform 5 (call (codes "ReleasePrimitiveArrayCritical") (given (codes "a") ∷ given (codes "p") ∷ Value (Number 0 false) ∷ []))
+    (Plain 4 (Perform (call (codes "MonitorEnter") (given (codes "a") ∷ [])))
+    ∷ Plain 5 (Perform (call (codes "ReleasePrimitiveArrayCritical") (given (codes "a") ∷ given (codes "p") ∷ Value (Number 0 false) ∷ [])))
     ∷ [])
     6)
-    ∷ Return 7
+    NoElse
+    ∷ Return 7 None
     ∷ [])
     8
     ∷ [])
@@ -504,14 +506,15 @@ abbrev pub a_monitor_is_left_while_a_buffer_is_critical : SourceUnit
 a_monitor_is_left_while_a_buffer_is_critical =
     unit_of
     (native 1 Void (codes "Java_A_f") (reference_parameter JString (codes "s") ∷ [])
-    (DeclareChars 2 (codes "p") (FromCall (call (codes "GetStringCritical") (given (codes "s") ∷ Value (Named Null) ∷ [])))
+    (Plain 2 (Declare ConstChars (codes "p") (FromCall (call (codes "GetStringCritical") (given (codes "s") ∷ Value (Named Null) ∷ []))))
     ∷ If 3 (TestExpr (Binary NotEqual (Variable (codes "p")) (Named Null)))
     (block
-    (Perform 4 (call (codes "MonitorExit") (given (codes "s") ∷ []))
-    ∷ Perform 5 (call (codes "ReleaseStringCritical") (given (codes "s") ∷ given (codes "p") ∷ []))
+    (Plain 4 (Perform (call (codes "MonitorExit") (given (codes "s") ∷ [])))
+    ∷ Plain 5 (Perform (call (codes "ReleaseStringCritical") (given (codes "s") ∷ given (codes "p") ∷ [])))
     ∷ [])
     6)
-    ∷ Return 7
+    NoElse
+    ∷ Return 7 None
     ∷ [])
     8
     ∷ [])
@@ -531,10 +534,10 @@ abbrev pub a_monitor_is_left_by_a_dead_reference : SourceUnit
 a_monitor_is_left_by_a_dead_reference =
     unit_of
     (native 1 Void (codes "Java_A_f") (reference_parameter JObject (codes "o") ∷ [])
-    (Perform 2 (call (codes "MonitorEnter") (given (codes "o") ∷ []))
-    ∷ Perform 3 (call (codes "DeleteLocalRef") (given (codes "o") ∷ []))
-    ∷ Perform 4 (call (codes "MonitorExit") (given (codes "o") ∷ []))
-    ∷ Return 5
+    (Plain 2 (Perform (call (codes "MonitorEnter") (given (codes "o") ∷ [])))
+    ∷ Plain 3 (Perform (call (codes "DeleteLocalRef") (given (codes "o") ∷ [])))
+    ∷ Plain 4 (Perform (call (codes "MonitorExit") (given (codes "o") ∷ [])))
+    ∷ Return 5 None
     ∷ [])
     6
     ∷ [])
@@ -552,8 +555,8 @@ abbrev pub the_answer_of_an_entry_is_no_flag : SourceUnit
 the_answer_of_an_entry_is_no_flag =
     unit_of
     (native 1 Void (codes "Java_A_f") (reference_parameter JObject (codes "o") ∷ [])
-    (Declare 2 JBoolean (codes "in") (FromCall (call (codes "MonitorEnter") (given (codes "o") ∷ [])))
-    ∷ Return 3
+    (Plain 2 (Declare (Simple JBoolean) (codes "in") (FromCall (call (codes "MonitorEnter") (given (codes "o") ∷ []))))
+    ∷ Return 3 None
     ∷ [])
     4
     ∷ [])
@@ -571,8 +574,8 @@ abbrev pub a_number_has_no_monitor : SourceUnit
 a_number_has_no_monitor =
     unit_of
     (native 1 Void (codes "Java_A_f") (int_parameter (codes "n") ∷ [])
-    (Perform 2 (call (codes "MonitorExit") (given (codes "n") ∷ []))
-    ∷ Return 3
+    (Plain 2 (Perform (call (codes "MonitorExit") (given (codes "n") ∷ [])))
+    ∷ Return 3 None
     ∷ [])
     4
     ∷ [])
@@ -594,10 +597,11 @@ an_entry_is_no_test =
     (native 1 Void (codes "Java_A_f") (reference_parameter JObject (codes "o") ∷ [])
     (If 2 (TestCall (call (codes "MonitorEnter") (given (codes "o") ∷ [])))
     (block
-    (Perform 3 (call (codes "MonitorExit") (given (codes "o") ∷ []))
+    (Plain 3 (Perform (call (codes "MonitorExit") (given (codes "o") ∷ [])))
     ∷ [])
     4)
-    ∷ Return 5
+    NoElse
+    ∷ Return 5 None
     ∷ [])
     6
     ∷ [])
@@ -615,8 +619,8 @@ abbrev pub a_monitor_is_left_of_two_objects : SourceUnit
 a_monitor_is_left_of_two_objects =
     unit_of
     (native 1 Void (codes "Java_A_f") (reference_parameter JObject (codes "o") ∷ [])
-    (Perform 2 (call (codes "MonitorExit") (given (codes "o") ∷ given (codes "cls") ∷ []))
-    ∷ Return 3
+    (Plain 2 (Perform (call (codes "MonitorExit") (given (codes "o") ∷ given (codes "cls") ∷ [])))
+    ∷ Return 3 None
     ∷ [])
     4
     ∷ [])

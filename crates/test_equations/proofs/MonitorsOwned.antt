@@ -2,8 +2,9 @@
 use Rattle.std.specs.Prelude.{◌∷◌, pos, false, [], Some, None, codes, refl}
 use Rattle.syntax.specs.declared.declared_type.ReferenceType.TheVariants.{Object as JObject, Class as JClass}
 use Rattle.syntax.specs.declared.declared_type.VariableType.TheVariants.{JfieldId as JFieldId, Reference as ReferenceVariable}
+use Rattle.syntax.specs.declared.declared_type.DeclaredType.TheVariants.{Simple}
 use Rattle.syntax.specs.declared.unit.ResultType.TheVariants.{Void}
-use Rattle.syntax.specs.Tree.{Variable, Text, FromCall, Declare, Assign, Perform, PutJint, Return, SourceUnit}
+use Rattle.syntax.specs.Tree.{Variable, Text, FromCall, Declare, Assign, Perform, PutJint, Plain, Return, SourceUnit}
 use Rattle.semantics.specs.declared.schedule.ScheduleWord.TheVariants.{Turn, Collect}
 use Rattle.semantics.specs.World.{World}
 use Rattle.world_values.specs.WorldLines.{NumberValue, NullValue, NamedObject, ClassLine, FieldLine, ObjectLine, ThreadLine, CallLine, Lines}
@@ -24,10 +25,10 @@ abbrev pub an_owned_object_to_which_no_reference_is_left : SourceUnit
 an_owned_object_to_which_no_reference_is_left =
     unit_of
     (native 1 Void (codes "Java_A_f") []
-    (Declare 2 (ReferenceVariable JObject) (codes "o") (FromCall (call (codes "AllocObject") (given (codes "cls") ∷ [])))
-    ∷ Perform 3 (call (codes "MonitorEnter") (given (codes "o") ∷ []))
-    ∷ Perform 4 (call (codes "DeleteLocalRef") (given (codes "o") ∷ []))
-    ∷ Return 5
+    (Plain 2 (Declare (Simple (ReferenceVariable JObject)) (codes "o") (FromCall (call (codes "AllocObject") (given (codes "cls") ∷ []))))
+    ∷ Plain 3 (Perform (call (codes "MonitorEnter") (given (codes "o") ∷ [])))
+    ∷ Plain 4 (Perform (call (codes "DeleteLocalRef") (given (codes "o") ∷ [])))
+    ∷ Return 5 None
     ∷ [])
     6
     ∷ [])
@@ -72,11 +73,11 @@ abbrev pub an_owned_object_that_was_left_as_often : SourceUnit
 an_owned_object_that_was_left_as_often =
     unit_of
     (native 1 Void (codes "Java_A_f") []
-    (Declare 2 (ReferenceVariable JObject) (codes "o") (FromCall (call (codes "AllocObject") (given (codes "cls") ∷ [])))
-    ∷ Perform 3 (call (codes "MonitorEnter") (given (codes "o") ∷ []))
-    ∷ Perform 4 (call (codes "MonitorExit") (given (codes "o") ∷ []))
-    ∷ Perform 5 (call (codes "DeleteLocalRef") (given (codes "o") ∷ []))
-    ∷ Return 6
+    (Plain 2 (Declare (Simple (ReferenceVariable JObject)) (codes "o") (FromCall (call (codes "AllocObject") (given (codes "cls") ∷ []))))
+    ∷ Plain 3 (Perform (call (codes "MonitorEnter") (given (codes "o") ∷ [])))
+    ∷ Plain 4 (Perform (call (codes "MonitorExit") (given (codes "o") ∷ [])))
+    ∷ Plain 5 (Perform (call (codes "DeleteLocalRef") (given (codes "o") ∷ [])))
+    ∷ Return 6 None
     ∷ [])
     7
     ∷ [])
@@ -105,14 +106,14 @@ abbrev pub what_an_owned_object_refers_to : SourceUnit
 what_an_owned_object_refers_to =
     unit_of
     (native 1 Void (codes "Java_A_f") []
-    (Declare 2 JFieldId (codes "next") (FromCall (call (codes "GetFieldID") (given (codes "cls") ∷ Text (codes "next") ∷ Text (codes "LA;") ∷ [])))
-    ∷ Declare 3 (ReferenceVariable JObject) (codes "o") (FromCall (call (codes "AllocObject") (given (codes "cls") ∷ [])))
-    ∷ Declare 4 (ReferenceVariable JObject) (codes "p") (FromCall (call (codes "AllocObject") (given (codes "cls") ∷ [])))
-    ∷ Perform 5 (call (codes "SetObjectField") (given (codes "o") ∷ given (codes "next") ∷ given (codes "p") ∷ []))
-    ∷ Perform 6 (call (codes "MonitorEnter") (given (codes "o") ∷ []))
-    ∷ Perform 7 (call (codes "DeleteLocalRef") (given (codes "o") ∷ []))
-    ∷ Perform 8 (call (codes "DeleteLocalRef") (given (codes "p") ∷ []))
-    ∷ Return 9
+    (Plain 2 (Declare (Simple JFieldId) (codes "next") (FromCall (call (codes "GetFieldID") (given (codes "cls") ∷ Text (codes "next") ∷ Text (codes "LA;") ∷ []))))
+    ∷ Plain 3 (Declare (Simple (ReferenceVariable JObject)) (codes "o") (FromCall (call (codes "AllocObject") (given (codes "cls") ∷ []))))
+    ∷ Plain 4 (Declare (Simple (ReferenceVariable JObject)) (codes "p") (FromCall (call (codes "AllocObject") (given (codes "cls") ∷ []))))
+    ∷ Plain 5 (Perform (call (codes "SetObjectField") (given (codes "o") ∷ given (codes "next") ∷ given (codes "p") ∷ [])))
+    ∷ Plain 6 (Perform (call (codes "MonitorEnter") (given (codes "o") ∷ [])))
+    ∷ Plain 7 (Perform (call (codes "DeleteLocalRef") (given (codes "o") ∷ [])))
+    ∷ Plain 8 (Perform (call (codes "DeleteLocalRef") (given (codes "p") ∷ [])))
+    ∷ Return 9 None
     ∷ [])
     10
     ∷ [])
@@ -151,10 +152,10 @@ abbrev pub the_objects_of_a_call_after_its_return : SourceUnit
 the_objects_of_a_call_after_its_return =
     unit_of
     (native 1 Void (codes "Java_A_f") []
-    (Declare 2 (ReferenceVariable JObject) (codes "dropped") (FromCall (call (codes "AllocObject") (given (codes "cls") ∷ [])))
-    ∷ Declare 3 (ReferenceVariable JObject) (codes "o") (FromCall (call (codes "AllocObject") (given (codes "cls") ∷ [])))
-    ∷ Perform 4 (call (codes "MonitorEnter") (given (codes "o") ∷ []))
-    ∷ Return 5
+    (Plain 2 (Declare (Simple (ReferenceVariable JObject)) (codes "dropped") (FromCall (call (codes "AllocObject") (given (codes "cls") ∷ []))))
+    ∷ Plain 3 (Declare (Simple (ReferenceVariable JObject)) (codes "o") (FromCall (call (codes "AllocObject") (given (codes "cls") ∷ []))))
+    ∷ Plain 4 (Perform (call (codes "MonitorEnter") (given (codes "o") ∷ [])))
+    ∷ Return 5 None
     ∷ [])
     6
     ∷ [])
@@ -194,11 +195,11 @@ abbrev pub monitors_that_are_left_in_the_order_in_which_they_were_entered : Sour
 monitors_that_are_left_in_the_order_in_which_they_were_entered =
     unit_of
     (native 1 Void (codes "Java_A_f") (reference_parameter JObject (codes "o") ∷ reference_parameter JObject (codes "p") ∷ [])
-    (Perform 2 (call (codes "MonitorEnter") (given (codes "o") ∷ []))
-    ∷ Perform 3 (call (codes "MonitorEnter") (given (codes "p") ∷ []))
-    ∷ Perform 4 (call (codes "MonitorExit") (given (codes "o") ∷ []))
-    ∷ Perform 5 (call (codes "MonitorExit") (given (codes "p") ∷ []))
-    ∷ Return 6
+    (Plain 2 (Perform (call (codes "MonitorEnter") (given (codes "o") ∷ [])))
+    ∷ Plain 3 (Perform (call (codes "MonitorEnter") (given (codes "p") ∷ [])))
+    ∷ Plain 4 (Perform (call (codes "MonitorExit") (given (codes "o") ∷ [])))
+    ∷ Plain 5 (Perform (call (codes "MonitorExit") (given (codes "p") ∷ [])))
+    ∷ Return 6 None
     ∷ [])
     7
     ∷ [])
@@ -245,17 +246,17 @@ abbrev pub all_monitors_of_a_thread_are_given_up_with_it_and_no_others : SourceU
 all_monitors_of_a_thread_are_given_up_with_it_and_no_others =
     unit_of
     (native 1 Void (codes "Java_A_f") (reference_parameter JObject (codes "o") ∷ reference_parameter JObject (codes "p") ∷ [])
-    (Perform 2 (call (codes "MonitorEnter") (given (codes "o") ∷ []))
-    ∷ Perform 3 (call (codes "MonitorEnter") (given (codes "p") ∷ []))
-    ∷ Perform 4 (call (codes "MonitorEnter") (given (codes "o") ∷ []))
-    ∷ Return 5
+    (Plain 2 (Perform (call (codes "MonitorEnter") (given (codes "o") ∷ [])))
+    ∷ Plain 3 (Perform (call (codes "MonitorEnter") (given (codes "p") ∷ [])))
+    ∷ Plain 4 (Perform (call (codes "MonitorEnter") (given (codes "o") ∷ [])))
+    ∷ Return 5 None
     ∷ [])
     6
     ∷ native 7 Void (codes "Java_A_g") (reference_parameter JObject (codes "o") ∷ reference_parameter JObject (codes "p") ∷ reference_parameter JObject (codes "q") ∷ [])
-    (Perform 8 (call (codes "MonitorEnter") (given (codes "o") ∷ []))
-    ∷ Perform 9 (call (codes "MonitorEnter") (given (codes "p") ∷ []))
-    ∷ Perform 10 (call (codes "MonitorEnter") (given (codes "q") ∷ []))
-    ∷ Return 11
+    (Plain 8 (Perform (call (codes "MonitorEnter") (given (codes "o") ∷ [])))
+    ∷ Plain 9 (Perform (call (codes "MonitorEnter") (given (codes "p") ∷ [])))
+    ∷ Plain 10 (Perform (call (codes "MonitorEnter") (given (codes "q") ∷ [])))
+    ∷ Return 11 None
     ∷ [])
     12
     ∷ [])
@@ -301,11 +302,11 @@ two_references_to_one_object =
     unit_of
     (static_reference 1 JObject (codes "g")
     ∷ native 2 Void (codes "Java_A_f") (reference_parameter JObject (codes "o") ∷ [])
-    (Assign 3 (codes "g") (FromCall (call (codes "NewGlobalRef") (given (codes "o") ∷ [])))
-    ∷ Perform 4 (call (codes "MonitorEnter") (given (codes "o") ∷ []))
-    ∷ Perform 5 (call (codes "MonitorExit") (given (codes "g") ∷ []))
-    ∷ Perform 6 (call (codes "MonitorExit") (given (codes "o") ∷ []))
-    ∷ Return 7
+    (Plain 3 (Assign (codes "g") (FromCall (call (codes "NewGlobalRef") (given (codes "o") ∷ []))))
+    ∷ Plain 4 (Perform (call (codes "MonitorEnter") (given (codes "o") ∷ [])))
+    ∷ Plain 5 (Perform (call (codes "MonitorExit") (given (codes "g") ∷ [])))
+    ∷ Plain 6 (Perform (call (codes "MonitorExit") (given (codes "o") ∷ [])))
+    ∷ Return 7 None
     ∷ [])
     8
     ∷ [])
@@ -346,13 +347,13 @@ abbrev pub the_monitor_of_a_class : SourceUnit
 the_monitor_of_a_class =
     unit_of
     (native 1 Void (codes "Java_A_f") []
-    (Perform 2 (call (codes "MonitorEnter") (given (codes "cls") ∷ []))
-    ∷ Return 3
+    (Plain 2 (Perform (call (codes "MonitorEnter") (given (codes "cls") ∷ [])))
+    ∷ Return 3 None
     ∷ [])
     4
     ∷ native 5 Void (codes "Java_B_f") []
-    (Perform 6 (call (codes "MonitorEnter") (given (codes "cls") ∷ []))
-    ∷ Return 7
+    (Plain 6 (Perform (call (codes "MonitorEnter") (given (codes "cls") ∷ [])))
+    ∷ Return 7 None
     ∷ [])
     8
     ∷ [])
@@ -393,10 +394,10 @@ abbrev pub of_two_threads_that_wait_the_later_one_enters_first : SourceUnit
 of_two_threads_that_wait_the_later_one_enters_first =
     unit_of
     (native 1 Void (codes "Java_A_f") (reference_parameter JObject (codes "o") ∷ int_parameter (codes "n") ∷ [])
-    (Perform 2 (call (codes "MonitorEnter") (given (codes "o") ∷ []))
-    ∷ PutJint 3 (Variable (codes "n"))
-    ∷ Perform 4 (call (codes "MonitorExit") (given (codes "o") ∷ []))
-    ∷ Return 5
+    (Plain 2 (Perform (call (codes "MonitorEnter") (given (codes "o") ∷ [])))
+    ∷ Plain 3 (PutJint (Variable (codes "n")))
+    ∷ Plain 4 (Perform (call (codes "MonitorExit") (given (codes "o") ∷ [])))
+    ∷ Return 5 None
     ∷ [])
     6
     ∷ [])
@@ -439,13 +440,13 @@ abbrev pub a_call_leaves_what_the_call_before_it_has_entered : SourceUnit
 a_call_leaves_what_the_call_before_it_has_entered =
     unit_of
     (native 1 Void (codes "Java_A_f") (reference_parameter JObject (codes "o") ∷ [])
-    (Perform 2 (call (codes "MonitorEnter") (given (codes "o") ∷ []))
-    ∷ Return 3
+    (Plain 2 (Perform (call (codes "MonitorEnter") (given (codes "o") ∷ [])))
+    ∷ Return 3 None
     ∷ [])
     4
     ∷ native 5 Void (codes "Java_A_g") (reference_parameter JObject (codes "o") ∷ [])
-    (Perform 6 (call (codes "MonitorExit") (given (codes "o") ∷ []))
-    ∷ Return 7
+    (Plain 6 (Perform (call (codes "MonitorExit") (given (codes "o") ∷ [])))
+    ∷ Return 7 None
     ∷ [])
     8
     ∷ [])
@@ -489,14 +490,14 @@ abbrev pub an_uncaught_exception_drops_the_calls_to_come_and_the_monitors : Sour
 an_uncaught_exception_drops_the_calls_to_come_and_the_monitors =
     unit_of
     (native 1 Void (codes "Java_A_f") (reference_parameter JObject (codes "o") ∷ [])
-    (Perform 2 (call (codes "MonitorEnter") (given (codes "o") ∷ []))
-    ∷ Declare 3 (ReferenceVariable JClass) (codes "c") (FromCall (call (codes "FindClass") (Text (codes "B") ∷ [])))
-    ∷ Return 4
+    (Plain 2 (Perform (call (codes "MonitorEnter") (given (codes "o") ∷ [])))
+    ∷ Plain 3 (Declare (Simple (ReferenceVariable JClass)) (codes "c") (FromCall (call (codes "FindClass") (Text (codes "B") ∷ []))))
+    ∷ Return 4 None
     ∷ [])
     5
     ∷ native 6 Void (codes "Java_A_g") (reference_parameter JObject (codes "o") ∷ [])
-    (Perform 7 (call (codes "MonitorEnter") (given (codes "o") ∷ []))
-    ∷ Return 8
+    (Plain 7 (Perform (call (codes "MonitorEnter") (given (codes "o") ∷ [])))
+    ∷ Return 8 None
     ∷ [])
     9
     ∷ [])
@@ -536,9 +537,9 @@ abbrev pub a_thread_that_trapped_keeps_its_monitors : SourceUnit
 a_thread_that_trapped_keeps_its_monitors =
     unit_of
     (native 1 Void (codes "Java_A_f") (reference_parameter JObject (codes "o") ∷ reference_parameter JObject (codes "p") ∷ [])
-    (Perform 2 (call (codes "MonitorEnter") (given (codes "o") ∷ []))
-    ∷ Perform 3 (call (codes "MonitorExit") (given (codes "p") ∷ []))
-    ∷ Return 4
+    (Plain 2 (Perform (call (codes "MonitorEnter") (given (codes "o") ∷ [])))
+    ∷ Plain 3 (Perform (call (codes "MonitorExit") (given (codes "p") ∷ [])))
+    ∷ Return 4 None
     ∷ [])
     5
     ∷ [])
@@ -578,9 +579,9 @@ abbrev pub three_threads_in_a_ring : SourceUnit
 three_threads_in_a_ring =
     unit_of
     (native 1 Void (codes "Java_A_f") (reference_parameter JObject (codes "o") ∷ reference_parameter JObject (codes "p") ∷ [])
-    (Perform 2 (call (codes "MonitorEnter") (given (codes "o") ∷ []))
-    ∷ Perform 3 (call (codes "MonitorEnter") (given (codes "p") ∷ []))
-    ∷ Return 4
+    (Plain 2 (Perform (call (codes "MonitorEnter") (given (codes "o") ∷ [])))
+    ∷ Plain 3 (Perform (call (codes "MonitorEnter") (given (codes "p") ∷ [])))
+    ∷ Return 4 None
     ∷ [])
     5
     ∷ [])

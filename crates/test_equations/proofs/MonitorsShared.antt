@@ -2,10 +2,11 @@
 use Rattle.std.specs.Prelude.{◌∷◌, pos, true, false, [], Some, None, codes, refl}
 use Rattle.syntax.specs.declared.declared_type.ReferenceType.TheVariants.{Object as JObject, Class as JClass}
 use Rattle.syntax.specs.declared.declared_type.VariableType.TheVariants.{Uint32 as UInt32, Jint as JIntVariable, Reference as ReferenceVariable}
+use Rattle.syntax.specs.declared.declared_type.DeclaredType.TheVariants.{Simple}
 use Rattle.syntax.specs.declared.unit.ResultType.TheVariants.{Void}
 use Rattle.syntax.specs.declared.expr.PrefixOp.TheVariants.{ToWord}
 use Rattle.syntax.specs.declared.expr.BinaryOp.TheVariants.{Divide}
-use Rattle.syntax.specs.Tree.{Number, Variable, Prefix, Binary, Text, FromExpr, FromCall, Declare, Perform, PutJint, Return, SourceUnit}
+use Rattle.syntax.specs.Tree.{Number, Variable, Prefix, Binary, Text, FromExpr, FromCall, Declare, Perform, PutJint, Plain, Return, SourceUnit}
 use Rattle.semantics.specs.declared.schedule.ScheduleWord.TheVariants.{Turn}
 use Rattle.semantics.specs.World.{World}
 use Rattle.world_values.specs.WorldLines.{NumberValue, NullValue, NamedObject, ClassLine, ObjectLine, ThreadLine, CallLine, Lines}
@@ -31,16 +32,16 @@ abbrev pub a_monitor_that_another_thread_owns : SourceUnit
 a_monitor_that_another_thread_owns =
     unit_of
     (native 1 Void (codes "Java_A_f") (reference_parameter JObject (codes "o") ∷ [])
-    (Declare 2 JIntVariable (codes "r") (FromCall (call (codes "MonitorEnter") (given (codes "o") ∷ [])))
-    ∷ PutJint 3 (Variable (codes "r"))
-    ∷ Return 4
+    (Plain 2 (Declare (Simple JIntVariable) (codes "r") (FromCall (call (codes "MonitorEnter") (given (codes "o") ∷ []))))
+    ∷ Plain 3 (PutJint (Variable (codes "r")))
+    ∷ Return 4 None
     ∷ [])
     5
     ∷ native 6 Void (codes "Java_A_g") (reference_parameter JObject (codes "o") ∷ [])
-    (Declare 7 JIntVariable (codes "r") (FromCall (call (codes "MonitorExit") (given (codes "o") ∷ [])))
-    ∷ Perform 8 (call (codes "ExceptionClear") [])
-    ∷ PutJint 9 (Variable (codes "r"))
-    ∷ Return 10
+    (Plain 7 (Declare (Simple JIntVariable) (codes "r") (FromCall (call (codes "MonitorExit") (given (codes "o") ∷ []))))
+    ∷ Plain 8 (Perform (call (codes "ExceptionClear") []))
+    ∷ Plain 9 (PutJint (Variable (codes "r")))
+    ∷ Return 10 None
     ∷ [])
     11
     ∷ [])
@@ -78,8 +79,8 @@ abbrev pub a_thread_that_ends_gives_up_its_monitors : SourceUnit
 a_thread_that_ends_gives_up_its_monitors =
     unit_of
     (native 1 Void (codes "Java_A_f") (reference_parameter JObject (codes "o") ∷ [])
-    (Perform 2 (call (codes "MonitorEnter") (given (codes "o") ∷ []))
-    ∷ Return 3
+    (Plain 2 (Perform (call (codes "MonitorEnter") (given (codes "o") ∷ [])))
+    ∷ Return 3 None
     ∷ [])
     4
     ∷ [])
@@ -140,9 +141,9 @@ abbrev pub an_uncaught_exception_gives_up_monitors : SourceUnit
 an_uncaught_exception_gives_up_monitors =
     unit_of
     (native 1 Void (codes "Java_A_f") (reference_parameter JObject (codes "o") ∷ [])
-    (Perform 2 (call (codes "MonitorEnter") (given (codes "o") ∷ []))
-    ∷ Declare 3 (ReferenceVariable JClass) (codes "c") (FromCall (call (codes "FindClass") (Text (codes "B") ∷ [])))
-    ∷ Return 4
+    (Plain 2 (Perform (call (codes "MonitorEnter") (given (codes "o") ∷ [])))
+    ∷ Plain 3 (Declare (Simple (ReferenceVariable JClass)) (codes "c") (FromCall (call (codes "FindClass") (Text (codes "B") ∷ []))))
+    ∷ Return 4 None
     ∷ [])
     5
     ∷ [])
@@ -166,9 +167,9 @@ abbrev pub a_monitor_of_null_does_not_wait : SourceUnit
 a_monitor_of_null_does_not_wait =
     unit_of
     (native 1 Void (codes "Java_A_f") (reference_parameter JObject (codes "o") ∷ [])
-    (Perform 2 (call (codes "MonitorEnter") (given (codes "cls") ∷ []))
-    ∷ Perform 3 (call (codes "MonitorEnter") (given (codes "o") ∷ []))
-    ∷ Return 4
+    (Plain 2 (Perform (call (codes "MonitorEnter") (given (codes "cls") ∷ [])))
+    ∷ Plain 3 (Perform (call (codes "MonitorEnter") (given (codes "o") ∷ [])))
+    ∷ Return 4 None
     ∷ [])
     5
     ∷ [])
@@ -206,9 +207,9 @@ abbrev pub threads_are_blocked_while_another_traps : SourceUnit
 threads_are_blocked_while_another_traps =
     unit_of
     (native 1 Void (codes "Java_A_f") (int_parameter (codes "n") ∷ [])
-    (Perform 2 (call (codes "MonitorEnter") (given (codes "cls") ∷ []))
-    ∷ Declare 3 UInt32 (codes "u") (FromExpr (Binary Divide (Number 1 true) (Prefix ToWord (Variable (codes "n")))))
-    ∷ Return 4
+    (Plain 2 (Perform (call (codes "MonitorEnter") (given (codes "cls") ∷ [])))
+    ∷ Plain 3 (Declare (Simple UInt32) (codes "u") (FromExpr (Binary Divide (Number 1 true) (Prefix ToWord (Variable (codes "n"))))))
+    ∷ Return 4 None
     ∷ [])
     5
     ∷ [])

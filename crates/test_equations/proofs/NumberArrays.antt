@@ -3,11 +3,12 @@ use Rattle.std.specs.Prelude.{◌∷◌, pos, false, [], Some, None, codes, refl
 use Rattle.base.specs.declared.element.ElementType.TheVariants.{Int as JInt, Short as JShort, Byte as JByte, Char as JChar}
 use Rattle.syntax.specs.declared.declared_type.ReferenceType.TheVariants.{IntArray as JIntArray, ShortArray as JShortArray, ByteArray as JByteArray, CharArray as JCharArray}
 use Rattle.syntax.specs.declared.declared_type.VariableType.TheVariants.{Jint as JIntVariable, Jboolean as JBoolean, Reference as ReferenceVariable}
+use Rattle.syntax.specs.declared.declared_type.DeclaredType.TheVariants.{Simple, Pointer}
 use Rattle.syntax.specs.declared.unit.ResultType.TheVariants.{Void}
 use Rattle.syntax.specs.declared.expr.Constant.TheVariants.{True, False, Commit, Abort, Null}
 use Rattle.syntax.specs.declared.expr.PrefixOp.TheVariants.{ToInt}
 use Rattle.syntax.specs.declared.expr.BinaryOp.TheVariants.{NotEqual}
-use Rattle.syntax.specs.Tree.{Number, Named, Variable, Element, Prefix, Binary, Value, AddressOf, FromExpr, FromCall, TestExpr, Declare, DeclareBuffer, DeclareArray, Assign, AssignElement, Perform, PutJint, If, Return, SourceUnit}
+use Rattle.syntax.specs.Tree.{Number, Named, Variable, Element, Prefix, Binary, Value, AddressOf, FromExpr, FromCall, TestExpr, Declare, DeclareArray, Assign, AssignElement, Perform, PutJint, Plain, If, NoElse, Return, SourceUnit}
 use Rattle.semantics.specs.declared.schedule.ScheduleWord.TheVariants.{Turn}
 use Rattle.semantics.specs.World.{World}
 use Rattle.world_values.specs.WorldLines.{NumberValue, NamedObject, ClassLine, ArrayLine, ThreadLine, Lines}
@@ -34,16 +35,16 @@ abbrev pub an_array_of_jshort_by_regions : SourceUnit
 an_array_of_jshort_by_regions =
     unit_of
     (native 1 Void (codes "Java_A_f") []
-    (Declare 2 (ReferenceVariable JShortArray) (codes "a") (FromCall (call (codes "NewShortArray") (Value (Number 3 false) ∷ [])))
-    ∷ DeclareArray 3 JShort (codes "x") 2
-    ∷ AssignElement 4 (codes "x") (Number 0 false) (Number 40000 false)
-    ∷ AssignElement 5 (codes "x") (Number 1 false) (Number 5 false)
-    ∷ Perform 6 (call (codes "SetShortArrayRegion") (given (codes "a") ∷ Value (Number 1 false) ∷ Value (Number 2 false) ∷ given (codes "x") ∷ []))
-    ∷ DeclareArray 7 JShort (codes "y") 3
-    ∷ Perform 8 (call (codes "GetShortArrayRegion") (given (codes "a") ∷ Value (Number 0 false) ∷ Value (Number 2 false) ∷ given (codes "y") ∷ []))
-    ∷ PutJint 9 (Element (codes "y") (Number 1 false))
-    ∷ PutJint 10 (Element (codes "y") (Number 2 false))
-    ∷ Return 11
+    (Plain 2 (Declare (Simple (ReferenceVariable JShortArray)) (codes "a") (FromCall (call (codes "NewShortArray") (Value (Number 3 false) ∷ []))))
+    ∷ Plain 3 (DeclareArray JShort (codes "x") 2)
+    ∷ Plain 4 (AssignElement (codes "x") (Number 0 false) (Number 40000 false))
+    ∷ Plain 5 (AssignElement (codes "x") (Number 1 false) (Number 5 false))
+    ∷ Plain 6 (Perform (call (codes "SetShortArrayRegion") (given (codes "a") ∷ Value (Number 1 false) ∷ Value (Number 2 false) ∷ given (codes "x") ∷ [])))
+    ∷ Plain 7 (DeclareArray JShort (codes "y") 3)
+    ∷ Plain 8 (Perform (call (codes "GetShortArrayRegion") (given (codes "a") ∷ Value (Number 0 false) ∷ Value (Number 2 false) ∷ given (codes "y") ∷ [])))
+    ∷ Plain 9 (PutJint (Element (codes "y") (Number 1 false)))
+    ∷ Plain 10 (PutJint (Element (codes "y") (Number 2 false)))
+    ∷ Return 11 None
     ∷ [])
     12
     ∷ [])
@@ -90,26 +91,28 @@ abbrev pub an_array_of_jshort_by_its_elements : SourceUnit
 an_array_of_jshort_by_its_elements =
     unit_of
     (native 1 Void (codes "Java_A_f") (reference_parameter JShortArray (codes "a") ∷ [])
-    (Declare 2 JBoolean (codes "copied") (FromExpr (Named False))
-    ∷ DeclareBuffer 3 JShort (codes "p") (FromCall (call (codes "GetShortArrayElements") (given (codes "a") ∷ AddressOf (codes "copied") ∷ [])))
+    (Plain 2 (Declare (Simple JBoolean) (codes "copied") (FromExpr (Named False)))
+    ∷ Plain 3 (Declare (Pointer JShort) (codes "p") (FromCall (call (codes "GetShortArrayElements") (given (codes "a") ∷ AddressOf (codes "copied") ∷ []))))
     ∷ If 4 (TestExpr (Binary NotEqual (Variable (codes "p")) (Named Null)))
     (block
-    (PutJint 5 (Prefix ToInt (Variable (codes "copied")))
-    ∷ AssignElement 6 (codes "p") (Number 1 false) (Number 40000 false)
-    ∷ Perform 7 (call (codes "ReleaseShortArrayElements") (given (codes "a") ∷ given (codes "p") ∷ Value (Named Commit) ∷ []))
-    ∷ AssignElement 8 (codes "p") (Number 0 false) (Number 5 false)
-    ∷ PutJint 9 (Element (codes "p") (Number 1 false))
-    ∷ Perform 10 (call (codes "ReleaseShortArrayElements") (given (codes "a") ∷ given (codes "p") ∷ Value (Number 0 false) ∷ []))
+    (Plain 5 (PutJint (Prefix ToInt (Variable (codes "copied"))))
+    ∷ Plain 6 (AssignElement (codes "p") (Number 1 false) (Number 40000 false))
+    ∷ Plain 7 (Perform (call (codes "ReleaseShortArrayElements") (given (codes "a") ∷ given (codes "p") ∷ Value (Named Commit) ∷ [])))
+    ∷ Plain 8 (AssignElement (codes "p") (Number 0 false) (Number 5 false))
+    ∷ Plain 9 (PutJint (Element (codes "p") (Number 1 false)))
+    ∷ Plain 10 (Perform (call (codes "ReleaseShortArrayElements") (given (codes "a") ∷ given (codes "p") ∷ Value (Number 0 false) ∷ [])))
     ∷ [])
     11)
-    ∷ Assign 12 (codes "p") (FromCall (call (codes "GetShortArrayElements") (given (codes "a") ∷ Value (Named Null) ∷ [])))
+    NoElse
+    ∷ Plain 12 (Assign (codes "p") (FromCall (call (codes "GetShortArrayElements") (given (codes "a") ∷ Value (Named Null) ∷ []))))
     ∷ If 13 (TestExpr (Binary NotEqual (Variable (codes "p")) (Named Null)))
     (block
-    (AssignElement 13 (codes "p") (Number 1 false) (Number 9 false)
-    ∷ Perform 13 (call (codes "ReleaseShortArrayElements") (given (codes "a") ∷ given (codes "p") ∷ Value (Named Abort) ∷ []))
+    (Plain 13 (AssignElement (codes "p") (Number 1 false) (Number 9 false))
+    ∷ Plain 13 (Perform (call (codes "ReleaseShortArrayElements") (given (codes "a") ∷ given (codes "p") ∷ Value (Named Abort) ∷ [])))
     ∷ [])
     13)
-    ∷ Return 14
+    NoElse
+    ∷ Return 14 None
     ∷ [])
     15
     ∷ [])
@@ -154,18 +157,19 @@ abbrev pub a_view_of_an_array_of_jshort : SourceUnit
 a_view_of_an_array_of_jshort =
     unit_of
     (native 1 Void (codes "Java_A_f") (reference_parameter JShortArray (codes "a") ∷ [])
-    (Declare 2 JBoolean (codes "copied") (FromExpr (Named True))
-    ∷ DeclareBuffer 3 JShort (codes "p") (FromCall (call (codes "GetPrimitiveArrayCritical") (given (codes "a") ∷ AddressOf (codes "copied") ∷ [])))
+    (Plain 2 (Declare (Simple JBoolean) (codes "copied") (FromExpr (Named True)))
+    ∷ Plain 3 (Declare (Pointer JShort) (codes "p") (FromCall (call (codes "GetPrimitiveArrayCritical") (given (codes "a") ∷ AddressOf (codes "copied") ∷ []))))
     ∷ If 4 (TestExpr (Binary NotEqual (Variable (codes "p")) (Named Null)))
     (block
-    (AssignElement 5 (codes "p") (Number 0 false) (Number 40000 false)
-    ∷ Declare 6 JIntVariable (codes "n") (FromExpr (Element (codes "p") (Number 0 false)))
-    ∷ Perform 7 (call (codes "ReleasePrimitiveArrayCritical") (given (codes "a") ∷ given (codes "p") ∷ Value (Named Abort) ∷ []))
-    ∷ PutJint 8 (Variable (codes "n"))
-    ∷ PutJint 9 (Prefix ToInt (Variable (codes "copied")))
+    (Plain 5 (AssignElement (codes "p") (Number 0 false) (Number 40000 false))
+    ∷ Plain 6 (Declare (Simple JIntVariable) (codes "n") (FromExpr (Element (codes "p") (Number 0 false))))
+    ∷ Plain 7 (Perform (call (codes "ReleasePrimitiveArrayCritical") (given (codes "a") ∷ given (codes "p") ∷ Value (Named Abort) ∷ [])))
+    ∷ Plain 8 (PutJint (Variable (codes "n")))
+    ∷ Plain 9 (PutJint (Prefix ToInt (Variable (codes "copied"))))
     ∷ [])
     10)
-    ∷ Return 11
+    NoElse
+    ∷ Return 11 None
     ∷ [])
     12
     ∷ [])
@@ -196,16 +200,16 @@ abbrev pub an_array_of_jbyte_by_regions : SourceUnit
 an_array_of_jbyte_by_regions =
     unit_of
     (native 1 Void (codes "Java_A_f") []
-    (Declare 2 (ReferenceVariable JByteArray) (codes "a") (FromCall (call (codes "NewByteArray") (Value (Number 3 false) ∷ [])))
-    ∷ DeclareArray 3 JByte (codes "x") 2
-    ∷ AssignElement 4 (codes "x") (Number 0 false) (Number 129 false)
-    ∷ AssignElement 5 (codes "x") (Number 1 false) (Number 6 false)
-    ∷ Perform 6 (call (codes "SetByteArrayRegion") (given (codes "a") ∷ Value (Number 1 false) ∷ Value (Number 2 false) ∷ given (codes "x") ∷ []))
-    ∷ DeclareArray 7 JByte (codes "y") 3
-    ∷ Perform 8 (call (codes "GetByteArrayRegion") (given (codes "a") ∷ Value (Number 0 false) ∷ Value (Number 2 false) ∷ given (codes "y") ∷ []))
-    ∷ PutJint 9 (Element (codes "y") (Number 1 false))
-    ∷ PutJint 10 (Element (codes "y") (Number 2 false))
-    ∷ Return 11
+    (Plain 2 (Declare (Simple (ReferenceVariable JByteArray)) (codes "a") (FromCall (call (codes "NewByteArray") (Value (Number 3 false) ∷ []))))
+    ∷ Plain 3 (DeclareArray JByte (codes "x") 2)
+    ∷ Plain 4 (AssignElement (codes "x") (Number 0 false) (Number 129 false))
+    ∷ Plain 5 (AssignElement (codes "x") (Number 1 false) (Number 6 false))
+    ∷ Plain 6 (Perform (call (codes "SetByteArrayRegion") (given (codes "a") ∷ Value (Number 1 false) ∷ Value (Number 2 false) ∷ given (codes "x") ∷ [])))
+    ∷ Plain 7 (DeclareArray JByte (codes "y") 3)
+    ∷ Plain 8 (Perform (call (codes "GetByteArrayRegion") (given (codes "a") ∷ Value (Number 0 false) ∷ Value (Number 2 false) ∷ given (codes "y") ∷ [])))
+    ∷ Plain 9 (PutJint (Element (codes "y") (Number 1 false)))
+    ∷ Plain 10 (PutJint (Element (codes "y") (Number 2 false)))
+    ∷ Return 11 None
     ∷ [])
     12
     ∷ [])
@@ -239,26 +243,28 @@ abbrev pub an_array_of_jbyte_by_its_elements : SourceUnit
 an_array_of_jbyte_by_its_elements =
     unit_of
     (native 1 Void (codes "Java_A_f") (reference_parameter JByteArray (codes "a") ∷ [])
-    (Declare 2 JBoolean (codes "copied") (FromExpr (Named False))
-    ∷ DeclareBuffer 3 JByte (codes "p") (FromCall (call (codes "GetByteArrayElements") (given (codes "a") ∷ AddressOf (codes "copied") ∷ [])))
+    (Plain 2 (Declare (Simple JBoolean) (codes "copied") (FromExpr (Named False)))
+    ∷ Plain 3 (Declare (Pointer JByte) (codes "p") (FromCall (call (codes "GetByteArrayElements") (given (codes "a") ∷ AddressOf (codes "copied") ∷ []))))
     ∷ If 4 (TestExpr (Binary NotEqual (Variable (codes "p")) (Named Null)))
     (block
-    (PutJint 5 (Prefix ToInt (Variable (codes "copied")))
-    ∷ AssignElement 6 (codes "p") (Number 1 false) (Number 129 false)
-    ∷ Perform 7 (call (codes "ReleaseByteArrayElements") (given (codes "a") ∷ given (codes "p") ∷ Value (Named Commit) ∷ []))
-    ∷ AssignElement 8 (codes "p") (Number 0 false) (Number 6 false)
-    ∷ PutJint 9 (Element (codes "p") (Number 1 false))
-    ∷ Perform 10 (call (codes "ReleaseByteArrayElements") (given (codes "a") ∷ given (codes "p") ∷ Value (Number 0 false) ∷ []))
+    (Plain 5 (PutJint (Prefix ToInt (Variable (codes "copied"))))
+    ∷ Plain 6 (AssignElement (codes "p") (Number 1 false) (Number 129 false))
+    ∷ Plain 7 (Perform (call (codes "ReleaseByteArrayElements") (given (codes "a") ∷ given (codes "p") ∷ Value (Named Commit) ∷ [])))
+    ∷ Plain 8 (AssignElement (codes "p") (Number 0 false) (Number 6 false))
+    ∷ Plain 9 (PutJint (Element (codes "p") (Number 1 false)))
+    ∷ Plain 10 (Perform (call (codes "ReleaseByteArrayElements") (given (codes "a") ∷ given (codes "p") ∷ Value (Number 0 false) ∷ [])))
     ∷ [])
     11)
-    ∷ Assign 12 (codes "p") (FromCall (call (codes "GetByteArrayElements") (given (codes "a") ∷ Value (Named Null) ∷ [])))
+    NoElse
+    ∷ Plain 12 (Assign (codes "p") (FromCall (call (codes "GetByteArrayElements") (given (codes "a") ∷ Value (Named Null) ∷ []))))
     ∷ If 13 (TestExpr (Binary NotEqual (Variable (codes "p")) (Named Null)))
     (block
-    (AssignElement 13 (codes "p") (Number 1 false) (Number 9 false)
-    ∷ Perform 13 (call (codes "ReleaseByteArrayElements") (given (codes "a") ∷ given (codes "p") ∷ Value (Named Abort) ∷ []))
+    (Plain 13 (AssignElement (codes "p") (Number 1 false) (Number 9 false))
+    ∷ Plain 13 (Perform (call (codes "ReleaseByteArrayElements") (given (codes "a") ∷ given (codes "p") ∷ Value (Named Abort) ∷ [])))
     ∷ [])
     13)
-    ∷ Return 14
+    NoElse
+    ∷ Return 14 None
     ∷ [])
     15
     ∷ [])
@@ -303,18 +309,19 @@ abbrev pub a_view_of_an_array_of_jbyte : SourceUnit
 a_view_of_an_array_of_jbyte =
     unit_of
     (native 1 Void (codes "Java_A_f") (reference_parameter JByteArray (codes "a") ∷ [])
-    (Declare 2 JBoolean (codes "copied") (FromExpr (Named True))
-    ∷ DeclareBuffer 3 JByte (codes "p") (FromCall (call (codes "GetPrimitiveArrayCritical") (given (codes "a") ∷ AddressOf (codes "copied") ∷ [])))
+    (Plain 2 (Declare (Simple JBoolean) (codes "copied") (FromExpr (Named True)))
+    ∷ Plain 3 (Declare (Pointer JByte) (codes "p") (FromCall (call (codes "GetPrimitiveArrayCritical") (given (codes "a") ∷ AddressOf (codes "copied") ∷ []))))
     ∷ If 4 (TestExpr (Binary NotEqual (Variable (codes "p")) (Named Null)))
     (block
-    (AssignElement 5 (codes "p") (Number 0 false) (Number 129 false)
-    ∷ Declare 6 JIntVariable (codes "n") (FromExpr (Element (codes "p") (Number 0 false)))
-    ∷ Perform 7 (call (codes "ReleasePrimitiveArrayCritical") (given (codes "a") ∷ given (codes "p") ∷ Value (Named Abort) ∷ []))
-    ∷ PutJint 8 (Variable (codes "n"))
-    ∷ PutJint 9 (Prefix ToInt (Variable (codes "copied")))
+    (Plain 5 (AssignElement (codes "p") (Number 0 false) (Number 129 false))
+    ∷ Plain 6 (Declare (Simple JIntVariable) (codes "n") (FromExpr (Element (codes "p") (Number 0 false))))
+    ∷ Plain 7 (Perform (call (codes "ReleasePrimitiveArrayCritical") (given (codes "a") ∷ given (codes "p") ∷ Value (Named Abort) ∷ [])))
+    ∷ Plain 8 (PutJint (Variable (codes "n")))
+    ∷ Plain 9 (PutJint (Prefix ToInt (Variable (codes "copied"))))
     ∷ [])
     10)
-    ∷ Return 11
+    NoElse
+    ∷ Return 11 None
     ∷ [])
     12
     ∷ [])
@@ -345,16 +352,16 @@ abbrev pub an_array_of_jchar_by_regions : SourceUnit
 an_array_of_jchar_by_regions =
     unit_of
     (native 1 Void (codes "Java_A_f") []
-    (Declare 2 (ReferenceVariable JCharArray) (codes "a") (FromCall (call (codes "NewCharArray") (Value (Number 3 false) ∷ [])))
-    ∷ DeclareArray 3 JChar (codes "x") 2
-    ∷ AssignElement 4 (codes "x") (Number 0 false) (Number 65535 false)
-    ∷ AssignElement 5 (codes "x") (Number 1 false) (Number 7 false)
-    ∷ Perform 6 (call (codes "SetCharArrayRegion") (given (codes "a") ∷ Value (Number 1 false) ∷ Value (Number 2 false) ∷ given (codes "x") ∷ []))
-    ∷ DeclareArray 7 JChar (codes "y") 3
-    ∷ Perform 8 (call (codes "GetCharArrayRegion") (given (codes "a") ∷ Value (Number 0 false) ∷ Value (Number 2 false) ∷ given (codes "y") ∷ []))
-    ∷ PutJint 9 (Element (codes "y") (Number 1 false))
-    ∷ PutJint 10 (Element (codes "y") (Number 2 false))
-    ∷ Return 11
+    (Plain 2 (Declare (Simple (ReferenceVariable JCharArray)) (codes "a") (FromCall (call (codes "NewCharArray") (Value (Number 3 false) ∷ []))))
+    ∷ Plain 3 (DeclareArray JChar (codes "x") 2)
+    ∷ Plain 4 (AssignElement (codes "x") (Number 0 false) (Number 65535 false))
+    ∷ Plain 5 (AssignElement (codes "x") (Number 1 false) (Number 7 false))
+    ∷ Plain 6 (Perform (call (codes "SetCharArrayRegion") (given (codes "a") ∷ Value (Number 1 false) ∷ Value (Number 2 false) ∷ given (codes "x") ∷ [])))
+    ∷ Plain 7 (DeclareArray JChar (codes "y") 3)
+    ∷ Plain 8 (Perform (call (codes "GetCharArrayRegion") (given (codes "a") ∷ Value (Number 0 false) ∷ Value (Number 2 false) ∷ given (codes "y") ∷ [])))
+    ∷ Plain 9 (PutJint (Element (codes "y") (Number 1 false)))
+    ∷ Plain 10 (PutJint (Element (codes "y") (Number 2 false)))
+    ∷ Return 11 None
     ∷ [])
     12
     ∷ [])
@@ -388,26 +395,28 @@ abbrev pub an_array_of_jchar_by_its_elements : SourceUnit
 an_array_of_jchar_by_its_elements =
     unit_of
     (native 1 Void (codes "Java_A_f") (reference_parameter JCharArray (codes "a") ∷ [])
-    (Declare 2 JBoolean (codes "copied") (FromExpr (Named False))
-    ∷ DeclareBuffer 3 JChar (codes "p") (FromCall (call (codes "GetCharArrayElements") (given (codes "a") ∷ AddressOf (codes "copied") ∷ [])))
+    (Plain 2 (Declare (Simple JBoolean) (codes "copied") (FromExpr (Named False)))
+    ∷ Plain 3 (Declare (Pointer JChar) (codes "p") (FromCall (call (codes "GetCharArrayElements") (given (codes "a") ∷ AddressOf (codes "copied") ∷ []))))
     ∷ If 4 (TestExpr (Binary NotEqual (Variable (codes "p")) (Named Null)))
     (block
-    (PutJint 5 (Prefix ToInt (Variable (codes "copied")))
-    ∷ AssignElement 6 (codes "p") (Number 1 false) (Number 65535 false)
-    ∷ Perform 7 (call (codes "ReleaseCharArrayElements") (given (codes "a") ∷ given (codes "p") ∷ Value (Named Commit) ∷ []))
-    ∷ AssignElement 8 (codes "p") (Number 0 false) (Number 7 false)
-    ∷ PutJint 9 (Element (codes "p") (Number 1 false))
-    ∷ Perform 10 (call (codes "ReleaseCharArrayElements") (given (codes "a") ∷ given (codes "p") ∷ Value (Number 0 false) ∷ []))
+    (Plain 5 (PutJint (Prefix ToInt (Variable (codes "copied"))))
+    ∷ Plain 6 (AssignElement (codes "p") (Number 1 false) (Number 65535 false))
+    ∷ Plain 7 (Perform (call (codes "ReleaseCharArrayElements") (given (codes "a") ∷ given (codes "p") ∷ Value (Named Commit) ∷ [])))
+    ∷ Plain 8 (AssignElement (codes "p") (Number 0 false) (Number 7 false))
+    ∷ Plain 9 (PutJint (Element (codes "p") (Number 1 false)))
+    ∷ Plain 10 (Perform (call (codes "ReleaseCharArrayElements") (given (codes "a") ∷ given (codes "p") ∷ Value (Number 0 false) ∷ [])))
     ∷ [])
     11)
-    ∷ Assign 12 (codes "p") (FromCall (call (codes "GetCharArrayElements") (given (codes "a") ∷ Value (Named Null) ∷ [])))
+    NoElse
+    ∷ Plain 12 (Assign (codes "p") (FromCall (call (codes "GetCharArrayElements") (given (codes "a") ∷ Value (Named Null) ∷ []))))
     ∷ If 13 (TestExpr (Binary NotEqual (Variable (codes "p")) (Named Null)))
     (block
-    (AssignElement 13 (codes "p") (Number 1 false) (Number 9 false)
-    ∷ Perform 13 (call (codes "ReleaseCharArrayElements") (given (codes "a") ∷ given (codes "p") ∷ Value (Named Abort) ∷ []))
+    (Plain 13 (AssignElement (codes "p") (Number 1 false) (Number 9 false))
+    ∷ Plain 13 (Perform (call (codes "ReleaseCharArrayElements") (given (codes "a") ∷ given (codes "p") ∷ Value (Named Abort) ∷ [])))
     ∷ [])
     13)
-    ∷ Return 14
+    NoElse
+    ∷ Return 14 None
     ∷ [])
     15
     ∷ [])
@@ -452,18 +461,19 @@ abbrev pub a_view_of_an_array_of_jchar : SourceUnit
 a_view_of_an_array_of_jchar =
     unit_of
     (native 1 Void (codes "Java_A_f") (reference_parameter JCharArray (codes "a") ∷ [])
-    (Declare 2 JBoolean (codes "copied") (FromExpr (Named True))
-    ∷ DeclareBuffer 3 JChar (codes "p") (FromCall (call (codes "GetPrimitiveArrayCritical") (given (codes "a") ∷ AddressOf (codes "copied") ∷ [])))
+    (Plain 2 (Declare (Simple JBoolean) (codes "copied") (FromExpr (Named True)))
+    ∷ Plain 3 (Declare (Pointer JChar) (codes "p") (FromCall (call (codes "GetPrimitiveArrayCritical") (given (codes "a") ∷ AddressOf (codes "copied") ∷ []))))
     ∷ If 4 (TestExpr (Binary NotEqual (Variable (codes "p")) (Named Null)))
     (block
-    (AssignElement 5 (codes "p") (Number 0 false) (Number 65535 false)
-    ∷ Declare 6 JIntVariable (codes "n") (FromExpr (Element (codes "p") (Number 0 false)))
-    ∷ Perform 7 (call (codes "ReleasePrimitiveArrayCritical") (given (codes "a") ∷ given (codes "p") ∷ Value (Named Abort) ∷ []))
-    ∷ PutJint 8 (Variable (codes "n"))
-    ∷ PutJint 9 (Prefix ToInt (Variable (codes "copied")))
+    (Plain 5 (AssignElement (codes "p") (Number 0 false) (Number 65535 false))
+    ∷ Plain 6 (Declare (Simple JIntVariable) (codes "n") (FromExpr (Element (codes "p") (Number 0 false))))
+    ∷ Plain 7 (Perform (call (codes "ReleasePrimitiveArrayCritical") (given (codes "a") ∷ given (codes "p") ∷ Value (Named Abort) ∷ [])))
+    ∷ Plain 8 (PutJint (Variable (codes "n")))
+    ∷ Plain 9 (PutJint (Prefix ToInt (Variable (codes "copied"))))
     ∷ [])
     10)
-    ∷ Return 11
+    NoElse
+    ∷ Return 11 None
     ∷ [])
     12
     ∷ [])
@@ -494,16 +504,16 @@ abbrev pub an_array_of_jint_by_regions : SourceUnit
 an_array_of_jint_by_regions =
     unit_of
     (native 1 Void (codes "Java_A_f") []
-    (Declare 2 (ReferenceVariable JIntArray) (codes "a") (FromCall (call (codes "NewIntArray") (Value (Number 3 false) ∷ [])))
-    ∷ DeclareArray 3 JInt (codes "x") 2
-    ∷ AssignElement 4 (codes "x") (Number 0 false) (Number 70000 false)
-    ∷ AssignElement 5 (codes "x") (Number 1 false) (Number 8 false)
-    ∷ Perform 6 (call (codes "SetIntArrayRegion") (given (codes "a") ∷ Value (Number 1 false) ∷ Value (Number 2 false) ∷ given (codes "x") ∷ []))
-    ∷ DeclareArray 7 JInt (codes "y") 3
-    ∷ Perform 8 (call (codes "GetIntArrayRegion") (given (codes "a") ∷ Value (Number 0 false) ∷ Value (Number 2 false) ∷ given (codes "y") ∷ []))
-    ∷ PutJint 9 (Element (codes "y") (Number 1 false))
-    ∷ PutJint 10 (Element (codes "y") (Number 2 false))
-    ∷ Return 11
+    (Plain 2 (Declare (Simple (ReferenceVariable JIntArray)) (codes "a") (FromCall (call (codes "NewIntArray") (Value (Number 3 false) ∷ []))))
+    ∷ Plain 3 (DeclareArray JInt (codes "x") 2)
+    ∷ Plain 4 (AssignElement (codes "x") (Number 0 false) (Number 70000 false))
+    ∷ Plain 5 (AssignElement (codes "x") (Number 1 false) (Number 8 false))
+    ∷ Plain 6 (Perform (call (codes "SetIntArrayRegion") (given (codes "a") ∷ Value (Number 1 false) ∷ Value (Number 2 false) ∷ given (codes "x") ∷ [])))
+    ∷ Plain 7 (DeclareArray JInt (codes "y") 3)
+    ∷ Plain 8 (Perform (call (codes "GetIntArrayRegion") (given (codes "a") ∷ Value (Number 0 false) ∷ Value (Number 2 false) ∷ given (codes "y") ∷ [])))
+    ∷ Plain 9 (PutJint (Element (codes "y") (Number 1 false)))
+    ∷ Plain 10 (PutJint (Element (codes "y") (Number 2 false)))
+    ∷ Return 11 None
     ∷ [])
     12
     ∷ [])
@@ -537,26 +547,28 @@ abbrev pub an_array_of_jint_by_its_elements : SourceUnit
 an_array_of_jint_by_its_elements =
     unit_of
     (native 1 Void (codes "Java_A_f") (reference_parameter JIntArray (codes "a") ∷ [])
-    (Declare 2 JBoolean (codes "copied") (FromExpr (Named False))
-    ∷ DeclareBuffer 3 JInt (codes "p") (FromCall (call (codes "GetIntArrayElements") (given (codes "a") ∷ AddressOf (codes "copied") ∷ [])))
+    (Plain 2 (Declare (Simple JBoolean) (codes "copied") (FromExpr (Named False)))
+    ∷ Plain 3 (Declare (Pointer JInt) (codes "p") (FromCall (call (codes "GetIntArrayElements") (given (codes "a") ∷ AddressOf (codes "copied") ∷ []))))
     ∷ If 4 (TestExpr (Binary NotEqual (Variable (codes "p")) (Named Null)))
     (block
-    (PutJint 5 (Prefix ToInt (Variable (codes "copied")))
-    ∷ AssignElement 6 (codes "p") (Number 1 false) (Number 70000 false)
-    ∷ Perform 7 (call (codes "ReleaseIntArrayElements") (given (codes "a") ∷ given (codes "p") ∷ Value (Named Commit) ∷ []))
-    ∷ AssignElement 8 (codes "p") (Number 0 false) (Number 8 false)
-    ∷ PutJint 9 (Element (codes "p") (Number 1 false))
-    ∷ Perform 10 (call (codes "ReleaseIntArrayElements") (given (codes "a") ∷ given (codes "p") ∷ Value (Number 0 false) ∷ []))
+    (Plain 5 (PutJint (Prefix ToInt (Variable (codes "copied"))))
+    ∷ Plain 6 (AssignElement (codes "p") (Number 1 false) (Number 70000 false))
+    ∷ Plain 7 (Perform (call (codes "ReleaseIntArrayElements") (given (codes "a") ∷ given (codes "p") ∷ Value (Named Commit) ∷ [])))
+    ∷ Plain 8 (AssignElement (codes "p") (Number 0 false) (Number 8 false))
+    ∷ Plain 9 (PutJint (Element (codes "p") (Number 1 false)))
+    ∷ Plain 10 (Perform (call (codes "ReleaseIntArrayElements") (given (codes "a") ∷ given (codes "p") ∷ Value (Number 0 false) ∷ [])))
     ∷ [])
     11)
-    ∷ Assign 12 (codes "p") (FromCall (call (codes "GetIntArrayElements") (given (codes "a") ∷ Value (Named Null) ∷ [])))
+    NoElse
+    ∷ Plain 12 (Assign (codes "p") (FromCall (call (codes "GetIntArrayElements") (given (codes "a") ∷ Value (Named Null) ∷ []))))
     ∷ If 13 (TestExpr (Binary NotEqual (Variable (codes "p")) (Named Null)))
     (block
-    (AssignElement 13 (codes "p") (Number 1 false) (Number 9 false)
-    ∷ Perform 13 (call (codes "ReleaseIntArrayElements") (given (codes "a") ∷ given (codes "p") ∷ Value (Named Abort) ∷ []))
+    (Plain 13 (AssignElement (codes "p") (Number 1 false) (Number 9 false))
+    ∷ Plain 13 (Perform (call (codes "ReleaseIntArrayElements") (given (codes "a") ∷ given (codes "p") ∷ Value (Named Abort) ∷ [])))
     ∷ [])
     13)
-    ∷ Return 14
+    NoElse
+    ∷ Return 14 None
     ∷ [])
     15
     ∷ [])
@@ -601,18 +613,19 @@ abbrev pub a_view_of_an_array_of_jint : SourceUnit
 a_view_of_an_array_of_jint =
     unit_of
     (native 1 Void (codes "Java_A_f") (reference_parameter JIntArray (codes "a") ∷ [])
-    (Declare 2 JBoolean (codes "copied") (FromExpr (Named True))
-    ∷ DeclareBuffer 3 JInt (codes "p") (FromCall (call (codes "GetPrimitiveArrayCritical") (given (codes "a") ∷ AddressOf (codes "copied") ∷ [])))
+    (Plain 2 (Declare (Simple JBoolean) (codes "copied") (FromExpr (Named True)))
+    ∷ Plain 3 (Declare (Pointer JInt) (codes "p") (FromCall (call (codes "GetPrimitiveArrayCritical") (given (codes "a") ∷ AddressOf (codes "copied") ∷ []))))
     ∷ If 4 (TestExpr (Binary NotEqual (Variable (codes "p")) (Named Null)))
     (block
-    (AssignElement 5 (codes "p") (Number 0 false) (Number 70000 false)
-    ∷ Declare 6 JIntVariable (codes "n") (FromExpr (Element (codes "p") (Number 0 false)))
-    ∷ Perform 7 (call (codes "ReleasePrimitiveArrayCritical") (given (codes "a") ∷ given (codes "p") ∷ Value (Named Abort) ∷ []))
-    ∷ PutJint 8 (Variable (codes "n"))
-    ∷ PutJint 9 (Prefix ToInt (Variable (codes "copied")))
+    (Plain 5 (AssignElement (codes "p") (Number 0 false) (Number 70000 false))
+    ∷ Plain 6 (Declare (Simple JIntVariable) (codes "n") (FromExpr (Element (codes "p") (Number 0 false))))
+    ∷ Plain 7 (Perform (call (codes "ReleasePrimitiveArrayCritical") (given (codes "a") ∷ given (codes "p") ∷ Value (Named Abort) ∷ [])))
+    ∷ Plain 8 (PutJint (Variable (codes "n")))
+    ∷ Plain 9 (PutJint (Prefix ToInt (Variable (codes "copied"))))
     ∷ [])
     10)
-    ∷ Return 11
+    NoElse
+    ∷ Return 11 None
     ∷ [])
     12
     ∷ [])

@@ -3,11 +3,12 @@ use Rattle.std.specs.Prelude.{◌∷◌, pos, true, false, [], Some, None, codes
 use Rattle.base.specs.declared.element.ElementType.TheVariants.{Int as JInt}
 use Rattle.syntax.specs.declared.declared_type.ReferenceType.TheVariants.{Object as JObject, Class as JClass, IntArray as JIntArray, ObjectArray as JObjectArray}
 use Rattle.syntax.specs.declared.declared_type.VariableType.TheVariants.{Jint as JIntVariable, Jboolean as JBoolean, Reference as ReferenceVariable}
+use Rattle.syntax.specs.declared.declared_type.DeclaredType.TheVariants.{Simple}
 use Rattle.syntax.specs.declared.unit.ResultType.TheVariants.{Void}
 use Rattle.syntax.specs.declared.expr.Constant.TheVariants.{Null}
 use Rattle.syntax.specs.declared.expr.PrefixOp.TheVariants.{Complement, ToInt}
 use Rattle.syntax.specs.declared.expr.BinaryOp.TheVariants.{Equal}
-use Rattle.syntax.specs.Tree.{Number, Named, Variable, Prefix, Binary, Value, Text, FromCall, TestExpr, Declare, Perform, PutJint, If, Return, SourceUnit}
+use Rattle.syntax.specs.Tree.{Number, Named, Variable, Prefix, Binary, Value, Text, FromCall, TestExpr, Declare, Perform, PutJint, Plain, If, NoElse, Return, SourceUnit}
 use Rattle.semantics.specs.declared.schedule.ScheduleWord.TheVariants.{Turn}
 use Rattle.semantics.specs.World.{World}
 use Rattle.world_values.specs.WorldLines.{NumberValue, NullValue, NamedObject, ClassLine, ObjectLine, ObjectsLine, ArrayLine, ThreadLine, Lines}
@@ -34,16 +35,16 @@ abbrev pub an_array_of_objects : SourceUnit
 an_array_of_objects =
     unit_of
     (native 1 Void (codes "Java_A_f") (reference_parameter JObject (codes "o") ∷ [])
-    (Declare 2 (ReferenceVariable JObjectArray) (codes "a") (FromCall (call (codes "NewObjectArray") (Value (Number 3 false) ∷ given (codes "cls") ∷ given (codes "o") ∷ [])))
-    ∷ Declare 3 (ReferenceVariable JObject) (codes "x") (FromCall (call (codes "AllocObject") (given (codes "cls") ∷ [])))
-    ∷ Perform 4 (call (codes "SetObjectArrayElement") (given (codes "a") ∷ Value (Number 1 false) ∷ given (codes "x") ∷ []))
-    ∷ Perform 5 (call (codes "SetObjectArrayElement") (given (codes "a") ∷ Value (Number 2 false) ∷ Value (Named Null) ∷ []))
-    ∷ Declare 6 (ReferenceVariable JObject) (codes "y") (FromCall (call (codes "GetObjectArrayElement") (given (codes "a") ∷ Value (Number 1 false) ∷ [])))
-    ∷ Declare 7 JBoolean (codes "same") (FromCall (call (codes "IsSameObject") (given (codes "x") ∷ given (codes "y") ∷ [])))
-    ∷ PutJint 8 (Prefix ToInt (Variable (codes "same")))
-    ∷ Declare 9 JIntVariable (codes "n") (FromCall (call (codes "GetArrayLength") (given (codes "a") ∷ [])))
-    ∷ PutJint 10 (Variable (codes "n"))
-    ∷ Return 11
+    (Plain 2 (Declare (Simple (ReferenceVariable JObjectArray)) (codes "a") (FromCall (call (codes "NewObjectArray") (Value (Number 3 false) ∷ given (codes "cls") ∷ given (codes "o") ∷ []))))
+    ∷ Plain 3 (Declare (Simple (ReferenceVariable JObject)) (codes "x") (FromCall (call (codes "AllocObject") (given (codes "cls") ∷ []))))
+    ∷ Plain 4 (Perform (call (codes "SetObjectArrayElement") (given (codes "a") ∷ Value (Number 1 false) ∷ given (codes "x") ∷ [])))
+    ∷ Plain 5 (Perform (call (codes "SetObjectArrayElement") (given (codes "a") ∷ Value (Number 2 false) ∷ Value (Named Null) ∷ [])))
+    ∷ Plain 6 (Declare (Simple (ReferenceVariable JObject)) (codes "y") (FromCall (call (codes "GetObjectArrayElement") (given (codes "a") ∷ Value (Number 1 false) ∷ []))))
+    ∷ Plain 7 (Declare (Simple JBoolean) (codes "same") (FromCall (call (codes "IsSameObject") (given (codes "x") ∷ given (codes "y") ∷ []))))
+    ∷ Plain 8 (PutJint (Prefix ToInt (Variable (codes "same"))))
+    ∷ Plain 9 (Declare (Simple JIntVariable) (codes "n") (FromCall (call (codes "GetArrayLength") (given (codes "a") ∷ []))))
+    ∷ Plain 10 (PutJint (Variable (codes "n")))
+    ∷ Return 11 None
     ∷ [])
     12
     ∷ [])
@@ -82,14 +83,15 @@ abbrev pub an_index_past_the_end_of_an_array_of_objects : SourceUnit
 an_index_past_the_end_of_an_array_of_objects =
     unit_of
     (native 1 Void (codes "Java_A_f") (reference_parameter JObjectArray (codes "a") ∷ [])
-    (Declare 2 (ReferenceVariable JObject) (codes "x") (FromCall (call (codes "GetObjectArrayElement") (given (codes "a") ∷ Value (Number 2 false) ∷ [])))
+    (Plain 2 (Declare (Simple (ReferenceVariable JObject)) (codes "x") (FromCall (call (codes "GetObjectArrayElement") (given (codes "a") ∷ Value (Number 2 false) ∷ []))))
     ∷ If 3 (TestExpr (Binary Equal (Variable (codes "x")) (Named Null)))
     (block
-    (Perform 3 (call (codes "ExceptionClear") [])
+    (Plain 3 (Perform (call (codes "ExceptionClear") []))
     ∷ [])
     3)
-    ∷ Perform 4 (call (codes "SetObjectArrayElement") (given (codes "a") ∷ Value (Prefix ToInt (Prefix Complement (Number 0 true))) ∷ Value (Named Null) ∷ []))
-    ∷ Return 5
+    NoElse
+    ∷ Plain 4 (Perform (call (codes "SetObjectArrayElement") (given (codes "a") ∷ Value (Prefix ToInt (Prefix Complement (Number 0 true))) ∷ Value (Named Null) ∷ [])))
+    ∷ Return 5 None
     ∷ [])
     6
     ∷ [])
@@ -127,8 +129,8 @@ abbrev pub an_element_of_another_class : SourceUnit
 an_element_of_another_class =
     unit_of
     (native 1 Void (codes "Java_A_f") (reference_parameter JObjectArray (codes "a") ∷ [])
-    (Perform 2 (call (codes "SetObjectArrayElement") (given (codes "a") ∷ Value (Number 0 false) ∷ given (codes "cls") ∷ []))
-    ∷ Return 3
+    (Plain 2 (Perform (call (codes "SetObjectArrayElement") (given (codes "a") ∷ Value (Number 0 false) ∷ given (codes "cls") ∷ [])))
+    ∷ Return 3 None
     ∷ [])
     4
     ∷ [])
@@ -165,8 +167,8 @@ abbrev pub an_index_is_checked_before_the_class_of_an_element : SourceUnit
 an_index_is_checked_before_the_class_of_an_element =
     unit_of
     (native 1 Void (codes "Java_A_f") (reference_parameter JObjectArray (codes "a") ∷ [])
-    (Perform 2 (call (codes "SetObjectArrayElement") (given (codes "a") ∷ Value (Number 1 false) ∷ given (codes "cls") ∷ []))
-    ∷ Return 3
+    (Plain 2 (Perform (call (codes "SetObjectArrayElement") (given (codes "a") ∷ Value (Number 1 false) ∷ given (codes "cls") ∷ [])))
+    ∷ Return 3 None
     ∷ [])
     4
     ∷ [])
@@ -189,8 +191,8 @@ abbrev pub an_element_of_a_subclass : SourceUnit
 an_element_of_a_subclass =
     unit_of
     (native 1 Void (codes "Java_A_f") (reference_parameter JObjectArray (codes "a") ∷ reference_parameter JObject (codes "b") ∷ [])
-    (Perform 2 (call (codes "SetObjectArrayElement") (given (codes "a") ∷ Value (Number 0 false) ∷ given (codes "b") ∷ []))
-    ∷ Return 3
+    (Plain 2 (Perform (call (codes "SetObjectArrayElement") (given (codes "a") ∷ Value (Number 0 false) ∷ given (codes "b") ∷ [])))
+    ∷ Return 3 None
     ∷ [])
     4
     ∷ [])
@@ -229,8 +231,8 @@ abbrev pub an_array_of_objects_of_negative_length : SourceUnit
 an_array_of_objects_of_negative_length =
     unit_of
     (native 1 Void (codes "Java_A_f") []
-    (Declare 2 (ReferenceVariable JObjectArray) (codes "a") (FromCall (call (codes "NewObjectArray") (Value (Prefix ToInt (Prefix Complement (Number 0 true))) ∷ given (codes "cls") ∷ Value (Named Null) ∷ [])))
-    ∷ Return 3
+    (Plain 2 (Declare (Simple (ReferenceVariable JObjectArray)) (codes "a") (FromCall (call (codes "NewObjectArray") (Value (Prefix ToInt (Prefix Complement (Number 0 true))) ∷ given (codes "cls") ∷ Value (Named Null) ∷ []))))
+    ∷ Return 3 None
     ∷ [])
     4
     ∷ [])
@@ -267,9 +269,9 @@ abbrev pub an_array_of_arrays : SourceUnit
 an_array_of_arrays =
     unit_of
     (native 1 Void (codes "Java_A_f") []
-    (Declare 2 (ReferenceVariable JClass) (codes "c") (FromCall (call (codes "FindClass") (Text (codes "[I") ∷ [])))
-    ∷ Declare 3 (ReferenceVariable JObjectArray) (codes "a") (FromCall (call (codes "NewObjectArray") (Value (Number 1 false) ∷ given (codes "c") ∷ Value (Named Null) ∷ [])))
-    ∷ Return 4
+    (Plain 2 (Declare (Simple (ReferenceVariable JClass)) (codes "c") (FromCall (call (codes "FindClass") (Text (codes "[I") ∷ []))))
+    ∷ Plain 3 (Declare (Simple (ReferenceVariable JObjectArray)) (codes "a") (FromCall (call (codes "NewObjectArray") (Value (Number 1 false) ∷ given (codes "c") ∷ Value (Named Null) ∷ []))))
+    ∷ Return 4 None
     ∷ [])
     5
     ∷ [])
@@ -292,8 +294,8 @@ abbrev pub a_first_element_of_another_class : SourceUnit
 a_first_element_of_another_class =
     unit_of
     (native 1 Void (codes "Java_A_f") []
-    (Declare 2 (ReferenceVariable JObjectArray) (codes "a") (FromCall (call (codes "NewObjectArray") (Value (Number 1 false) ∷ given (codes "cls") ∷ given (codes "cls") ∷ [])))
-    ∷ Return 3
+    (Plain 2 (Declare (Simple (ReferenceVariable JObjectArray)) (codes "a") (FromCall (call (codes "NewObjectArray") (Value (Number 1 false) ∷ given (codes "cls") ∷ given (codes "cls") ∷ []))))
+    ∷ Return 3 None
     ∷ [])
     4
     ∷ [])
@@ -316,8 +318,8 @@ abbrev pub an_array_of_numbers_for_an_array_of_objects : SourceUnit
 an_array_of_numbers_for_an_array_of_objects =
     unit_of
     (native 1 Void (codes "Java_A_f") (reference_parameter JIntArray (codes "a") ∷ [])
-    (Declare 2 (ReferenceVariable JObject) (codes "x") (FromCall (call (codes "GetObjectArrayElement") (given (codes "a") ∷ Value (Number 0 false) ∷ [])))
-    ∷ Return 3
+    (Plain 2 (Declare (Simple (ReferenceVariable JObject)) (codes "x") (FromCall (call (codes "GetObjectArrayElement") (given (codes "a") ∷ Value (Number 0 false) ∷ []))))
+    ∷ Return 3 None
     ∷ [])
     4
     ∷ [])

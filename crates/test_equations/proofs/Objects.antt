@@ -3,7 +3,7 @@ use Rattle.std.specs.Prelude.{◌∷◌, pos, negsuc, false, [], Some, None, cod
 use Rattle.base.specs.declared.element.ElementType.TheVariants.{Int as JInt}
 use Rattle.syntax.specs.declared.declared_type.ReferenceType.TheVariants.{Object as JObject}
 use Rattle.syntax.specs.declared.unit.ResultType.TheVariants.{Void}
-use Rattle.syntax.specs.Tree.{Number, Variable, PutJint, Return, SourceUnit}
+use Rattle.syntax.specs.Tree.{Number, Variable, PutJint, Plain, Return, SourceUnit}
 use Rattle.semantics.specs.declared.schedule.ScheduleWord.TheVariants.{Turn}
 use Rattle.semantics.specs.World.{World}
 use Rattle.world_values.specs.WorldLines.{NumberValue, NullValue, NamedObject, NamedClass, ClassLine, FieldLine, StaticLine, ObjectLine, ObjectsLine, ArrayLine, StringLine, ThreadLine, CallLine, Lines}
@@ -19,8 +19,8 @@ abbrev pub each_kind_of_object_in_a_row_each : SourceUnit
 each_kind_of_object_in_a_row_each =
     unit_of
     (native 1 Void (codes "Java_A_f") (reference_parameter JObject (codes "a") ∷ [])
-    (PutJint 1 (Number 1 false)
-    ∷ Return 1
+    (Plain 1 (PutJint (Number 1 false))
+    ∷ Return 1 None
     ∷ [])
     1
     ∷ [])
@@ -65,7 +65,7 @@ abbrev pub the_fields_of_a_superclass_come_first_also_where_they_are_declared_la
 the_fields_of_a_superclass_come_first_also_where_they_are_declared_later =
     unit_of
     (native 1 Void (codes "Java_A_f") []
-    (Return 1
+    (Return 1 None
     ∷ [])
     1
     ∷ [])
@@ -104,12 +104,12 @@ abbrev pub calls_of_a_thread_one_after_another_each_with_its_arguments : SourceU
 calls_of_a_thread_one_after_another_each_with_its_arguments =
     unit_of
     (native 1 Void (codes "Java_A_f") (int_parameter (codes "n") ∷ [])
-    (PutJint 1 (Variable (codes "n"))
-    ∷ Return 1
+    (Plain 1 (PutJint (Variable (codes "n")))
+    ∷ Return 1 None
     ∷ [])
     1
     ∷ native 2 Void (codes "Java_A_g") []
-    (Return 2
+    (Return 2 None
     ∷ [])
     2
     ∷ [])

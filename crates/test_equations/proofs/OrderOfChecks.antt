@@ -3,9 +3,10 @@ use Rattle.std.specs.Prelude.{◌∷◌, false, [], Some, None, codes, refl}
 use Rattle.base.specs.declared.element.ElementType.TheVariants.{Int as JInt}
 use Rattle.syntax.specs.declared.declared_type.ReferenceType.TheVariants.{Object as JObject, Class as JClass}
 use Rattle.syntax.specs.declared.declared_type.VariableType.TheVariants.{Jint as JIntVariable, Jboolean as JBoolean, Reference as ReferenceVariable}
+use Rattle.syntax.specs.declared.declared_type.DeclaredType.TheVariants.{Simple}
 use Rattle.syntax.specs.declared.unit.ResultType.TheVariants.{Void}
 use Rattle.syntax.specs.declared.expr.Constant.TheVariants.{Null}
-use Rattle.syntax.specs.Tree.{Number, Named, Value, Text, FromCall, TestCall, Declare, Assign, Perform, If, Return, SourceUnit}
+use Rattle.syntax.specs.Tree.{Number, Named, Value, Text, FromCall, TestCall, Declare, Assign, Perform, Plain, If, NoElse, Return, SourceUnit}
 use Rattle.semantics.specs.declared.schedule.ScheduleWord.TheVariants.{Turn}
 use Rattle.semantics.specs.World.{World}
 use Rattle.world_values.specs.WorldLines.{NullValue, NamedObject, ClassLine, ArrayLine, ThreadLine, Lines}
@@ -25,9 +26,9 @@ abbrev pub a_pending_exception_is_checked_before_null : SourceUnit
 a_pending_exception_is_checked_before_null =
     unit_of
     (native 1 Void (codes "Java_A_f") (reference_parameter JObject (codes "o") ∷ [])
-    (Declare 2 (ReferenceVariable JClass) (codes "c") (FromCall (call (codes "FindClass") (Text (codes "B") ∷ [])))
-    ∷ Declare 3 JIntVariable (codes "n") (FromCall (call (codes "GetArrayLength") (given (codes "o") ∷ [])))
-    ∷ Return 4
+    (Plain 2 (Declare (Simple (ReferenceVariable JClass)) (codes "c") (FromCall (call (codes "FindClass") (Text (codes "B") ∷ []))))
+    ∷ Plain 3 (Declare (Simple JIntVariable) (codes "n") (FromCall (call (codes "GetArrayLength") (given (codes "o") ∷ []))))
+    ∷ Return 4 None
     ∷ [])
     5
     ∷ [])
@@ -67,10 +68,10 @@ a_deleted_global_reference_is_checked_before_null =
     unit_of
     (static_reference 1 JObject (codes "g")
     ∷ native 2 Void (codes "Java_A_f") (reference_parameter JObject (codes "o") ∷ [])
-    (Assign 3 (codes "g") (FromCall (call (codes "NewGlobalRef") (given (codes "cls") ∷ [])))
-    ∷ Perform 4 (call (codes "DeleteGlobalRef") (given (codes "g") ∷ []))
-    ∷ Declare 5 JBoolean (codes "b") (FromCall (call (codes "IsInstanceOf") (given (codes "g") ∷ given (codes "o") ∷ [])))
-    ∷ Return 6
+    (Plain 3 (Assign (codes "g") (FromCall (call (codes "NewGlobalRef") (given (codes "cls") ∷ []))))
+    ∷ Plain 4 (Perform (call (codes "DeleteGlobalRef") (given (codes "g") ∷ [])))
+    ∷ Plain 5 (Declare (Simple JBoolean) (codes "b") (FromCall (call (codes "IsInstanceOf") (given (codes "g") ∷ given (codes "o") ∷ []))))
+    ∷ Return 6 None
     ∷ [])
     7
     ∷ [])
@@ -93,8 +94,8 @@ abbrev pub null_is_checked_before_the_kind_of_an_object : SourceUnit
 null_is_checked_before_the_kind_of_an_object =
     unit_of
     (native 1 Void (codes "Java_A_f") (reference_parameter JObject (codes "a") ∷ reference_parameter JObject (codes "o") ∷ [])
-    (Declare 2 JBoolean (codes "b") (FromCall (call (codes "IsAssignableFrom") (given (codes "a") ∷ given (codes "o") ∷ [])))
-    ∷ Return 3
+    (Plain 2 (Declare (Simple JBoolean) (codes "b") (FromCall (call (codes "IsAssignableFrom") (given (codes "a") ∷ given (codes "o") ∷ []))))
+    ∷ Return 3 None
     ∷ [])
     4
     ∷ [])
@@ -136,11 +137,12 @@ the_kind_of_an_object_is_checked_before_the_capacity =
     (native 1 Void (codes "Java_A_f") (reference_parameter JObject (codes "a") ∷ [])
     (If 2 (TestCall (call (codes "PushLocalFrame") (Value (Number 0 false) ∷ [])))
     (block
-    (Declare 3 (ReferenceVariable JClass) (codes "c") (FromCall (call (codes "GetSuperclass") (given (codes "a") ∷ [])))
-    ∷ Perform 4 (call (codes "PopLocalFrame") (Value (Named Null) ∷ []))
+    (Plain 3 (Declare (Simple (ReferenceVariable JClass)) (codes "c") (FromCall (call (codes "GetSuperclass") (given (codes "a") ∷ []))))
+    ∷ Plain 4 (Perform (call (codes "PopLocalFrame") (Value (Named Null) ∷ [])))
     ∷ [])
     5)
-    ∷ Return 6
+    NoElse
+    ∷ Return 6 None
     ∷ [])
     7
     ∷ [])
@@ -182,11 +184,12 @@ the_capacity_is_checked_before_an_exception =
     (native 1 Void (codes "Java_A_f") []
     (If 2 (TestCall (call (codes "PushLocalFrame") (Value (Number 0 false) ∷ [])))
     (block
-    (Declare 3 (ReferenceVariable JClass) (codes "c") (FromCall (call (codes "FindClass") (Text (codes "B") ∷ [])))
-    ∷ Perform 4 (call (codes "PopLocalFrame") (Value (Named Null) ∷ []))
+    (Plain 3 (Declare (Simple (ReferenceVariable JClass)) (codes "c") (FromCall (call (codes "FindClass") (Text (codes "B") ∷ []))))
+    ∷ Plain 4 (Perform (call (codes "PopLocalFrame") (Value (Named Null) ∷ [])))
     ∷ [])
     5)
-    ∷ Return 6
+    NoElse
+    ∷ Return 6 None
     ∷ [])
     7
     ∷ [])
@@ -227,11 +230,12 @@ the_capacity_is_checked_where_null_is_the_result =
     (native 1 Void (codes "Java_A_f") []
     (If 2 (TestCall (call (codes "PushLocalFrame") (Value (Number 0 false) ∷ [])))
     (block
-    (Declare 3 (ReferenceVariable JObject) (codes "x") (FromCall (call (codes "NewLocalRef") (Value (Named Null) ∷ [])))
-    ∷ Perform 4 (call (codes "PopLocalFrame") (Value (Named Null) ∷ []))
+    (Plain 3 (Declare (Simple (ReferenceVariable JObject)) (codes "x") (FromCall (call (codes "NewLocalRef") (Value (Named Null) ∷ []))))
+    ∷ Plain 4 (Perform (call (codes "PopLocalFrame") (Value (Named Null) ∷ [])))
     ∷ [])
     5)
-    ∷ Return 6
+    NoElse
+    ∷ Return 6 None
     ∷ [])
     7
     ∷ [])

@@ -1,12 +1,13 @@
 -- The cases of texts/reference_faults.cases, as gate/worked_equations writes them.
-use Rattle.std.specs.Prelude.{◌∷◌, true, false, [], codes, refl}
+use Rattle.std.specs.Prelude.{◌∷◌, true, false, [], None, codes, refl}
 use Rattle.base.specs.declared.element.ElementType.TheVariants.{Int as JInt}
 use Rattle.syntax.specs.declared.declared_type.ReferenceType.TheVariants.{Object as JObject, IntArray as JIntArray}
 use Rattle.syntax.specs.declared.declared_type.VariableType.TheVariants.{Jint as JIntVariable, Reference as ReferenceVariable}
+use Rattle.syntax.specs.declared.declared_type.DeclaredType.TheVariants.{Simple, Pointer}
 use Rattle.syntax.specs.declared.unit.ResultType.TheVariants.{Void}
 use Rattle.syntax.specs.declared.expr.Constant.TheVariants.{Null}
 use Rattle.syntax.specs.declared.expr.BinaryOp.TheVariants.{Equal}
-use Rattle.syntax.specs.Tree.{Number, Named, Binary, Value, FromExpr, FromCall, TestExpr, TestCall, Declare, DeclareBuffer, Assign, Perform, PutJint, If, IfElse, While, Return, SourceUnit}
+use Rattle.syntax.specs.Tree.{Number, Named, Binary, Value, FromExpr, FromCall, TestExpr, TestCall, Declare, Assign, Perform, PutJint, Plain, If, NoElse, ElseBlock, While, Return, SourceUnit}
 use Rattle.region_rules.specs.declared.rule.RegionRule.TheVariants.{HeldBuffer, ReturnInFrame, PopLastFrame, DeadReference, PathsDiffer, WrongLevel, NoReturn}
 use Rattle.test_equations.specs.Claims.{IsRefused}
 use Rattle.test_equations.proofs.Programs.{unit_of, native, block, reference_parameter, call, given}
@@ -23,10 +24,11 @@ returned_in_frame =
     (native 1 Void (codes "Java_A_f") []
     (If 2 (TestCall (call (codes "PushLocalFrame") (Value (Number 2 false) ∷ [])))
     (block
-    (Return 3
+    (Return 3 None
     ∷ [])
     3)
-    ∷ Return 4
+    NoElse
+    ∷ Return 4 None
     ∷ [])
     4
     ∷ [])
@@ -43,8 +45,8 @@ abbrev pub popped_last_frame : SourceUnit
 popped_last_frame =
     unit_of
     (native 1 Void (codes "Java_A_f") []
-    (Perform 2 (call (codes "PopLocalFrame") (Value (Named Null) ∷ []))
-    ∷ Return 3
+    (Plain 2 (Perform (call (codes "PopLocalFrame") (Value (Named Null) ∷ [])))
+    ∷ Return 3 None
     ∷ [])
     3
     ∷ [])
@@ -63,10 +65,10 @@ abbrev pub deleted_twice : SourceUnit
 deleted_twice =
     unit_of
     (native 1 Void (codes "Java_A_f") []
-    (Declare 2 (ReferenceVariable JObject) (codes "x") (FromCall (call (codes "NewLocalRef") (given (codes "cls") ∷ [])))
-    ∷ Perform 3 (call (codes "DeleteLocalRef") (given (codes "x") ∷ []))
-    ∷ Perform 4 (call (codes "DeleteLocalRef") (given (codes "x") ∷ []))
-    ∷ Return 5
+    (Plain 2 (Declare (Simple (ReferenceVariable JObject)) (codes "x") (FromCall (call (codes "NewLocalRef") (given (codes "cls") ∷ []))))
+    ∷ Plain 3 (Perform (call (codes "DeleteLocalRef") (given (codes "x") ∷ [])))
+    ∷ Plain 4 (Perform (call (codes "DeleteLocalRef") (given (codes "x") ∷ [])))
+    ∷ Return 5 None
     ∷ [])
     5
     ∷ [])
@@ -89,12 +91,13 @@ used_after_its_frame =
     (native 1 Void (codes "Java_A_f") []
     (If 2 (TestCall (call (codes "PushLocalFrame") (Value (Number 4 false) ∷ [])))
     (block
-    (Declare 3 (ReferenceVariable JIntArray) (codes "y") (FromCall (call (codes "NewIntArray") (Value (Number 1 false) ∷ [])))
-    ∷ Declare 4 (ReferenceVariable JObject) (codes "z") (FromCall (call (codes "PopLocalFrame") (given (codes "y") ∷ [])))
-    ∷ Declare 5 JIntVariable (codes "n") (FromCall (call (codes "GetArrayLength") (given (codes "y") ∷ [])))
+    (Plain 3 (Declare (Simple (ReferenceVariable JIntArray)) (codes "y") (FromCall (call (codes "NewIntArray") (Value (Number 1 false) ∷ []))))
+    ∷ Plain 4 (Declare (Simple (ReferenceVariable JObject)) (codes "z") (FromCall (call (codes "PopLocalFrame") (given (codes "y") ∷ []))))
+    ∷ Plain 5 (Declare (Simple JIntVariable) (codes "n") (FromCall (call (codes "GetArrayLength") (given (codes "y") ∷ []))))
     ∷ [])
     6)
-    ∷ Return 7
+    NoElse
+    ∷ Return 7 None
     ∷ [])
     7
     ∷ [])
@@ -112,13 +115,13 @@ abbrev pub deleted_in_a_loop : SourceUnit
 deleted_in_a_loop =
     unit_of
     (native 1 Void (codes "Java_A_f") []
-    (Declare 2 (ReferenceVariable JObject) (codes "x") (FromCall (call (codes "NewLocalRef") (given (codes "cls") ∷ [])))
+    (Plain 2 (Declare (Simple (ReferenceVariable JObject)) (codes "x") (FromCall (call (codes "NewLocalRef") (given (codes "cls") ∷ []))))
     ∷ While 3 (Binary Equal (Number 1 true) (Number 2 true))
     (block
-    (Perform 3 (call (codes "DeleteLocalRef") (given (codes "x") ∷ []))
+    (Plain 3 (Perform (call (codes "DeleteLocalRef") (given (codes "x") ∷ [])))
     ∷ [])
     3)
-    ∷ Return 4
+    ∷ Return 4 None
     ∷ [])
     4
     ∷ [])
@@ -137,10 +140,11 @@ pushed_on_one_path =
     (native 1 Void (codes "Java_A_f") []
     (If 2 (TestCall (call (codes "PushLocalFrame") (Value (Number 4 false) ∷ [])))
     (block
-    (PutJint 2 (Number 1 false)
+    (Plain 2 (PutJint (Number 1 false))
     ∷ [])
     2)
-    ∷ Return 3
+    NoElse
+    ∷ Return 3 None
     ∷ [])
     3
     ∷ [])
@@ -159,14 +163,15 @@ abbrev pub deleted_twice_on_one_path : SourceUnit
 deleted_twice_on_one_path =
     unit_of
     (native 1 Void (codes "Java_A_f") []
-    (Declare 2 (ReferenceVariable JObject) (codes "x") (FromCall (call (codes "NewLocalRef") (given (codes "cls") ∷ [])))
+    (Plain 2 (Declare (Simple (ReferenceVariable JObject)) (codes "x") (FromCall (call (codes "NewLocalRef") (given (codes "cls") ∷ []))))
     ∷ If 3 (TestExpr (Binary Equal (Number 1 true) (Number 2 true)))
     (block
-    (Perform 3 (call (codes "DeleteLocalRef") (given (codes "x") ∷ []))
-    ∷ Perform 4 (call (codes "DeleteLocalRef") (given (codes "x") ∷ []))
+    (Plain 3 (Perform (call (codes "DeleteLocalRef") (given (codes "x") ∷ [])))
+    ∷ Plain 4 (Perform (call (codes "DeleteLocalRef") (given (codes "x") ∷ [])))
     ∷ [])
     4)
-    ∷ Return 5
+    NoElse
+    ∷ Return 5 None
     ∷ [])
     5
     ∷ [])
@@ -186,14 +191,15 @@ abbrev pub outer_set_in_frame : SourceUnit
 outer_set_in_frame =
     unit_of
     (native 1 Void (codes "Java_A_f") []
-    (Declare 2 (ReferenceVariable JObject) (codes "x") (FromExpr (Named Null))
+    (Plain 2 (Declare (Simple (ReferenceVariable JObject)) (codes "x") (FromExpr (Named Null)))
     ∷ If 3 (TestCall (call (codes "PushLocalFrame") (Value (Number 4 false) ∷ [])))
     (block
-    (Assign 4 (codes "x") (FromCall (call (codes "NewLocalRef") (given (codes "cls") ∷ [])))
-    ∷ Assign 5 (codes "x") (FromCall (call (codes "PopLocalFrame") (given (codes "x") ∷ [])))
+    (Plain 4 (Assign (codes "x") (FromCall (call (codes "NewLocalRef") (given (codes "cls") ∷ []))))
+    ∷ Plain 5 (Assign (codes "x") (FromCall (call (codes "PopLocalFrame") (given (codes "x") ∷ []))))
     ∷ [])
     5)
-    ∷ Return 6
+    NoElse
+    ∷ Return 6 None
     ∷ [])
     6
     ∷ [])
@@ -210,16 +216,16 @@ abbrev pub after_two_returns : SourceUnit
 after_two_returns =
     unit_of
     (native 1 Void (codes "Java_A_f") []
-    (IfElse 2 (TestExpr (Binary Equal (Number 1 true) (Number 1 true)))
+    (If 2 (TestExpr (Binary Equal (Number 1 true) (Number 1 true)))
     (block
-    (Return 2
+    (Return 2 None
     ∷ [])
     2)
-    (block
-    (Return 2
+    (ElseBlock (block
+    (Return 2 None
     ∷ [])
-    2)
-    ∷ PutJint 3 (Number 1 false)
+    2))
+    ∷ Plain 3 (PutJint (Number 1 false))
     ∷ [])
     3
     ∷ [])
@@ -238,7 +244,7 @@ returned_in_a_loop =
     (native 1 Void (codes "Java_A_f") []
     (While 2 (Binary Equal (Number 1 true) (Number 1 true))
     (block
-    (Return 2
+    (Return 2 None
     ∷ [])
     2)
     ∷ [])
@@ -257,7 +263,7 @@ abbrev pub held_at_the_last_brace : SourceUnit
 held_at_the_last_brace =
     unit_of
     (native 1 Void (codes "Java_A_f") (reference_parameter JIntArray (codes "a") ∷ [])
-    (DeclareBuffer 2 JInt (codes "p") (FromCall (call (codes "GetIntArrayElements") (given (codes "a") ∷ Value (Named Null) ∷ [])))
+    (Plain 2 (Declare (Pointer JInt) (codes "p") (FromCall (call (codes "GetIntArrayElements") (given (codes "a") ∷ Value (Named Null) ∷ []))))
     ∷ [])
     3
     ∷ [])

@@ -2,11 +2,12 @@
 use Rattle.std.specs.Prelude.{◌∷◌, true, false, [], Some, None, codes, refl}
 use Rattle.syntax.specs.declared.declared_type.ReferenceType.TheVariants.{Object as JObject, Class as JClass, Throwable as JThrowable}
 use Rattle.syntax.specs.declared.declared_type.VariableType.TheVariants.{Jboolean as JBoolean, Reference as ReferenceVariable}
+use Rattle.syntax.specs.declared.declared_type.DeclaredType.TheVariants.{Simple}
 use Rattle.syntax.specs.declared.unit.ResultType.TheVariants.{Void, Reference as ReferenceResult}
 use Rattle.syntax.specs.declared.expr.Constant.TheVariants.{Null}
 use Rattle.syntax.specs.declared.expr.PrefixOp.TheVariants.{Complement, ToInt}
 use Rattle.syntax.specs.declared.expr.BinaryOp.TheVariants.{Equal, NotEqual}
-use Rattle.syntax.specs.Tree.{Number, Named, Variable, Prefix, Binary, Value, Text, FromExpr, FromCall, TestExpr, TestCall, Declare, Assign, Perform, PutJint, If, IfElse, Return, ReturnValue, SourceUnit}
+use Rattle.syntax.specs.Tree.{Number, Named, Variable, Prefix, Binary, Value, Text, FromExpr, FromCall, TestExpr, TestCall, Declare, Assign, Perform, PutJint, Plain, If, NoElse, ElseBlock, Return, SourceUnit}
 use Rattle.semantics.specs.declared.schedule.ScheduleWord.TheVariants.{Turn}
 use Rattle.semantics.specs.World.{World}
 use Rattle.world_values.specs.WorldLines.{ClassLine, ThreadLine, CallLine, Lines}
@@ -33,18 +34,19 @@ references_to_null =
     unit_of
     (static_reference 1 JObject (codes "g")
     ∷ native 2 Void (codes "Java_A_f") []
-    (Declare 3 (ReferenceVariable JObject) (codes "x") (FromCall (call (codes "NewLocalRef") (Value (Named Null) ∷ [])))
-    ∷ Declare 4 JBoolean (codes "b") (FromCall (call (codes "IsSameObject") (given (codes "x") ∷ Value (Named Null) ∷ [])))
-    ∷ PutJint 5 (Prefix ToInt (Variable (codes "b")))
-    ∷ Perform 6 (call (codes "DeleteLocalRef") (given (codes "x") ∷ []))
-    ∷ Assign 7 (codes "g") (FromCall (call (codes "NewGlobalRef") (Value (Named Null) ∷ [])))
+    (Plain 3 (Declare (Simple (ReferenceVariable JObject)) (codes "x") (FromCall (call (codes "NewLocalRef") (Value (Named Null) ∷ []))))
+    ∷ Plain 4 (Declare (Simple JBoolean) (codes "b") (FromCall (call (codes "IsSameObject") (given (codes "x") ∷ Value (Named Null) ∷ []))))
+    ∷ Plain 5 (PutJint (Prefix ToInt (Variable (codes "b"))))
+    ∷ Plain 6 (Perform (call (codes "DeleteLocalRef") (given (codes "x") ∷ [])))
+    ∷ Plain 7 (Assign (codes "g") (FromCall (call (codes "NewGlobalRef") (Value (Named Null) ∷ []))))
     ∷ If 8 (TestExpr (Binary Equal (Variable (codes "g")) (Named Null)))
     (block
-    (PutJint 8 (Number 2 false)
+    (Plain 8 (PutJint (Number 2 false))
     ∷ [])
     8)
-    ∷ Perform 9 (call (codes "DeleteGlobalRef") (given (codes "g") ∷ []))
-    ∷ Return 10
+    NoElse
+    ∷ Plain 9 (Perform (call (codes "DeleteGlobalRef") (given (codes "g") ∷ [])))
+    ∷ Return 10 None
     ∷ [])
     11
     ∷ [])
@@ -88,14 +90,15 @@ a_deleted_reference_makes_room =
     (native 1 Void (codes "Java_A_f") []
     (If 2 (TestCall (call (codes "PushLocalFrame") (Value (Number 1 false) ∷ [])))
     (block
-    (Declare 3 (ReferenceVariable JObject) (codes "x") (FromCall (call (codes "NewLocalRef") (given (codes "cls") ∷ [])))
-    ∷ Perform 4 (call (codes "DeleteLocalRef") (given (codes "x") ∷ []))
-    ∷ Declare 5 (ReferenceVariable JObject) (codes "y") (FromCall (call (codes "NewLocalRef") (given (codes "cls") ∷ [])))
-    ∷ Declare 6 (ReferenceVariable JObject) (codes "z") (FromCall (call (codes "NewLocalRef") (given (codes "cls") ∷ [])))
-    ∷ Perform 7 (call (codes "PopLocalFrame") (Value (Named Null) ∷ []))
+    (Plain 3 (Declare (Simple (ReferenceVariable JObject)) (codes "x") (FromCall (call (codes "NewLocalRef") (given (codes "cls") ∷ []))))
+    ∷ Plain 4 (Perform (call (codes "DeleteLocalRef") (given (codes "x") ∷ [])))
+    ∷ Plain 5 (Declare (Simple (ReferenceVariable JObject)) (codes "y") (FromCall (call (codes "NewLocalRef") (given (codes "cls") ∷ []))))
+    ∷ Plain 6 (Declare (Simple (ReferenceVariable JObject)) (codes "z") (FromCall (call (codes "NewLocalRef") (given (codes "cls") ∷ []))))
+    ∷ Plain 7 (Perform (call (codes "PopLocalFrame") (Value (Named Null) ∷ [])))
     ∷ [])
     8)
-    ∷ Return 9
+    NoElse
+    ∷ Return 9 None
     ∷ [])
     10
     ∷ [])
@@ -126,19 +129,20 @@ a_global_reference_keeps_an_object_between_calls =
     unit_of
     (static_reference 1 JObject (codes "g")
     ∷ native 2 Void (codes "Java_A_f") []
-    (Declare 3 (ReferenceVariable JObject) (codes "x") (FromCall (call (codes "AllocObject") (given (codes "cls") ∷ [])))
-    ∷ Assign 4 (codes "g") (FromCall (call (codes "NewGlobalRef") (given (codes "x") ∷ [])))
-    ∷ Return 5
+    (Plain 3 (Declare (Simple (ReferenceVariable JObject)) (codes "x") (FromCall (call (codes "AllocObject") (given (codes "cls") ∷ []))))
+    ∷ Plain 4 (Assign (codes "g") (FromCall (call (codes "NewGlobalRef") (given (codes "x") ∷ []))))
+    ∷ Return 5 None
     ∷ [])
     6
     ∷ native 7 (ReferenceResult JObject) (codes "Java_A_g") []
-    (Declare 8 (ReferenceVariable JObject) (codes "y") (FromCall (call (codes "NewLocalRef") (given (codes "g") ∷ [])))
+    (Plain 8 (Declare (Simple (ReferenceVariable JObject)) (codes "y") (FromCall (call (codes "NewLocalRef") (given (codes "g") ∷ []))))
     ∷ If 9 (TestExpr (Binary NotEqual (Variable (codes "y")) (Named Null)))
     (block
-    (PutJint 9 (Number 1 false)
+    (Plain 9 (PutJint (Number 1 false))
     ∷ [])
     9)
-    ∷ ReturnValue 10 (Variable (codes "y"))
+    NoElse
+    ∷ Return 10 (Some (Variable (codes "y")))
     ∷ [])
     11
     ∷ [])
@@ -181,21 +185,21 @@ a_static_holds_null_until_it_is_set =
     unit_of
     (static_reference 1 JObject (codes "g")
     ∷ native 2 Void (codes "Java_A_f") []
-    (IfElse 3 (TestExpr (Binary Equal (Variable (codes "g")) (Named Null)))
+    (If 3 (TestExpr (Binary Equal (Variable (codes "g")) (Named Null)))
     (block
-    (PutJint 3 (Number 1 false)
+    (Plain 3 (PutJint (Number 1 false))
     ∷ [])
     3)
-    (block
-    (PutJint 3 (Number 2 false)
+    (ElseBlock (block
+    (Plain 3 (PutJint (Number 2 false))
     ∷ [])
-    3)
-    ∷ Return 4
+    3))
+    ∷ Return 4 None
     ∷ [])
     5
     ∷ native 6 Void (codes "Java_A_g") []
-    (Assign 7 (codes "g") (FromCall (call (codes "NewGlobalRef") (given (codes "cls") ∷ [])))
-    ∷ Return 8
+    (Plain 7 (Assign (codes "g") (FromCall (call (codes "NewGlobalRef") (given (codes "cls") ∷ []))))
+    ∷ Return 8 None
     ∷ [])
     9
     ∷ [])
@@ -241,20 +245,22 @@ abbrev pub a_frame_within_a_frame : SourceUnit
 a_frame_within_a_frame =
     unit_of
     (native 1 Void (codes "Java_A_f") []
-    (Declare 2 (ReferenceVariable JObject) (codes "x") (FromExpr (Named Null))
+    (Plain 2 (Declare (Simple (ReferenceVariable JObject)) (codes "x") (FromExpr (Named Null)))
     ∷ If 3 (TestCall (call (codes "PushLocalFrame") (Value (Number 2 false) ∷ [])))
     (block
-    (Declare 4 (ReferenceVariable JObject) (codes "y") (FromCall (call (codes "AllocObject") (given (codes "cls") ∷ [])))
+    (Plain 4 (Declare (Simple (ReferenceVariable JObject)) (codes "y") (FromCall (call (codes "AllocObject") (given (codes "cls") ∷ []))))
     ∷ If 5 (TestCall (call (codes "PushLocalFrame") (Value (Number 1 false) ∷ [])))
     (block
-    (Declare 6 (ReferenceVariable JObject) (codes "z") (FromCall (call (codes "AllocObject") (given (codes "cls") ∷ [])))
-    ∷ Perform 7 (call (codes "PopLocalFrame") (Value (Named Null) ∷ []))
+    (Plain 6 (Declare (Simple (ReferenceVariable JObject)) (codes "z") (FromCall (call (codes "AllocObject") (given (codes "cls") ∷ []))))
+    ∷ Plain 7 (Perform (call (codes "PopLocalFrame") (Value (Named Null) ∷ [])))
     ∷ [])
     8)
-    ∷ Assign 9 (codes "x") (FromCall (call (codes "PopLocalFrame") (given (codes "y") ∷ [])))
+    NoElse
+    ∷ Plain 9 (Assign (codes "x") (FromCall (call (codes "PopLocalFrame") (given (codes "y") ∷ []))))
     ∷ [])
     10)
-    ∷ Return 11
+    NoElse
+    ∷ Return 11 None
     ∷ [])
     12
     ∷ [])
@@ -284,13 +290,15 @@ the_frame_below_has_no_room =
     (block
     (If 3 (TestCall (call (codes "PushLocalFrame") (Value (Number 1 false) ∷ [])))
     (block
-    (Perform 3 (call (codes "PopLocalFrame") (Value (Named Null) ∷ []))
+    (Plain 3 (Perform (call (codes "PopLocalFrame") (Value (Named Null) ∷ [])))
     ∷ [])
     3)
-    ∷ Perform 4 (call (codes "PopLocalFrame") (Value (Named Null) ∷ []))
+    NoElse
+    ∷ Plain 4 (Perform (call (codes "PopLocalFrame") (Value (Named Null) ∷ [])))
     ∷ [])
     5)
-    ∷ Return 6
+    NoElse
+    ∷ Return 6 None
     ∷ [])
     7
     ∷ [])
@@ -319,22 +327,22 @@ abbrev pub a_frame_that_cannot_be_had : SourceUnit
 a_frame_that_cannot_be_had =
     unit_of
     (native 1 Void (codes "Java_A_f") []
-    (IfElse 2 (TestCall (call (codes "PushLocalFrame") (Value (Prefix ToInt (Prefix Complement (Number 0 true))) ∷ [])))
+    (If 2 (TestCall (call (codes "PushLocalFrame") (Value (Prefix ToInt (Prefix Complement (Number 0 true))) ∷ [])))
     (block
-    (Perform 2 (call (codes "PopLocalFrame") (Value (Named Null) ∷ []))
+    (Plain 2 (Perform (call (codes "PopLocalFrame") (Value (Named Null) ∷ [])))
     ∷ [])
     2)
-    (block
-    (PutJint 2 (Number 1 false)
+    (ElseBlock (block
+    (Plain 2 (PutJint (Number 1 false))
     ∷ [])
-    2)
-    ∷ Declare 3 (ReferenceVariable JThrowable) (codes "t") (FromCall (call (codes "ExceptionOccurred") []))
-    ∷ Perform 4 (call (codes "ExceptionClear") [])
-    ∷ Declare 5 (ReferenceVariable JClass) (codes "c") (FromCall (call (codes "GetObjectClass") (given (codes "t") ∷ [])))
-    ∷ Declare 6 (ReferenceVariable JClass) (codes "d") (FromCall (call (codes "FindClass") (Text (codes "java/lang/OutOfMemoryError") ∷ [])))
-    ∷ Declare 7 JBoolean (codes "same") (FromCall (call (codes "IsSameObject") (given (codes "c") ∷ given (codes "d") ∷ [])))
-    ∷ PutJint 8 (Prefix ToInt (Variable (codes "same")))
-    ∷ Return 9
+    2))
+    ∷ Plain 3 (Declare (Simple (ReferenceVariable JThrowable)) (codes "t") (FromCall (call (codes "ExceptionOccurred") [])))
+    ∷ Plain 4 (Perform (call (codes "ExceptionClear") []))
+    ∷ Plain 5 (Declare (Simple (ReferenceVariable JClass)) (codes "c") (FromCall (call (codes "GetObjectClass") (given (codes "t") ∷ []))))
+    ∷ Plain 6 (Declare (Simple (ReferenceVariable JClass)) (codes "d") (FromCall (call (codes "FindClass") (Text (codes "java/lang/OutOfMemoryError") ∷ []))))
+    ∷ Plain 7 (Declare (Simple JBoolean) (codes "same") (FromCall (call (codes "IsSameObject") (given (codes "c") ∷ given (codes "d") ∷ []))))
+    ∷ Plain 8 (PutJint (Prefix ToInt (Variable (codes "same"))))
+    ∷ Return 9 None
     ∷ [])
     10
     ∷ [])

@@ -3,10 +3,11 @@ use Rattle.std.specs.Prelude.{◌∷◌, pos, true, false, [], Some, None, codes
 use Rattle.base.specs.declared.element.ElementType.TheVariants.{Int as JInt, Short as JShort, Byte as JByte, Char as JChar}
 use Rattle.syntax.specs.declared.declared_type.ReferenceType.TheVariants.{Object as JObject, Class as JClass, String as JString, IntArray as JIntArray, ShortArray as JShortArray, ByteArray as JByteArray, CharArray as JCharArray}
 use Rattle.syntax.specs.declared.declared_type.VariableType.TheVariants.{Reference as ReferenceVariable}
+use Rattle.syntax.specs.declared.declared_type.DeclaredType.TheVariants.{Simple}
 use Rattle.syntax.specs.declared.unit.ResultType.TheVariants.{Void}
 use Rattle.syntax.specs.declared.expr.Constant.TheVariants.{Null}
 use Rattle.syntax.specs.declared.expr.PrefixOp.TheVariants.{Complement, ToInt}
-use Rattle.syntax.specs.Tree.{Number, Named, Prefix, Value, Text, FromCall, Declare, DeclareArray, Assign, Perform, Return, SourceUnit}
+use Rattle.syntax.specs.Tree.{Number, Named, Prefix, Value, Text, FromCall, Declare, DeclareArray, Assign, Perform, Plain, Return, SourceUnit}
 use Rattle.semantics.specs.declared.schedule.ScheduleWord.TheVariants.{Turn}
 use Rattle.semantics.specs.World.{World}
 use Rattle.world_values.specs.WorldLines.{NumberValue, NullValue, NamedObject, ClassLine, ArrayLine, StringLine, ThreadLine, Lines}
@@ -26,9 +27,9 @@ abbrev pub getintarrayregion_of_more_elements_than_the_array_of_c_has : SourceUn
 getintarrayregion_of_more_elements_than_the_array_of_c_has =
     unit_of
     (native 1 Void (codes "Java_A_f") (reference_parameter JIntArray (codes "a") ∷ [])
-    (DeclareArray 2 JInt (codes "x") 1
-    ∷ Perform 3 (call (codes "GetIntArrayRegion") (given (codes "a") ∷ Value (Number 0 false) ∷ Value (Number 2 false) ∷ given (codes "x") ∷ []))
-    ∷ Return 4
+    (Plain 2 (DeclareArray JInt (codes "x") 1)
+    ∷ Plain 3 (Perform (call (codes "GetIntArrayRegion") (given (codes "a") ∷ Value (Number 0 false) ∷ Value (Number 2 false) ∷ given (codes "x") ∷ [])))
+    ∷ Return 4 None
     ∷ [])
     5
     ∷ [])
@@ -66,9 +67,9 @@ abbrev pub setintarrayregion_of_more_elements_than_the_array_of_c_has : SourceUn
 setintarrayregion_of_more_elements_than_the_array_of_c_has =
     unit_of
     (native 1 Void (codes "Java_A_f") (reference_parameter JIntArray (codes "a") ∷ [])
-    (DeclareArray 2 JInt (codes "x") 1
-    ∷ Perform 3 (call (codes "SetIntArrayRegion") (given (codes "a") ∷ Value (Number 0 false) ∷ Value (Number 2 false) ∷ given (codes "x") ∷ []))
-    ∷ Return 4
+    (Plain 2 (DeclareArray JInt (codes "x") 1)
+    ∷ Plain 3 (Perform (call (codes "SetIntArrayRegion") (given (codes "a") ∷ Value (Number 0 false) ∷ Value (Number 2 false) ∷ given (codes "x") ∷ [])))
+    ∷ Return 4 None
     ∷ [])
     5
     ∷ [])
@@ -92,9 +93,9 @@ abbrev pub getshortarrayregion_of_more_elements_than_the_array_of_c_has : Source
 getshortarrayregion_of_more_elements_than_the_array_of_c_has =
     unit_of
     (native 1 Void (codes "Java_A_f") (reference_parameter JShortArray (codes "a") ∷ [])
-    (DeclareArray 2 JShort (codes "x") 1
-    ∷ Perform 3 (call (codes "GetShortArrayRegion") (given (codes "a") ∷ Value (Number 0 false) ∷ Value (Number 2 false) ∷ given (codes "x") ∷ []))
-    ∷ Return 4
+    (Plain 2 (DeclareArray JShort (codes "x") 1)
+    ∷ Plain 3 (Perform (call (codes "GetShortArrayRegion") (given (codes "a") ∷ Value (Number 0 false) ∷ Value (Number 2 false) ∷ given (codes "x") ∷ [])))
+    ∷ Return 4 None
     ∷ [])
     5
     ∷ [])
@@ -132,9 +133,9 @@ abbrev pub setshortarrayregion_of_more_elements_than_the_array_of_c_has : Source
 setshortarrayregion_of_more_elements_than_the_array_of_c_has =
     unit_of
     (native 1 Void (codes "Java_A_f") (reference_parameter JShortArray (codes "a") ∷ [])
-    (DeclareArray 2 JShort (codes "x") 1
-    ∷ Perform 3 (call (codes "SetShortArrayRegion") (given (codes "a") ∷ Value (Number 0 false) ∷ Value (Number 2 false) ∷ given (codes "x") ∷ []))
-    ∷ Return 4
+    (Plain 2 (DeclareArray JShort (codes "x") 1)
+    ∷ Plain 3 (Perform (call (codes "SetShortArrayRegion") (given (codes "a") ∷ Value (Number 0 false) ∷ Value (Number 2 false) ∷ given (codes "x") ∷ [])))
+    ∷ Return 4 None
     ∷ [])
     5
     ∷ [])
@@ -158,9 +159,9 @@ abbrev pub setbytearrayregion_of_more_elements_than_the_array_of_c_has : SourceU
 setbytearrayregion_of_more_elements_than_the_array_of_c_has =
     unit_of
     (native 1 Void (codes "Java_A_f") (reference_parameter JByteArray (codes "a") ∷ [])
-    (DeclareArray 2 JByte (codes "x") 1
-    ∷ Perform 3 (call (codes "SetByteArrayRegion") (given (codes "a") ∷ Value (Number 0 false) ∷ Value (Number 2 false) ∷ given (codes "x") ∷ []))
-    ∷ Return 4
+    (Plain 2 (DeclareArray JByte (codes "x") 1)
+    ∷ Plain 3 (Perform (call (codes "SetByteArrayRegion") (given (codes "a") ∷ Value (Number 0 false) ∷ Value (Number 2 false) ∷ given (codes "x") ∷ [])))
+    ∷ Return 4 None
     ∷ [])
     5
     ∷ [])
@@ -198,9 +199,9 @@ abbrev pub getchararrayregion_of_more_elements_than_the_array_of_c_has : SourceU
 getchararrayregion_of_more_elements_than_the_array_of_c_has =
     unit_of
     (native 1 Void (codes "Java_A_f") (reference_parameter JCharArray (codes "a") ∷ [])
-    (DeclareArray 2 JChar (codes "x") 1
-    ∷ Perform 3 (call (codes "GetCharArrayRegion") (given (codes "a") ∷ Value (Number 0 false) ∷ Value (Number 2 false) ∷ given (codes "x") ∷ []))
-    ∷ Return 4
+    (Plain 2 (DeclareArray JChar (codes "x") 1)
+    ∷ Plain 3 (Perform (call (codes "GetCharArrayRegion") (given (codes "a") ∷ Value (Number 0 false) ∷ Value (Number 2 false) ∷ given (codes "x") ∷ [])))
+    ∷ Return 4 None
     ∷ [])
     5
     ∷ [])
@@ -238,9 +239,9 @@ abbrev pub setchararrayregion_of_more_elements_than_the_array_of_c_has : SourceU
 setchararrayregion_of_more_elements_than_the_array_of_c_has =
     unit_of
     (native 1 Void (codes "Java_A_f") (reference_parameter JCharArray (codes "a") ∷ [])
-    (DeclareArray 2 JChar (codes "x") 1
-    ∷ Perform 3 (call (codes "SetCharArrayRegion") (given (codes "a") ∷ Value (Number 0 false) ∷ Value (Number 2 false) ∷ given (codes "x") ∷ []))
-    ∷ Return 4
+    (Plain 2 (DeclareArray JChar (codes "x") 1)
+    ∷ Plain 3 (Perform (call (codes "SetCharArrayRegion") (given (codes "a") ∷ Value (Number 0 false) ∷ Value (Number 2 false) ∷ given (codes "x") ∷ [])))
+    ∷ Return 4 None
     ∷ [])
     5
     ∷ [])
@@ -264,9 +265,9 @@ abbrev pub getstringregion_of_more_characters_than_the_array_of_c_has : SourceUn
 getstringregion_of_more_characters_than_the_array_of_c_has =
     unit_of
     (native 1 Void (codes "Java_A_f") (reference_parameter JString (codes "s") ∷ [])
-    (DeclareArray 2 JChar (codes "x") 1
-    ∷ Perform 3 (call (codes "GetStringRegion") (given (codes "s") ∷ Value (Number 0 false) ∷ Value (Number 2 false) ∷ given (codes "x") ∷ []))
-    ∷ Return 4
+    (Plain 2 (DeclareArray JChar (codes "x") 1)
+    ∷ Plain 3 (Perform (call (codes "GetStringRegion") (given (codes "s") ∷ Value (Number 0 false) ∷ Value (Number 2 false) ∷ given (codes "x") ∷ [])))
+    ∷ Return 4 None
     ∷ [])
     5
     ∷ [])
@@ -309,12 +310,12 @@ a_pending_exception_is_told_before_a_deleted_static =
     unit_of
     (static_reference 1 JIntArray (codes "g")
     ∷ native 2 Void (codes "Java_A_f") []
-    (DeclareArray 3 JInt (codes "x") 1
-    ∷ Assign 4 (codes "g") (FromCall (call (codes "NewGlobalRef") (given (codes "cls") ∷ [])))
-    ∷ Perform 5 (call (codes "DeleteGlobalRef") (given (codes "g") ∷ []))
-    ∷ Declare 6 (ReferenceVariable JClass) (codes "c") (FromCall (call (codes "FindClass") (Text (codes "B") ∷ [])))
-    ∷ Perform 7 (call (codes "GetIntArrayRegion") (given (codes "g") ∷ Value (Number 0 false) ∷ Value (Number 2 false) ∷ given (codes "x") ∷ []))
-    ∷ Return 8
+    (Plain 3 (DeclareArray JInt (codes "x") 1)
+    ∷ Plain 4 (Assign (codes "g") (FromCall (call (codes "NewGlobalRef") (given (codes "cls") ∷ []))))
+    ∷ Plain 5 (Perform (call (codes "DeleteGlobalRef") (given (codes "g") ∷ [])))
+    ∷ Plain 6 (Declare (Simple (ReferenceVariable JClass)) (codes "c") (FromCall (call (codes "FindClass") (Text (codes "B") ∷ []))))
+    ∷ Plain 7 (Perform (call (codes "GetIntArrayRegion") (given (codes "g") ∷ Value (Number 0 false) ∷ Value (Number 2 false) ∷ given (codes "x") ∷ [])))
+    ∷ Return 8 None
     ∷ [])
     9
     ∷ [])
@@ -355,11 +356,11 @@ a_deleted_static_is_told_before_an_index_that_is_past_the_end =
     unit_of
     (static_reference 1 JShortArray (codes "g")
     ∷ native 2 Void (codes "Java_A_f") (reference_parameter JShortArray (codes "a") ∷ [])
-    (DeclareArray 3 JShort (codes "x") 1
-    ∷ Assign 4 (codes "g") (FromCall (call (codes "NewGlobalRef") (given (codes "a") ∷ [])))
-    ∷ Perform 5 (call (codes "DeleteGlobalRef") (given (codes "g") ∷ []))
-    ∷ Perform 6 (call (codes "SetShortArrayRegion") (given (codes "g") ∷ Value (Number 2 false) ∷ Value (Number 2 false) ∷ given (codes "x") ∷ []))
-    ∷ Return 7
+    (Plain 3 (DeclareArray JShort (codes "x") 1)
+    ∷ Plain 4 (Assign (codes "g") (FromCall (call (codes "NewGlobalRef") (given (codes "a") ∷ []))))
+    ∷ Plain 5 (Perform (call (codes "DeleteGlobalRef") (given (codes "g") ∷ [])))
+    ∷ Plain 6 (Perform (call (codes "SetShortArrayRegion") (given (codes "g") ∷ Value (Number 2 false) ∷ Value (Number 2 false) ∷ given (codes "x") ∷ [])))
+    ∷ Return 7 None
     ∷ [])
     8
     ∷ [])
@@ -383,9 +384,9 @@ abbrev pub an_array_that_is_null_is_told_before_an_index_below_zero : SourceUnit
 an_array_that_is_null_is_told_before_an_index_below_zero =
     unit_of
     (native 1 Void (codes "Java_A_f") (reference_parameter JByteArray (codes "a") ∷ [])
-    (DeclareArray 2 JByte (codes "x") 1
-    ∷ Perform 3 (call (codes "GetByteArrayRegion") (given (codes "a") ∷ Value (Prefix ToInt (Prefix Complement (Number 0 true))) ∷ Value (Number 1 false) ∷ given (codes "x") ∷ []))
-    ∷ Return 4
+    (Plain 2 (DeclareArray JByte (codes "x") 1)
+    ∷ Plain 3 (Perform (call (codes "GetByteArrayRegion") (given (codes "a") ∷ Value (Prefix ToInt (Prefix Complement (Number 0 true))) ∷ Value (Number 1 false) ∷ given (codes "x") ∷ [])))
+    ∷ Return 4 None
     ∷ [])
     5
     ∷ [])
@@ -422,9 +423,9 @@ abbrev pub a_string_that_is_null : SourceUnit
 a_string_that_is_null =
     unit_of
     (native 1 Void (codes "Java_A_f") []
-    (DeclareArray 2 JChar (codes "x") 1
-    ∷ Perform 3 (call (codes "GetStringRegion") (Value (Named Null) ∷ Value (Number 0 false) ∷ Value (Number 2 false) ∷ given (codes "x") ∷ []))
-    ∷ Return 4
+    (Plain 2 (DeclareArray JChar (codes "x") 1)
+    ∷ Plain 3 (Perform (call (codes "GetStringRegion") (Value (Named Null) ∷ Value (Number 0 false) ∷ Value (Number 2 false) ∷ given (codes "x") ∷ [])))
+    ∷ Return 4 None
     ∷ [])
     5
     ∷ [])
@@ -448,9 +449,9 @@ abbrev pub an_array_of_another_type_is_told_before_an_index_that_is_past_the_end
 an_array_of_another_type_is_told_before_an_index_that_is_past_the_end =
     unit_of
     (native 1 Void (codes "Java_A_f") (reference_parameter JObject (codes "a") ∷ [])
-    (DeclareArray 2 JChar (codes "x") 1
-    ∷ Perform 3 (call (codes "SetCharArrayRegion") (given (codes "a") ∷ Value (Number 3 false) ∷ Value (Number 2 false) ∷ given (codes "x") ∷ []))
-    ∷ Return 4
+    (Plain 2 (DeclareArray JChar (codes "x") 1)
+    ∷ Plain 3 (Perform (call (codes "SetCharArrayRegion") (given (codes "a") ∷ Value (Number 3 false) ∷ Value (Number 2 false) ∷ given (codes "x") ∷ [])))
+    ∷ Return 4 None
     ∷ [])
     5
     ∷ [])
@@ -474,9 +475,9 @@ abbrev pub a_string_is_no_array_of_characters : SourceUnit
 a_string_is_no_array_of_characters =
     unit_of
     (native 1 Void (codes "Java_A_f") (reference_parameter JObject (codes "s") ∷ [])
-    (DeclareArray 2 JChar (codes "x") 2
-    ∷ Perform 3 (call (codes "GetCharArrayRegion") (given (codes "s") ∷ Value (Number 0 false) ∷ Value (Number 2 false) ∷ given (codes "x") ∷ []))
-    ∷ Return 4
+    (Plain 2 (DeclareArray JChar (codes "x") 2)
+    ∷ Plain 3 (Perform (call (codes "GetCharArrayRegion") (given (codes "s") ∷ Value (Number 0 false) ∷ Value (Number 2 false) ∷ given (codes "x") ∷ [])))
+    ∷ Return 4 None
     ∷ [])
     5
     ∷ [])
@@ -500,9 +501,9 @@ abbrev pub an_array_of_characters_is_no_string_which_is_told_before_an_index_pas
 an_array_of_characters_is_no_string_which_is_told_before_an_index_past_the_end =
     unit_of
     (native 1 Void (codes "Java_A_f") (reference_parameter JObject (codes "a") ∷ [])
-    (DeclareArray 2 JChar (codes "x") 1
-    ∷ Perform 3 (call (codes "GetStringRegion") (given (codes "a") ∷ Value (Number 3 false) ∷ Value (Number 2 false) ∷ given (codes "x") ∷ []))
-    ∷ Return 4
+    (Plain 2 (DeclareArray JChar (codes "x") 1)
+    ∷ Plain 3 (Perform (call (codes "GetStringRegion") (given (codes "a") ∷ Value (Number 3 false) ∷ Value (Number 2 false) ∷ given (codes "x") ∷ [])))
+    ∷ Return 4 None
     ∷ [])
     5
     ∷ [])

@@ -3,8 +3,9 @@ use Rattle.std.specs.Prelude.{◌≡◌, ◌∷◌, ◌++◌, pos, true, false, 
 use Rattle.base.specs.declared.element.ElementType.TheVariants.{Int as JInt}
 use Rattle.syntax.specs.declared.declared_type.ReferenceType.TheVariants.{IntArray as JIntArray}
 use Rattle.syntax.specs.declared.declared_type.VariableType.TheVariants.{Reference as ReferenceVariable}
+use Rattle.syntax.specs.declared.declared_type.DeclaredType.TheVariants.{Simple}
 use Rattle.syntax.specs.declared.unit.ResultType.TheVariants.{Void, Jint as IntResult}
-use Rattle.syntax.specs.Tree.{Number, Value, FromCall, Declare, Perform, Return, ReturnValue, SourceUnit}
+use Rattle.syntax.specs.Tree.{Number, Value, FromCall, Declare, Perform, Plain, Return, SourceUnit}
 use Rattle.world_schedules.specs.declared.fault.Rule.TheVariants.{Heap}
 use Rattle.semantics.specs.declared.schedule.ScheduleWord.TheVariants.{Turn}
 use Rattle.world.specs.ReadingWorlds.{world_of_text}
@@ -26,10 +27,10 @@ abbrev pub an_array_that_fills_the_heap : SourceUnit
 an_array_that_fills_the_heap =
     unit_of
     (native 1 Void (codes "Java_A_f") []
-    (Declare 2 (ReferenceVariable JIntArray) (codes "d") (FromCall (call (codes "NewIntArray") (Value (Number 100 false) ∷ [])))
-    ∷ Perform 3 (call (codes "DeleteLocalRef") (given (codes "d") ∷ []))
-    ∷ Declare 4 (ReferenceVariable JIntArray) (codes "a") (FromCall (call (codes "NewIntArray") (Value (Number 373 false) ∷ [])))
-    ∷ Return 5
+    (Plain 2 (Declare (Simple (ReferenceVariable JIntArray)) (codes "d") (FromCall (call (codes "NewIntArray") (Value (Number 100 false) ∷ []))))
+    ∷ Plain 3 (Perform (call (codes "DeleteLocalRef") (given (codes "d") ∷ [])))
+    ∷ Plain 4 (Declare (Simple (ReferenceVariable JIntArray)) (codes "a") (FromCall (call (codes "NewIntArray") (Value (Number 373 false) ∷ []))))
+    ∷ Return 5 None
     ∷ [])
     5
     ∷ [])
@@ -66,10 +67,10 @@ abbrev pub an_array_that_is_too_long : SourceUnit
 an_array_that_is_too_long =
     unit_of
     (native 1 Void (codes "Java_A_f") []
-    (Declare 2 (ReferenceVariable JIntArray) (codes "d") (FromCall (call (codes "NewIntArray") (Value (Number 100 false) ∷ [])))
-    ∷ Perform 3 (call (codes "DeleteLocalRef") (given (codes "d") ∷ []))
-    ∷ Declare 4 (ReferenceVariable JIntArray) (codes "a") (FromCall (call (codes "NewIntArray") (Value (Number 374 false) ∷ [])))
-    ∷ Return 5
+    (Plain 2 (Declare (Simple (ReferenceVariable JIntArray)) (codes "d") (FromCall (call (codes "NewIntArray") (Value (Number 100 false) ∷ []))))
+    ∷ Plain 3 (Perform (call (codes "DeleteLocalRef") (given (codes "d") ∷ [])))
+    ∷ Plain 4 (Declare (Simple (ReferenceVariable JIntArray)) (codes "a") (FromCall (call (codes "NewIntArray") (Value (Number 374 false) ∷ []))))
+    ∷ Return 5 None
     ∷ [])
     5
     ∷ [])
@@ -89,7 +90,7 @@ abbrev pub a_world_that_fills_its_heap : SourceUnit
 a_world_that_fills_its_heap =
     unit_of
     (native 1 IntResult (codes "Java_A_f") []
-    (ReturnValue 1 (Number 0 false)
+    (Return 1 (Some (Number 0 false))
     ∷ [])
     1
     ∷ [])

@@ -3,11 +3,12 @@ use Rattle.std.specs.Prelude.{◌∷◌, pos, false, [], Some, None, codes, refl
 use Rattle.base.specs.declared.element.ElementType.TheVariants.{Char as JChar}
 use Rattle.syntax.specs.declared.declared_type.ReferenceType.TheVariants.{Object as JObject, String as JString}
 use Rattle.syntax.specs.declared.declared_type.VariableType.TheVariants.{Jint as JIntVariable, Jboolean as JBoolean, Reference as ReferenceVariable}
+use Rattle.syntax.specs.declared.declared_type.DeclaredType.TheVariants.{Simple, ConstChars}
 use Rattle.syntax.specs.declared.unit.ResultType.TheVariants.{Void}
 use Rattle.syntax.specs.declared.expr.Constant.TheVariants.{True, False, Null}
 use Rattle.syntax.specs.declared.expr.PrefixOp.TheVariants.{ToInt}
 use Rattle.syntax.specs.declared.expr.BinaryOp.TheVariants.{NotEqual}
-use Rattle.syntax.specs.Tree.{Number, Named, Variable, Element, Prefix, Binary, Value, Text, AddressOf, FromExpr, FromCall, TestExpr, Declare, DeclareChars, DeclareArray, Perform, PutJint, If, Return, SourceUnit}
+use Rattle.syntax.specs.Tree.{Number, Named, Variable, Element, Prefix, Binary, Value, Text, AddressOf, FromExpr, FromCall, TestExpr, Declare, DeclareArray, Perform, PutJint, Plain, If, NoElse, Return, SourceUnit}
 use Rattle.semantics.specs.declared.schedule.ScheduleWord.TheVariants.{Turn}
 use Rattle.semantics.specs.World.{World}
 use Rattle.world_values.specs.WorldLines.{NumberValue, NamedObject, ClassLine, ArrayLine, StringLine, ThreadLine, Lines}
@@ -33,15 +34,15 @@ abbrev pub a_string_and_its_characters : SourceUnit
 a_string_and_its_characters =
     unit_of
     (native 1 Void (codes "Java_A_f") []
-    (Declare 2 (ReferenceVariable JString) (codes "s") (FromCall (call (codes "NewStringUTF") (Text (codes "Hello") ∷ [])))
-    ∷ Declare 3 JIntVariable (codes "n") (FromCall (call (codes "GetStringLength") (given (codes "s") ∷ [])))
-    ∷ PutJint 4 (Variable (codes "n"))
-    ∷ DeclareArray 5 JChar (codes "x") 4
-    ∷ Perform 6 (call (codes "GetStringRegion") (given (codes "s") ∷ Value (Number 1 false) ∷ Value (Number 3 false) ∷ given (codes "x") ∷ []))
-    ∷ PutJint 7 (Element (codes "x") (Number 0 false))
-    ∷ PutJint 8 (Element (codes "x") (Number 2 false))
-    ∷ PutJint 9 (Element (codes "x") (Number 3 false))
-    ∷ Return 10
+    (Plain 2 (Declare (Simple (ReferenceVariable JString)) (codes "s") (FromCall (call (codes "NewStringUTF") (Text (codes "Hello") ∷ []))))
+    ∷ Plain 3 (Declare (Simple JIntVariable) (codes "n") (FromCall (call (codes "GetStringLength") (given (codes "s") ∷ []))))
+    ∷ Plain 4 (PutJint (Variable (codes "n")))
+    ∷ Plain 5 (DeclareArray JChar (codes "x") 4)
+    ∷ Plain 6 (Perform (call (codes "GetStringRegion") (given (codes "s") ∷ Value (Number 1 false) ∷ Value (Number 3 false) ∷ given (codes "x") ∷ [])))
+    ∷ Plain 7 (PutJint (Element (codes "x") (Number 0 false)))
+    ∷ Plain 8 (PutJint (Element (codes "x") (Number 2 false)))
+    ∷ Plain 9 (PutJint (Element (codes "x") (Number 3 false)))
+    ∷ Return 10 None
     ∷ [])
     11
     ∷ [])
@@ -83,16 +84,17 @@ abbrev pub a_copy_of_the_characters : SourceUnit
 a_copy_of_the_characters =
     unit_of
     (native 1 Void (codes "Java_A_f") (reference_parameter JString (codes "s") ∷ [])
-    (Declare 2 JBoolean (codes "copied") (FromExpr (Named False))
-    ∷ DeclareChars 3 (codes "p") (FromCall (call (codes "GetStringChars") (given (codes "s") ∷ AddressOf (codes "copied") ∷ [])))
+    (Plain 2 (Declare (Simple JBoolean) (codes "copied") (FromExpr (Named False)))
+    ∷ Plain 3 (Declare ConstChars (codes "p") (FromCall (call (codes "GetStringChars") (given (codes "s") ∷ AddressOf (codes "copied") ∷ []))))
     ∷ If 4 (TestExpr (Binary NotEqual (Variable (codes "p")) (Named Null)))
     (block
-    (PutJint 5 (Element (codes "p") (Number 1 false))
-    ∷ PutJint 6 (Prefix ToInt (Variable (codes "copied")))
-    ∷ Perform 7 (call (codes "ReleaseStringChars") (given (codes "s") ∷ given (codes "p") ∷ []))
+    (Plain 5 (PutJint (Element (codes "p") (Number 1 false)))
+    ∷ Plain 6 (PutJint (Prefix ToInt (Variable (codes "copied"))))
+    ∷ Plain 7 (Perform (call (codes "ReleaseStringChars") (given (codes "s") ∷ given (codes "p") ∷ [])))
     ∷ [])
     8)
-    ∷ Return 9
+    NoElse
+    ∷ Return 9 None
     ∷ [])
     10
     ∷ [])
@@ -136,17 +138,18 @@ abbrev pub a_view_of_the_characters : SourceUnit
 a_view_of_the_characters =
     unit_of
     (native 1 Void (codes "Java_A_f") (reference_parameter JString (codes "s") ∷ [])
-    (Declare 2 JBoolean (codes "copied") (FromExpr (Named True))
-    ∷ DeclareChars 3 (codes "p") (FromCall (call (codes "GetStringCritical") (given (codes "s") ∷ AddressOf (codes "copied") ∷ [])))
+    (Plain 2 (Declare (Simple JBoolean) (codes "copied") (FromExpr (Named True)))
+    ∷ Plain 3 (Declare ConstChars (codes "p") (FromCall (call (codes "GetStringCritical") (given (codes "s") ∷ AddressOf (codes "copied") ∷ []))))
     ∷ If 4 (TestExpr (Binary NotEqual (Variable (codes "p")) (Named Null)))
     (block
-    (Declare 5 JIntVariable (codes "n") (FromExpr (Element (codes "p") (Number 0 false)))
-    ∷ Perform 6 (call (codes "ReleaseStringCritical") (given (codes "s") ∷ given (codes "p") ∷ []))
-    ∷ PutJint 7 (Variable (codes "n"))
-    ∷ PutJint 8 (Prefix ToInt (Variable (codes "copied")))
+    (Plain 5 (Declare (Simple JIntVariable) (codes "n") (FromExpr (Element (codes "p") (Number 0 false))))
+    ∷ Plain 6 (Perform (call (codes "ReleaseStringCritical") (given (codes "s") ∷ given (codes "p") ∷ [])))
+    ∷ Plain 7 (PutJint (Variable (codes "n")))
+    ∷ Plain 8 (PutJint (Prefix ToInt (Variable (codes "copied"))))
     ∷ [])
     9)
-    ∷ Return 10
+    NoElse
+    ∷ Return 10 None
     ∷ [])
     11
     ∷ [])
@@ -170,9 +173,9 @@ abbrev pub a_region_past_the_end_of_a_string : SourceUnit
 a_region_past_the_end_of_a_string =
     unit_of
     (native 1 Void (codes "Java_A_f") (reference_parameter JString (codes "s") ∷ [])
-    (DeclareArray 2 JChar (codes "x") 4
-    ∷ Perform 3 (call (codes "GetStringRegion") (given (codes "s") ∷ Value (Number 1 false) ∷ Value (Number 2 false) ∷ given (codes "x") ∷ []))
-    ∷ Return 4
+    (Plain 2 (DeclareArray JChar (codes "x") 4)
+    ∷ Plain 3 (Perform (call (codes "GetStringRegion") (given (codes "s") ∷ Value (Number 1 false) ∷ Value (Number 2 false) ∷ given (codes "x") ∷ [])))
+    ∷ Return 4 None
     ∷ [])
     5
     ∷ [])
@@ -195,8 +198,8 @@ abbrev pub an_object_that_is_no_string : SourceUnit
 an_object_that_is_no_string =
     unit_of
     (native 1 Void (codes "Java_A_f") (reference_parameter JObject (codes "a") ∷ [])
-    (Declare 2 JIntVariable (codes "n") (FromCall (call (codes "GetStringLength") (given (codes "a") ∷ [])))
-    ∷ Return 3
+    (Plain 2 (Declare (Simple JIntVariable) (codes "n") (FromCall (call (codes "GetStringLength") (given (codes "a") ∷ []))))
+    ∷ Return 3 None
     ∷ [])
     4
     ∷ [])
@@ -235,10 +238,10 @@ abbrev pub an_empty_string : SourceUnit
 an_empty_string =
     unit_of
     (native 1 Void (codes "Java_A_f") []
-    (Declare 2 (ReferenceVariable JString) (codes "s") (FromCall (call (codes "NewStringUTF") (Text [] ∷ [])))
-    ∷ Declare 3 JIntVariable (codes "n") (FromCall (call (codes "GetStringLength") (given (codes "s") ∷ [])))
-    ∷ PutJint 4 (Variable (codes "n"))
-    ∷ Return 5
+    (Plain 2 (Declare (Simple (ReferenceVariable JString)) (codes "s") (FromCall (call (codes "NewStringUTF") (Text [] ∷ []))))
+    ∷ Plain 3 (Declare (Simple JIntVariable) (codes "n") (FromCall (call (codes "GetStringLength") (given (codes "s") ∷ []))))
+    ∷ Plain 4 (PutJint (Variable (codes "n")))
+    ∷ Return 5 None
     ∷ [])
     6
     ∷ [])

@@ -3,10 +3,11 @@ use Rattle.std.specs.Prelude.{◌∷◌, pos, negsuc, true, false, [], Some, Non
 use Rattle.base.specs.declared.element.ElementType.TheVariants.{Int as JInt}
 use Rattle.syntax.specs.declared.declared_type.ReferenceType.TheVariants.{Object as JObject, Class as JClass}
 use Rattle.syntax.specs.declared.declared_type.VariableType.TheVariants.{Uint32 as UInt32, Jboolean as JBoolean, Reference as ReferenceVariable}
+use Rattle.syntax.specs.declared.declared_type.DeclaredType.TheVariants.{Simple}
 use Rattle.syntax.specs.declared.unit.ResultType.TheVariants.{Void}
 use Rattle.syntax.specs.declared.expr.PrefixOp.TheVariants.{Complement, ToWord, ToInt}
 use Rattle.syntax.specs.declared.expr.BinaryOp.TheVariants.{ShiftLeft, ShiftRight, Divide, Remainder}
-use Rattle.syntax.specs.Tree.{Number, Variable, Element, Prefix, Binary, Paren, Text, FromExpr, FromCall, Declare, DeclareArray, Perform, PutJint, Return, SourceUnit}
+use Rattle.syntax.specs.Tree.{Number, Variable, Element, Prefix, Binary, Paren, Text, FromExpr, FromCall, Declare, DeclareArray, Perform, PutJint, Plain, Return, SourceUnit}
 use Rattle.semantics.specs.declared.schedule.ScheduleWord.TheVariants.{Turn}
 use Rattle.semantics.specs.World.{World}
 use Rattle.world_values.specs.WorldLines.{NumberValue, NullValue, NamedObject, ClassLine, ArrayLine, ThreadLine, Lines}
@@ -25,8 +26,8 @@ abbrev pub a_division_by_zero : SourceUnit
 a_division_by_zero =
     unit_of
     (native 1 Void (codes "Java_A_f") (int_parameter (codes "n") ∷ [])
-    (Declare 2 UInt32 (codes "u") (FromExpr (Binary Divide (Number 1 true) (Prefix ToWord (Variable (codes "n")))))
-    ∷ Return 3
+    (Plain 2 (Declare (Simple UInt32) (codes "u") (FromExpr (Binary Divide (Number 1 true) (Prefix ToWord (Variable (codes "n"))))))
+    ∷ Return 3 None
     ∷ [])
     4
     ∷ [])
@@ -62,8 +63,8 @@ abbrev pub a_remainder_by_zero : SourceUnit
 a_remainder_by_zero =
     unit_of
     (native 1 Void (codes "Java_A_f") (int_parameter (codes "n") ∷ [])
-    (Declare 2 UInt32 (codes "u") (FromExpr (Binary Remainder (Number 1 true) (Prefix ToWord (Variable (codes "n")))))
-    ∷ Return 3
+    (Plain 2 (Declare (Simple UInt32) (codes "u") (FromExpr (Binary Remainder (Number 1 true) (Prefix ToWord (Variable (codes "n"))))))
+    ∷ Return 3 None
     ∷ [])
     4
     ∷ [])
@@ -87,9 +88,9 @@ abbrev pub a_shift_to_the_left_by_31_and_by_32 : SourceUnit
 a_shift_to_the_left_by_31_and_by_32 =
     unit_of
     (native 1 Void (codes "Java_A_f") (int_parameter (codes "n") ∷ [])
-    (PutJint 2 (Prefix ToInt (Paren (Binary ShiftLeft (Number 1 true) (Number 31 true))))
-    ∷ Declare 3 UInt32 (codes "u") (FromExpr (Binary ShiftLeft (Number 1 true) (Prefix ToWord (Variable (codes "n")))))
-    ∷ Return 4
+    (Plain 2 (PutJint (Prefix ToInt (Paren (Binary ShiftLeft (Number 1 true) (Number 31 true)))))
+    ∷ Plain 3 (Declare (Simple UInt32) (codes "u") (FromExpr (Binary ShiftLeft (Number 1 true) (Prefix ToWord (Variable (codes "n"))))))
+    ∷ Return 4 None
     ∷ [])
     5
     ∷ [])
@@ -126,9 +127,9 @@ abbrev pub a_shift_to_the_right_by_31_and_by_33 : SourceUnit
 a_shift_to_the_right_by_31_and_by_33 =
     unit_of
     (native 1 Void (codes "Java_A_f") (int_parameter (codes "n") ∷ [])
-    (PutJint 2 (Prefix ToInt (Paren (Binary ShiftRight (Prefix Complement (Number 0 true)) (Number 31 true))))
-    ∷ Declare 3 UInt32 (codes "u") (FromExpr (Binary ShiftRight (Number 1 true) (Prefix ToWord (Variable (codes "n")))))
-    ∷ Return 4
+    (Plain 2 (PutJint (Prefix ToInt (Paren (Binary ShiftRight (Prefix Complement (Number 0 true)) (Number 31 true)))))
+    ∷ Plain 3 (Declare (Simple UInt32) (codes "u") (FromExpr (Binary ShiftRight (Number 1 true) (Prefix ToWord (Variable (codes "n"))))))
+    ∷ Return 4 None
     ∷ [])
     5
     ∷ [])
@@ -165,9 +166,9 @@ abbrev pub an_index_of_minus_one : SourceUnit
 an_index_of_minus_one =
     unit_of
     (native 1 Void (codes "Java_A_f") (int_parameter (codes "n") ∷ [])
-    (DeclareArray 2 JInt (codes "x") 2
-    ∷ PutJint 3 (Element (codes "x") (Variable (codes "n")))
-    ∷ Return 4
+    (Plain 2 (DeclareArray JInt (codes "x") 2)
+    ∷ Plain 3 (PutJint (Element (codes "x") (Variable (codes "n"))))
+    ∷ Return 4 None
     ∷ [])
     5
     ∷ [])
@@ -203,8 +204,8 @@ abbrev pub null_where_an_object_is_wanted : SourceUnit
 null_where_an_object_is_wanted =
     unit_of
     (native 1 Void (codes "Java_A_f") (reference_parameter JObject (codes "o") ∷ [])
-    (Declare 2 (ReferenceVariable JClass) (codes "c") (FromCall (call (codes "GetObjectClass") (given (codes "o") ∷ [])))
-    ∷ Return 3
+    (Plain 2 (Declare (Simple (ReferenceVariable JClass)) (codes "c") (FromCall (call (codes "GetObjectClass") (given (codes "o") ∷ []))))
+    ∷ Return 3 None
     ∷ [])
     4
     ∷ [])
@@ -241,9 +242,9 @@ abbrev pub a_call_with_an_exception_pending : SourceUnit
 a_call_with_an_exception_pending =
     unit_of
     (native 1 Void (codes "Java_A_f") []
-    (Declare 2 (ReferenceVariable JClass) (codes "c") (FromCall (call (codes "FindClass") (Text (codes "B") ∷ [])))
-    ∷ Declare 3 JBoolean (codes "b") (FromCall (call (codes "IsSameObject") (given (codes "cls") ∷ given (codes "cls") ∷ [])))
-    ∷ Return 4
+    (Plain 2 (Declare (Simple (ReferenceVariable JClass)) (codes "c") (FromCall (call (codes "FindClass") (Text (codes "B") ∷ []))))
+    ∷ Plain 3 (Declare (Simple JBoolean) (codes "b") (FromCall (call (codes "IsSameObject") (given (codes "cls") ∷ given (codes "cls") ∷ []))))
+    ∷ Return 4 None
     ∷ [])
     5
     ∷ [])
@@ -279,8 +280,8 @@ abbrev pub an_array_where_a_class_is_wanted : SourceUnit
 an_array_where_a_class_is_wanted =
     unit_of
     (native 1 Void (codes "Java_A_f") (reference_parameter JObject (codes "a") ∷ [])
-    (Declare 2 (ReferenceVariable JClass) (codes "c") (FromCall (call (codes "GetSuperclass") (given (codes "a") ∷ [])))
-    ∷ Return 3
+    (Plain 2 (Declare (Simple (ReferenceVariable JClass)) (codes "c") (FromCall (call (codes "GetSuperclass") (given (codes "a") ∷ []))))
+    ∷ Return 3 None
     ∷ [])
     4
     ∷ [])
@@ -317,8 +318,8 @@ abbrev pub a_fatal_error : SourceUnit
 a_fatal_error =
     unit_of
     (native 1 Void (codes "Java_A_f") []
-    (Perform 2 (call (codes "FatalError") (Text (codes "the end") ∷ []))
-    ∷ Return 3
+    (Plain 2 (Perform (call (codes "FatalError") (Text (codes "the end") ∷ [])))
+    ∷ Return 3 None
     ∷ [])
     4
     ∷ [])
@@ -342,9 +343,9 @@ abbrev pub a_fatal_error_with_an_exception_pending : SourceUnit
 a_fatal_error_with_an_exception_pending =
     unit_of
     (native 1 Void (codes "Java_A_f") []
-    (Declare 2 (ReferenceVariable JClass) (codes "c") (FromCall (call (codes "FindClass") (Text (codes "B") ∷ [])))
-    ∷ Perform 3 (call (codes "FatalError") (Text (codes "the end") ∷ []))
-    ∷ Return 4
+    (Plain 2 (Declare (Simple (ReferenceVariable JClass)) (codes "c") (FromCall (call (codes "FindClass") (Text (codes "B") ∷ []))))
+    ∷ Plain 3 (Perform (call (codes "FatalError") (Text (codes "the end") ∷ [])))
+    ∷ Return 4 None
     ∷ [])
     5
     ∷ [])

@@ -1,12 +1,13 @@
 -- The cases of texts/trees.cases, as gate/worked_equations writes them.
-use Rattle.std.specs.Prelude.{◌∷◌, true, false, [], codes}
+use Rattle.std.specs.Prelude.{◌∷◌, true, false, [], None, codes}
 use Rattle.base.specs.declared.element.ElementType.TheVariants.{Int as JInt}
 use Rattle.syntax.specs.declared.declared_type.ReferenceType.TheVariants.{Object as JObject, IntArray as JIntArray}
 use Rattle.syntax.specs.declared.declared_type.VariableType.TheVariants.{Uint32 as UInt32, Jint as JIntVariable, Reference as ReferenceVariable}
+use Rattle.syntax.specs.declared.declared_type.DeclaredType.TheVariants.{Simple, Pointer}
 use Rattle.syntax.specs.declared.unit.ResultType.TheVariants.{Void}
 use Rattle.syntax.specs.declared.expr.Constant.TheVariants.{Null}
 use Rattle.syntax.specs.declared.expr.BinaryOp.TheVariants.{Equal, Less, Add}
-use Rattle.syntax.specs.Tree.{Number, Named, Variable, Binary, Paren, Value, FromExpr, FromCall, TestExpr, Declare, DeclareBuffer, Assign, Perform, PutJint, If, IfElse, While, Return, SourceUnit}
+use Rattle.syntax.specs.Tree.{Number, Named, Variable, Binary, Paren, Value, FromExpr, FromCall, TestExpr, Declare, Assign, Perform, PutJint, Plain, If, NoElse, ElseBlock, While, Return, SourceUnit}
 use Rattle.test_equations.proofs.Programs.{unit_of, native, block, reference_parameter, call, given}
 
 -- highest
@@ -15,8 +16,8 @@ abbrev pub highest : SourceUnit
 highest =
     unit_of
     (native 1 Void (codes "Java_A_f") []
-    (PutJint 1 (Paren (Paren (Paren (Paren (Paren (Paren (Paren (Paren (Paren (Paren (Paren (Paren (Paren (Paren (Paren (Paren (Paren (Paren (Paren (Paren (Paren (Paren (Paren (Paren (Paren (Paren (Paren (Paren (Paren (Paren (Paren (Number 1 false))))))))))))))))))))))))))))))))
-    ∷ Return 1
+    (Plain 1 (PutJint (Paren (Paren (Paren (Paren (Paren (Paren (Paren (Paren (Paren (Paren (Paren (Paren (Paren (Paren (Paren (Paren (Paren (Paren (Paren (Paren (Paren (Paren (Paren (Paren (Paren (Paren (Paren (Paren (Paren (Paren (Paren (Number 1 false)))))))))))))))))))))))))))))))))
+    ∷ Return 1 None
     ∷ [])
     1
     ∷ [])
@@ -27,8 +28,8 @@ abbrev pub too_high : SourceUnit
 too_high =
     unit_of
     (native 1 Void (codes "Java_A_f") []
-    (PutJint 1 (Paren (Paren (Paren (Paren (Paren (Paren (Paren (Paren (Paren (Paren (Paren (Paren (Paren (Paren (Paren (Paren (Paren (Paren (Paren (Paren (Paren (Paren (Paren (Paren (Paren (Paren (Paren (Paren (Paren (Paren (Paren (Paren (Number 1 false)))))))))))))))))))))))))))))))))
-    ∷ Return 1
+    (Plain 1 (PutJint (Paren (Paren (Paren (Paren (Paren (Paren (Paren (Paren (Paren (Paren (Paren (Paren (Paren (Paren (Paren (Paren (Paren (Paren (Paren (Paren (Paren (Paren (Paren (Paren (Paren (Paren (Paren (Paren (Paren (Paren (Paren (Paren (Number 1 false))))))))))))))))))))))))))))))))))
+    ∷ Return 1 None
     ∷ [])
     1
     ∷ [])
@@ -42,22 +43,22 @@ abbrev pub enters : SourceUnit
 enters =
     unit_of
     (native 1 Void (codes "Java_A_f") (reference_parameter JObject (codes "o") ∷ [])
-    (Declare 2 UInt32 (codes "i") (FromExpr (Number 0 true))
+    (Plain 2 (Declare (Simple UInt32) (codes "i") (FromExpr (Number 0 true)))
     ∷ While 3 (Binary Less (Variable (codes "i")) (Number 256 true))
     (block
-    (Declare 3 JIntVariable (codes "r") (FromCall (call (codes "MonitorEnter") (given (codes "o") ∷ [])))
-    ∷ IfElse 3 (TestExpr (Binary Equal (Variable (codes "r")) (Number 0 false)))
+    (Plain 3 (Declare (Simple JIntVariable) (codes "r") (FromCall (call (codes "MonitorEnter") (given (codes "o") ∷ []))))
+    ∷ If 3 (TestExpr (Binary Equal (Variable (codes "r")) (Number 0 false)))
     (block
     []
     3)
-    (block
-    (PutJint 3 (Variable (codes "r"))
+    (ElseBlock (block
+    (Plain 3 (PutJint (Variable (codes "r")))
+    ∷ [])
+    3))
+    ∷ Plain 3 (Assign (codes "i") (FromExpr (Binary Add (Variable (codes "i")) (Number 1 true))))
     ∷ [])
     3)
-    ∷ Assign 3 (codes "i") (FromExpr (Binary Add (Variable (codes "i")) (Number 1 true)))
-    ∷ [])
-    3)
-    ∷ Return 4
+    ∷ Return 4 None
     ∷ [])
     4
     ∷ [])
@@ -73,19 +74,19 @@ abbrev pub copies : SourceUnit
 copies =
     unit_of
     (native 1 Void (codes "Java_A_f") []
-    (Declare 2 (ReferenceVariable JIntArray) (codes "a") (FromCall (call (codes "NewIntArray") (Value (Number 32768 false) ∷ [])))
-    ∷ DeclareBuffer 3 JInt (codes "p") (FromCall (call (codes "GetIntArrayElements") (given (codes "a") ∷ Value (Named Null) ∷ [])))
-    ∷ DeclareBuffer 4 JInt (codes "q") (FromCall (call (codes "GetIntArrayElements") (given (codes "a") ∷ Value (Named Null) ∷ [])))
-    ∷ IfElse 5 (TestExpr (Binary Equal (Variable (codes "q")) (Named Null)))
+    (Plain 2 (Declare (Simple (ReferenceVariable JIntArray)) (codes "a") (FromCall (call (codes "NewIntArray") (Value (Number 32768 false) ∷ []))))
+    ∷ Plain 3 (Declare (Pointer JInt) (codes "p") (FromCall (call (codes "GetIntArrayElements") (given (codes "a") ∷ Value (Named Null) ∷ []))))
+    ∷ Plain 4 (Declare (Pointer JInt) (codes "q") (FromCall (call (codes "GetIntArrayElements") (given (codes "a") ∷ Value (Named Null) ∷ []))))
+    ∷ If 5 (TestExpr (Binary Equal (Variable (codes "q")) (Named Null)))
     (block
-    (PutJint 5 (Number 1 false)
+    (Plain 5 (PutJint (Number 1 false))
     ∷ [])
     5)
-    (block
-    (PutJint 5 (Number 2 false)
+    (ElseBlock (block
+    (Plain 5 (PutJint (Number 2 false))
     ∷ [])
-    5)
-    ∷ Return 6
+    5))
+    ∷ Return 6 None
     ∷ [])
     6
     ∷ [])
@@ -101,19 +102,19 @@ abbrev pub copies_too_many : SourceUnit
 copies_too_many =
     unit_of
     (native 1 Void (codes "Java_A_f") []
-    (Declare 2 (ReferenceVariable JIntArray) (codes "a") (FromCall (call (codes "NewIntArray") (Value (Number 32769 false) ∷ [])))
-    ∷ DeclareBuffer 3 JInt (codes "p") (FromCall (call (codes "GetIntArrayElements") (given (codes "a") ∷ Value (Named Null) ∷ [])))
-    ∷ DeclareBuffer 4 JInt (codes "q") (FromCall (call (codes "GetIntArrayElements") (given (codes "a") ∷ Value (Named Null) ∷ [])))
-    ∷ IfElse 5 (TestExpr (Binary Equal (Variable (codes "q")) (Named Null)))
+    (Plain 2 (Declare (Simple (ReferenceVariable JIntArray)) (codes "a") (FromCall (call (codes "NewIntArray") (Value (Number 32769 false) ∷ []))))
+    ∷ Plain 3 (Declare (Pointer JInt) (codes "p") (FromCall (call (codes "GetIntArrayElements") (given (codes "a") ∷ Value (Named Null) ∷ []))))
+    ∷ Plain 4 (Declare (Pointer JInt) (codes "q") (FromCall (call (codes "GetIntArrayElements") (given (codes "a") ∷ Value (Named Null) ∷ []))))
+    ∷ If 5 (TestExpr (Binary Equal (Variable (codes "q")) (Named Null)))
     (block
-    (PutJint 5 (Number 1 false)
+    (Plain 5 (PutJint (Number 1 false))
     ∷ [])
     5)
-    (block
-    (PutJint 5 (Number 2 false)
+    (ElseBlock (block
+    (Plain 5 (PutJint (Number 2 false))
     ∷ [])
-    5)
-    ∷ Return 6
+    5))
+    ∷ Return 6 None
     ∷ [])
     6
     ∷ [])
@@ -192,82 +193,84 @@ abbrev pub views_64 : SourceUnit
 views_64 =
     unit_of
     (native 1 Void (codes "Java_A_f") (reference_parameter JIntArray (codes "a") ∷ [])
-    (DeclareBuffer 2 JInt (codes "p0") (FromCall (call (codes "GetPrimitiveArrayCritical") (given (codes "a") ∷ Value (Named Null) ∷ [])))
-    ∷ DeclareBuffer 3 JInt (codes "p1") (FromCall (call (codes "GetPrimitiveArrayCritical") (given (codes "a") ∷ Value (Named Null) ∷ [])))
-    ∷ DeclareBuffer 4 JInt (codes "p2") (FromCall (call (codes "GetPrimitiveArrayCritical") (given (codes "a") ∷ Value (Named Null) ∷ [])))
-    ∷ DeclareBuffer 5 JInt (codes "p3") (FromCall (call (codes "GetPrimitiveArrayCritical") (given (codes "a") ∷ Value (Named Null) ∷ [])))
-    ∷ DeclareBuffer 6 JInt (codes "p4") (FromCall (call (codes "GetPrimitiveArrayCritical") (given (codes "a") ∷ Value (Named Null) ∷ [])))
-    ∷ DeclareBuffer 7 JInt (codes "p5") (FromCall (call (codes "GetPrimitiveArrayCritical") (given (codes "a") ∷ Value (Named Null) ∷ [])))
-    ∷ DeclareBuffer 8 JInt (codes "p6") (FromCall (call (codes "GetPrimitiveArrayCritical") (given (codes "a") ∷ Value (Named Null) ∷ [])))
-    ∷ DeclareBuffer 9 JInt (codes "p7") (FromCall (call (codes "GetPrimitiveArrayCritical") (given (codes "a") ∷ Value (Named Null) ∷ [])))
-    ∷ DeclareBuffer 10 JInt (codes "p8") (FromCall (call (codes "GetPrimitiveArrayCritical") (given (codes "a") ∷ Value (Named Null) ∷ [])))
-    ∷ DeclareBuffer 11 JInt (codes "p9") (FromCall (call (codes "GetPrimitiveArrayCritical") (given (codes "a") ∷ Value (Named Null) ∷ [])))
-    ∷ DeclareBuffer 12 JInt (codes "p10") (FromCall (call (codes "GetPrimitiveArrayCritical") (given (codes "a") ∷ Value (Named Null) ∷ [])))
-    ∷ DeclareBuffer 13 JInt (codes "p11") (FromCall (call (codes "GetPrimitiveArrayCritical") (given (codes "a") ∷ Value (Named Null) ∷ [])))
-    ∷ DeclareBuffer 14 JInt (codes "p12") (FromCall (call (codes "GetPrimitiveArrayCritical") (given (codes "a") ∷ Value (Named Null) ∷ [])))
-    ∷ DeclareBuffer 15 JInt (codes "p13") (FromCall (call (codes "GetPrimitiveArrayCritical") (given (codes "a") ∷ Value (Named Null) ∷ [])))
-    ∷ DeclareBuffer 16 JInt (codes "p14") (FromCall (call (codes "GetPrimitiveArrayCritical") (given (codes "a") ∷ Value (Named Null) ∷ [])))
-    ∷ DeclareBuffer 17 JInt (codes "p15") (FromCall (call (codes "GetPrimitiveArrayCritical") (given (codes "a") ∷ Value (Named Null) ∷ [])))
-    ∷ DeclareBuffer 18 JInt (codes "p16") (FromCall (call (codes "GetPrimitiveArrayCritical") (given (codes "a") ∷ Value (Named Null) ∷ [])))
-    ∷ DeclareBuffer 19 JInt (codes "p17") (FromCall (call (codes "GetPrimitiveArrayCritical") (given (codes "a") ∷ Value (Named Null) ∷ [])))
-    ∷ DeclareBuffer 20 JInt (codes "p18") (FromCall (call (codes "GetPrimitiveArrayCritical") (given (codes "a") ∷ Value (Named Null) ∷ [])))
-    ∷ DeclareBuffer 21 JInt (codes "p19") (FromCall (call (codes "GetPrimitiveArrayCritical") (given (codes "a") ∷ Value (Named Null) ∷ [])))
-    ∷ DeclareBuffer 22 JInt (codes "p20") (FromCall (call (codes "GetPrimitiveArrayCritical") (given (codes "a") ∷ Value (Named Null) ∷ [])))
-    ∷ DeclareBuffer 23 JInt (codes "p21") (FromCall (call (codes "GetPrimitiveArrayCritical") (given (codes "a") ∷ Value (Named Null) ∷ [])))
-    ∷ DeclareBuffer 24 JInt (codes "p22") (FromCall (call (codes "GetPrimitiveArrayCritical") (given (codes "a") ∷ Value (Named Null) ∷ [])))
-    ∷ DeclareBuffer 25 JInt (codes "p23") (FromCall (call (codes "GetPrimitiveArrayCritical") (given (codes "a") ∷ Value (Named Null) ∷ [])))
-    ∷ DeclareBuffer 26 JInt (codes "p24") (FromCall (call (codes "GetPrimitiveArrayCritical") (given (codes "a") ∷ Value (Named Null) ∷ [])))
-    ∷ DeclareBuffer 27 JInt (codes "p25") (FromCall (call (codes "GetPrimitiveArrayCritical") (given (codes "a") ∷ Value (Named Null) ∷ [])))
-    ∷ DeclareBuffer 28 JInt (codes "p26") (FromCall (call (codes "GetPrimitiveArrayCritical") (given (codes "a") ∷ Value (Named Null) ∷ [])))
-    ∷ DeclareBuffer 29 JInt (codes "p27") (FromCall (call (codes "GetPrimitiveArrayCritical") (given (codes "a") ∷ Value (Named Null) ∷ [])))
-    ∷ DeclareBuffer 30 JInt (codes "p28") (FromCall (call (codes "GetPrimitiveArrayCritical") (given (codes "a") ∷ Value (Named Null) ∷ [])))
-    ∷ DeclareBuffer 31 JInt (codes "p29") (FromCall (call (codes "GetPrimitiveArrayCritical") (given (codes "a") ∷ Value (Named Null) ∷ [])))
-    ∷ DeclareBuffer 32 JInt (codes "p30") (FromCall (call (codes "GetPrimitiveArrayCritical") (given (codes "a") ∷ Value (Named Null) ∷ [])))
-    ∷ DeclareBuffer 33 JInt (codes "p31") (FromCall (call (codes "GetPrimitiveArrayCritical") (given (codes "a") ∷ Value (Named Null) ∷ [])))
-    ∷ DeclareBuffer 34 JInt (codes "p32") (FromCall (call (codes "GetPrimitiveArrayCritical") (given (codes "a") ∷ Value (Named Null) ∷ [])))
-    ∷ DeclareBuffer 35 JInt (codes "p33") (FromCall (call (codes "GetPrimitiveArrayCritical") (given (codes "a") ∷ Value (Named Null) ∷ [])))
-    ∷ DeclareBuffer 36 JInt (codes "p34") (FromCall (call (codes "GetPrimitiveArrayCritical") (given (codes "a") ∷ Value (Named Null) ∷ [])))
-    ∷ DeclareBuffer 37 JInt (codes "p35") (FromCall (call (codes "GetPrimitiveArrayCritical") (given (codes "a") ∷ Value (Named Null) ∷ [])))
-    ∷ DeclareBuffer 38 JInt (codes "p36") (FromCall (call (codes "GetPrimitiveArrayCritical") (given (codes "a") ∷ Value (Named Null) ∷ [])))
-    ∷ DeclareBuffer 39 JInt (codes "p37") (FromCall (call (codes "GetPrimitiveArrayCritical") (given (codes "a") ∷ Value (Named Null) ∷ [])))
-    ∷ DeclareBuffer 40 JInt (codes "p38") (FromCall (call (codes "GetPrimitiveArrayCritical") (given (codes "a") ∷ Value (Named Null) ∷ [])))
-    ∷ DeclareBuffer 41 JInt (codes "p39") (FromCall (call (codes "GetPrimitiveArrayCritical") (given (codes "a") ∷ Value (Named Null) ∷ [])))
-    ∷ DeclareBuffer 42 JInt (codes "p40") (FromCall (call (codes "GetPrimitiveArrayCritical") (given (codes "a") ∷ Value (Named Null) ∷ [])))
-    ∷ DeclareBuffer 43 JInt (codes "p41") (FromCall (call (codes "GetPrimitiveArrayCritical") (given (codes "a") ∷ Value (Named Null) ∷ [])))
-    ∷ DeclareBuffer 44 JInt (codes "p42") (FromCall (call (codes "GetPrimitiveArrayCritical") (given (codes "a") ∷ Value (Named Null) ∷ [])))
-    ∷ DeclareBuffer 45 JInt (codes "p43") (FromCall (call (codes "GetPrimitiveArrayCritical") (given (codes "a") ∷ Value (Named Null) ∷ [])))
-    ∷ DeclareBuffer 46 JInt (codes "p44") (FromCall (call (codes "GetPrimitiveArrayCritical") (given (codes "a") ∷ Value (Named Null) ∷ [])))
-    ∷ DeclareBuffer 47 JInt (codes "p45") (FromCall (call (codes "GetPrimitiveArrayCritical") (given (codes "a") ∷ Value (Named Null) ∷ [])))
-    ∷ DeclareBuffer 48 JInt (codes "p46") (FromCall (call (codes "GetPrimitiveArrayCritical") (given (codes "a") ∷ Value (Named Null) ∷ [])))
-    ∷ DeclareBuffer 49 JInt (codes "p47") (FromCall (call (codes "GetPrimitiveArrayCritical") (given (codes "a") ∷ Value (Named Null) ∷ [])))
-    ∷ DeclareBuffer 50 JInt (codes "p48") (FromCall (call (codes "GetPrimitiveArrayCritical") (given (codes "a") ∷ Value (Named Null) ∷ [])))
-    ∷ DeclareBuffer 51 JInt (codes "p49") (FromCall (call (codes "GetPrimitiveArrayCritical") (given (codes "a") ∷ Value (Named Null) ∷ [])))
-    ∷ DeclareBuffer 52 JInt (codes "p50") (FromCall (call (codes "GetPrimitiveArrayCritical") (given (codes "a") ∷ Value (Named Null) ∷ [])))
-    ∷ DeclareBuffer 53 JInt (codes "p51") (FromCall (call (codes "GetPrimitiveArrayCritical") (given (codes "a") ∷ Value (Named Null) ∷ [])))
-    ∷ DeclareBuffer 54 JInt (codes "p52") (FromCall (call (codes "GetPrimitiveArrayCritical") (given (codes "a") ∷ Value (Named Null) ∷ [])))
-    ∷ DeclareBuffer 55 JInt (codes "p53") (FromCall (call (codes "GetPrimitiveArrayCritical") (given (codes "a") ∷ Value (Named Null) ∷ [])))
-    ∷ DeclareBuffer 56 JInt (codes "p54") (FromCall (call (codes "GetPrimitiveArrayCritical") (given (codes "a") ∷ Value (Named Null) ∷ [])))
-    ∷ DeclareBuffer 57 JInt (codes "p55") (FromCall (call (codes "GetPrimitiveArrayCritical") (given (codes "a") ∷ Value (Named Null) ∷ [])))
-    ∷ DeclareBuffer 58 JInt (codes "p56") (FromCall (call (codes "GetPrimitiveArrayCritical") (given (codes "a") ∷ Value (Named Null) ∷ [])))
-    ∷ DeclareBuffer 59 JInt (codes "p57") (FromCall (call (codes "GetPrimitiveArrayCritical") (given (codes "a") ∷ Value (Named Null) ∷ [])))
-    ∷ DeclareBuffer 60 JInt (codes "p58") (FromCall (call (codes "GetPrimitiveArrayCritical") (given (codes "a") ∷ Value (Named Null) ∷ [])))
-    ∷ DeclareBuffer 61 JInt (codes "p59") (FromCall (call (codes "GetPrimitiveArrayCritical") (given (codes "a") ∷ Value (Named Null) ∷ [])))
-    ∷ DeclareBuffer 62 JInt (codes "p60") (FromCall (call (codes "GetPrimitiveArrayCritical") (given (codes "a") ∷ Value (Named Null) ∷ [])))
-    ∷ DeclareBuffer 63 JInt (codes "p61") (FromCall (call (codes "GetPrimitiveArrayCritical") (given (codes "a") ∷ Value (Named Null) ∷ [])))
-    ∷ DeclareBuffer 64 JInt (codes "p62") (FromCall (call (codes "GetPrimitiveArrayCritical") (given (codes "a") ∷ Value (Named Null) ∷ [])))
-    ∷ DeclareBuffer 65 JInt (codes "p63") (FromCall (call (codes "GetPrimitiveArrayCritical") (given (codes "a") ∷ Value (Named Null) ∷ [])))
-    ∷ DeclareBuffer 66 JInt (codes "p64") (FromCall (call (codes "GetPrimitiveArrayCritical") (given (codes "a") ∷ Value (Named Null) ∷ [])))
+    (Plain 2 (Declare (Pointer JInt) (codes "p0") (FromCall (call (codes "GetPrimitiveArrayCritical") (given (codes "a") ∷ Value (Named Null) ∷ []))))
+    ∷ Plain 3 (Declare (Pointer JInt) (codes "p1") (FromCall (call (codes "GetPrimitiveArrayCritical") (given (codes "a") ∷ Value (Named Null) ∷ []))))
+    ∷ Plain 4 (Declare (Pointer JInt) (codes "p2") (FromCall (call (codes "GetPrimitiveArrayCritical") (given (codes "a") ∷ Value (Named Null) ∷ []))))
+    ∷ Plain 5 (Declare (Pointer JInt) (codes "p3") (FromCall (call (codes "GetPrimitiveArrayCritical") (given (codes "a") ∷ Value (Named Null) ∷ []))))
+    ∷ Plain 6 (Declare (Pointer JInt) (codes "p4") (FromCall (call (codes "GetPrimitiveArrayCritical") (given (codes "a") ∷ Value (Named Null) ∷ []))))
+    ∷ Plain 7 (Declare (Pointer JInt) (codes "p5") (FromCall (call (codes "GetPrimitiveArrayCritical") (given (codes "a") ∷ Value (Named Null) ∷ []))))
+    ∷ Plain 8 (Declare (Pointer JInt) (codes "p6") (FromCall (call (codes "GetPrimitiveArrayCritical") (given (codes "a") ∷ Value (Named Null) ∷ []))))
+    ∷ Plain 9 (Declare (Pointer JInt) (codes "p7") (FromCall (call (codes "GetPrimitiveArrayCritical") (given (codes "a") ∷ Value (Named Null) ∷ []))))
+    ∷ Plain 10 (Declare (Pointer JInt) (codes "p8") (FromCall (call (codes "GetPrimitiveArrayCritical") (given (codes "a") ∷ Value (Named Null) ∷ []))))
+    ∷ Plain 11 (Declare (Pointer JInt) (codes "p9") (FromCall (call (codes "GetPrimitiveArrayCritical") (given (codes "a") ∷ Value (Named Null) ∷ []))))
+    ∷ Plain 12 (Declare (Pointer JInt) (codes "p10") (FromCall (call (codes "GetPrimitiveArrayCritical") (given (codes "a") ∷ Value (Named Null) ∷ []))))
+    ∷ Plain 13 (Declare (Pointer JInt) (codes "p11") (FromCall (call (codes "GetPrimitiveArrayCritical") (given (codes "a") ∷ Value (Named Null) ∷ []))))
+    ∷ Plain 14 (Declare (Pointer JInt) (codes "p12") (FromCall (call (codes "GetPrimitiveArrayCritical") (given (codes "a") ∷ Value (Named Null) ∷ []))))
+    ∷ Plain 15 (Declare (Pointer JInt) (codes "p13") (FromCall (call (codes "GetPrimitiveArrayCritical") (given (codes "a") ∷ Value (Named Null) ∷ []))))
+    ∷ Plain 16 (Declare (Pointer JInt) (codes "p14") (FromCall (call (codes "GetPrimitiveArrayCritical") (given (codes "a") ∷ Value (Named Null) ∷ []))))
+    ∷ Plain 17 (Declare (Pointer JInt) (codes "p15") (FromCall (call (codes "GetPrimitiveArrayCritical") (given (codes "a") ∷ Value (Named Null) ∷ []))))
+    ∷ Plain 18 (Declare (Pointer JInt) (codes "p16") (FromCall (call (codes "GetPrimitiveArrayCritical") (given (codes "a") ∷ Value (Named Null) ∷ []))))
+    ∷ Plain 19 (Declare (Pointer JInt) (codes "p17") (FromCall (call (codes "GetPrimitiveArrayCritical") (given (codes "a") ∷ Value (Named Null) ∷ []))))
+    ∷ Plain 20 (Declare (Pointer JInt) (codes "p18") (FromCall (call (codes "GetPrimitiveArrayCritical") (given (codes "a") ∷ Value (Named Null) ∷ []))))
+    ∷ Plain 21 (Declare (Pointer JInt) (codes "p19") (FromCall (call (codes "GetPrimitiveArrayCritical") (given (codes "a") ∷ Value (Named Null) ∷ []))))
+    ∷ Plain 22 (Declare (Pointer JInt) (codes "p20") (FromCall (call (codes "GetPrimitiveArrayCritical") (given (codes "a") ∷ Value (Named Null) ∷ []))))
+    ∷ Plain 23 (Declare (Pointer JInt) (codes "p21") (FromCall (call (codes "GetPrimitiveArrayCritical") (given (codes "a") ∷ Value (Named Null) ∷ []))))
+    ∷ Plain 24 (Declare (Pointer JInt) (codes "p22") (FromCall (call (codes "GetPrimitiveArrayCritical") (given (codes "a") ∷ Value (Named Null) ∷ []))))
+    ∷ Plain 25 (Declare (Pointer JInt) (codes "p23") (FromCall (call (codes "GetPrimitiveArrayCritical") (given (codes "a") ∷ Value (Named Null) ∷ []))))
+    ∷ Plain 26 (Declare (Pointer JInt) (codes "p24") (FromCall (call (codes "GetPrimitiveArrayCritical") (given (codes "a") ∷ Value (Named Null) ∷ []))))
+    ∷ Plain 27 (Declare (Pointer JInt) (codes "p25") (FromCall (call (codes "GetPrimitiveArrayCritical") (given (codes "a") ∷ Value (Named Null) ∷ []))))
+    ∷ Plain 28 (Declare (Pointer JInt) (codes "p26") (FromCall (call (codes "GetPrimitiveArrayCritical") (given (codes "a") ∷ Value (Named Null) ∷ []))))
+    ∷ Plain 29 (Declare (Pointer JInt) (codes "p27") (FromCall (call (codes "GetPrimitiveArrayCritical") (given (codes "a") ∷ Value (Named Null) ∷ []))))
+    ∷ Plain 30 (Declare (Pointer JInt) (codes "p28") (FromCall (call (codes "GetPrimitiveArrayCritical") (given (codes "a") ∷ Value (Named Null) ∷ []))))
+    ∷ Plain 31 (Declare (Pointer JInt) (codes "p29") (FromCall (call (codes "GetPrimitiveArrayCritical") (given (codes "a") ∷ Value (Named Null) ∷ []))))
+    ∷ Plain 32 (Declare (Pointer JInt) (codes "p30") (FromCall (call (codes "GetPrimitiveArrayCritical") (given (codes "a") ∷ Value (Named Null) ∷ []))))
+    ∷ Plain 33 (Declare (Pointer JInt) (codes "p31") (FromCall (call (codes "GetPrimitiveArrayCritical") (given (codes "a") ∷ Value (Named Null) ∷ []))))
+    ∷ Plain 34 (Declare (Pointer JInt) (codes "p32") (FromCall (call (codes "GetPrimitiveArrayCritical") (given (codes "a") ∷ Value (Named Null) ∷ []))))
+    ∷ Plain 35 (Declare (Pointer JInt) (codes "p33") (FromCall (call (codes "GetPrimitiveArrayCritical") (given (codes "a") ∷ Value (Named Null) ∷ []))))
+    ∷ Plain 36 (Declare (Pointer JInt) (codes "p34") (FromCall (call (codes "GetPrimitiveArrayCritical") (given (codes "a") ∷ Value (Named Null) ∷ []))))
+    ∷ Plain 37 (Declare (Pointer JInt) (codes "p35") (FromCall (call (codes "GetPrimitiveArrayCritical") (given (codes "a") ∷ Value (Named Null) ∷ []))))
+    ∷ Plain 38 (Declare (Pointer JInt) (codes "p36") (FromCall (call (codes "GetPrimitiveArrayCritical") (given (codes "a") ∷ Value (Named Null) ∷ []))))
+    ∷ Plain 39 (Declare (Pointer JInt) (codes "p37") (FromCall (call (codes "GetPrimitiveArrayCritical") (given (codes "a") ∷ Value (Named Null) ∷ []))))
+    ∷ Plain 40 (Declare (Pointer JInt) (codes "p38") (FromCall (call (codes "GetPrimitiveArrayCritical") (given (codes "a") ∷ Value (Named Null) ∷ []))))
+    ∷ Plain 41 (Declare (Pointer JInt) (codes "p39") (FromCall (call (codes "GetPrimitiveArrayCritical") (given (codes "a") ∷ Value (Named Null) ∷ []))))
+    ∷ Plain 42 (Declare (Pointer JInt) (codes "p40") (FromCall (call (codes "GetPrimitiveArrayCritical") (given (codes "a") ∷ Value (Named Null) ∷ []))))
+    ∷ Plain 43 (Declare (Pointer JInt) (codes "p41") (FromCall (call (codes "GetPrimitiveArrayCritical") (given (codes "a") ∷ Value (Named Null) ∷ []))))
+    ∷ Plain 44 (Declare (Pointer JInt) (codes "p42") (FromCall (call (codes "GetPrimitiveArrayCritical") (given (codes "a") ∷ Value (Named Null) ∷ []))))
+    ∷ Plain 45 (Declare (Pointer JInt) (codes "p43") (FromCall (call (codes "GetPrimitiveArrayCritical") (given (codes "a") ∷ Value (Named Null) ∷ []))))
+    ∷ Plain 46 (Declare (Pointer JInt) (codes "p44") (FromCall (call (codes "GetPrimitiveArrayCritical") (given (codes "a") ∷ Value (Named Null) ∷ []))))
+    ∷ Plain 47 (Declare (Pointer JInt) (codes "p45") (FromCall (call (codes "GetPrimitiveArrayCritical") (given (codes "a") ∷ Value (Named Null) ∷ []))))
+    ∷ Plain 48 (Declare (Pointer JInt) (codes "p46") (FromCall (call (codes "GetPrimitiveArrayCritical") (given (codes "a") ∷ Value (Named Null) ∷ []))))
+    ∷ Plain 49 (Declare (Pointer JInt) (codes "p47") (FromCall (call (codes "GetPrimitiveArrayCritical") (given (codes "a") ∷ Value (Named Null) ∷ []))))
+    ∷ Plain 50 (Declare (Pointer JInt) (codes "p48") (FromCall (call (codes "GetPrimitiveArrayCritical") (given (codes "a") ∷ Value (Named Null) ∷ []))))
+    ∷ Plain 51 (Declare (Pointer JInt) (codes "p49") (FromCall (call (codes "GetPrimitiveArrayCritical") (given (codes "a") ∷ Value (Named Null) ∷ []))))
+    ∷ Plain 52 (Declare (Pointer JInt) (codes "p50") (FromCall (call (codes "GetPrimitiveArrayCritical") (given (codes "a") ∷ Value (Named Null) ∷ []))))
+    ∷ Plain 53 (Declare (Pointer JInt) (codes "p51") (FromCall (call (codes "GetPrimitiveArrayCritical") (given (codes "a") ∷ Value (Named Null) ∷ []))))
+    ∷ Plain 54 (Declare (Pointer JInt) (codes "p52") (FromCall (call (codes "GetPrimitiveArrayCritical") (given (codes "a") ∷ Value (Named Null) ∷ []))))
+    ∷ Plain 55 (Declare (Pointer JInt) (codes "p53") (FromCall (call (codes "GetPrimitiveArrayCritical") (given (codes "a") ∷ Value (Named Null) ∷ []))))
+    ∷ Plain 56 (Declare (Pointer JInt) (codes "p54") (FromCall (call (codes "GetPrimitiveArrayCritical") (given (codes "a") ∷ Value (Named Null) ∷ []))))
+    ∷ Plain 57 (Declare (Pointer JInt) (codes "p55") (FromCall (call (codes "GetPrimitiveArrayCritical") (given (codes "a") ∷ Value (Named Null) ∷ []))))
+    ∷ Plain 58 (Declare (Pointer JInt) (codes "p56") (FromCall (call (codes "GetPrimitiveArrayCritical") (given (codes "a") ∷ Value (Named Null) ∷ []))))
+    ∷ Plain 59 (Declare (Pointer JInt) (codes "p57") (FromCall (call (codes "GetPrimitiveArrayCritical") (given (codes "a") ∷ Value (Named Null) ∷ []))))
+    ∷ Plain 60 (Declare (Pointer JInt) (codes "p58") (FromCall (call (codes "GetPrimitiveArrayCritical") (given (codes "a") ∷ Value (Named Null) ∷ []))))
+    ∷ Plain 61 (Declare (Pointer JInt) (codes "p59") (FromCall (call (codes "GetPrimitiveArrayCritical") (given (codes "a") ∷ Value (Named Null) ∷ []))))
+    ∷ Plain 62 (Declare (Pointer JInt) (codes "p60") (FromCall (call (codes "GetPrimitiveArrayCritical") (given (codes "a") ∷ Value (Named Null) ∷ []))))
+    ∷ Plain 63 (Declare (Pointer JInt) (codes "p61") (FromCall (call (codes "GetPrimitiveArrayCritical") (given (codes "a") ∷ Value (Named Null) ∷ []))))
+    ∷ Plain 64 (Declare (Pointer JInt) (codes "p62") (FromCall (call (codes "GetPrimitiveArrayCritical") (given (codes "a") ∷ Value (Named Null) ∷ []))))
+    ∷ Plain 65 (Declare (Pointer JInt) (codes "p63") (FromCall (call (codes "GetPrimitiveArrayCritical") (given (codes "a") ∷ Value (Named Null) ∷ []))))
+    ∷ Plain 66 (Declare (Pointer JInt) (codes "p64") (FromCall (call (codes "GetPrimitiveArrayCritical") (given (codes "a") ∷ Value (Named Null) ∷ []))))
     ∷ If 67 (TestExpr (Binary Equal (Variable (codes "p63")) (Named Null)))
     (block
-    (PutJint 67 (Number 1 false)
+    (Plain 67 (PutJint (Number 1 false))
     ∷ [])
     67)
+    NoElse
     ∷ If 68 (TestExpr (Binary Equal (Variable (codes "p64")) (Named Null)))
     (block
-    (PutJint 68 (Number 2 false)
+    (Plain 68 (PutJint (Number 2 false))
     ∷ [])
     68)
-    ∷ Return 69
+    NoElse
+    ∷ Return 69 None
     ∷ [])
     69
     ∷ [])
@@ -278,15 +281,15 @@ abbrev pub capacities_1024 : SourceUnit
 capacities_1024 =
     unit_of
     (native 1 Void (codes "Java_A_f") []
-    (Declare 1 JIntVariable (codes "e") (FromCall (call (codes "EnsureLocalCapacity") (Value (Number 1 false) ∷ [])))
-    ∷ Declare 1 JIntVariable (codes "d") (FromCall (call (codes "PushLocalFrame") (Value (Number 1007 false) ∷ [])))
-    ∷ PutJint 1 (Variable (codes "d"))
-    ∷ Declare 1 JIntVariable (codes "c") (FromCall (call (codes "PushLocalFrame") (Value (Number 1 false) ∷ [])))
-    ∷ PutJint 1 (Variable (codes "c"))
-    ∷ Perform 1 (call (codes "ExceptionClear") [])
-    ∷ Declare 1 JIntVariable (codes "b") (FromCall (call (codes "PushLocalFrame") (Value (Number 0 false) ∷ [])))
-    ∷ PutJint 1 (Variable (codes "b"))
-    ∷ Return 1
+    (Plain 1 (Declare (Simple JIntVariable) (codes "e") (FromCall (call (codes "EnsureLocalCapacity") (Value (Number 1 false) ∷ []))))
+    ∷ Plain 1 (Declare (Simple JIntVariable) (codes "d") (FromCall (call (codes "PushLocalFrame") (Value (Number 1007 false) ∷ []))))
+    ∷ Plain 1 (PutJint (Variable (codes "d")))
+    ∷ Plain 1 (Declare (Simple JIntVariable) (codes "c") (FromCall (call (codes "PushLocalFrame") (Value (Number 1 false) ∷ []))))
+    ∷ Plain 1 (PutJint (Variable (codes "c")))
+    ∷ Plain 1 (Perform (call (codes "ExceptionClear") []))
+    ∷ Plain 1 (Declare (Simple JIntVariable) (codes "b") (FromCall (call (codes "PushLocalFrame") (Value (Number 0 false) ∷ []))))
+    ∷ Plain 1 (PutJint (Variable (codes "b")))
+    ∷ Return 1 None
     ∷ [])
     1
     ∷ [])

@@ -1,12 +1,13 @@
 -- The cases of texts/type_faults.cases, as gate/worked_equations writes them.
-use Rattle.std.specs.Prelude.{◌∷◌, true, false, [], codes, refl}
+use Rattle.std.specs.Prelude.{◌∷◌, true, false, [], None, codes, refl}
 use Rattle.base.specs.declared.element.ElementType.TheVariants.{Int as JInt}
 use Rattle.syntax.specs.declared.declared_type.ReferenceType.TheVariants.{Object as JObject, String as JString, IntArray as JIntArray}
 use Rattle.syntax.specs.declared.declared_type.VariableType.TheVariants.{Uint32 as UInt32, Jint as JIntVariable, Reference as ReferenceVariable}
+use Rattle.syntax.specs.declared.declared_type.DeclaredType.TheVariants.{Simple, Pointer, ConstChars}
 use Rattle.syntax.specs.declared.unit.ResultType.TheVariants.{Void}
 use Rattle.syntax.specs.declared.expr.Constant.TheVariants.{True, Null}
 use Rattle.syntax.specs.declared.expr.BinaryOp.TheVariants.{Equal, Add}
-use Rattle.syntax.specs.Tree.{Number, Named, Variable, Binary, Value, FromExpr, FromCall, TestExpr, Declare, DeclareBuffer, DeclareChars, Assign, AssignElement, Perform, PutJint, If, Return, SourceUnit}
+use Rattle.syntax.specs.Tree.{Number, Named, Variable, Binary, Value, FromExpr, FromCall, TestExpr, Declare, Assign, AssignElement, Perform, PutJint, Plain, If, NoElse, Return, SourceUnit}
 use Rattle.type_rules.specs.declared.rule.TypeRule.TheVariants.{UnknownName, DeclaredTwice, TypeMisfit, UnknownFunction, ArgumentCount, ReferenceCopied, BadMode, ReadOnlyWrite}
 use Rattle.test_equations.specs.Claims.{IsRefused}
 use Rattle.test_equations.proofs.Programs.{unit_of, native, block, static_reference, reference_parameter, int_parameter, call, given}
@@ -18,8 +19,8 @@ abbrev pub unknown_name : SourceUnit
 unknown_name =
     unit_of
     (native 1 Void (codes "Java_A_f") []
-    (PutJint 1 (Variable (codes "x"))
-    ∷ Return 1
+    (Plain 1 (PutJint (Variable (codes "x")))
+    ∷ Return 1 None
     ∷ [])
     1
     ∷ [])
@@ -34,7 +35,7 @@ abbrev pub not_a_native_name : SourceUnit
 not_a_native_name =
     unit_of
     (native 1 Void (codes "f") []
-    (Return 1
+    (Return 1 None
     ∷ [])
     1
     ∷ [])
@@ -52,11 +53,12 @@ out_of_its_block =
     (native 1 Void (codes "Java_A_f") []
     (If 1 (TestExpr (Binary Equal (Number 1 true) (Number 1 true)))
     (block
-    (Declare 1 JIntVariable (codes "x") (FromExpr (Number 1 false))
+    (Plain 1 (Declare (Simple JIntVariable) (codes "x") (FromExpr (Number 1 false)))
     ∷ [])
     1)
-    ∷ PutJint 2 (Variable (codes "x"))
-    ∷ Return 2
+    NoElse
+    ∷ Plain 2 (PutJint (Variable (codes "x")))
+    ∷ Return 2 None
     ∷ [])
     2
     ∷ [])
@@ -71,7 +73,7 @@ abbrev pub parameter_twice : SourceUnit
 parameter_twice =
     unit_of
     (native 1 Void (codes "Java_A_f") (int_parameter (codes "cls") ∷ [])
-    (Return 1
+    (Return 1 None
     ∷ [])
     1
     ∷ [])
@@ -89,11 +91,12 @@ taken_to_the_end =
     (native 1 Void (codes "Java_A_f") []
     (If 1 (TestExpr (Binary Equal (Number 1 true) (Number 1 true)))
     (block
-    (Declare 1 JIntVariable (codes "x") (FromExpr (Number 1 false))
+    (Plain 1 (Declare (Simple JIntVariable) (codes "x") (FromExpr (Number 1 false)))
     ∷ [])
     1)
-    ∷ Declare 2 JIntVariable (codes "x") (FromExpr (Number 2 false))
-    ∷ Return 2
+    NoElse
+    ∷ Plain 2 (Declare (Simple JIntVariable) (codes "x") (FromExpr (Number 2 false)))
+    ∷ Return 2 None
     ∷ [])
     2
     ∷ [])
@@ -123,10 +126,11 @@ null_on_the_left =
     (native 1 Void (codes "Java_A_f") (reference_parameter JObject (codes "o") ∷ [])
     (If 1 (TestExpr (Binary Equal (Named Null) (Variable (codes "o"))))
     (block
-    (Return 1
+    (Return 1 None
     ∷ [])
     1)
-    ∷ Return 1
+    NoElse
+    ∷ Return 1 None
     ∷ [])
     1
     ∷ [])
@@ -141,8 +145,8 @@ abbrev pub jint_plus : SourceUnit
 jint_plus =
     unit_of
     (native 1 Void (codes "Java_A_f") (int_parameter (codes "n") ∷ [])
-    (Declare 1 JIntVariable (codes "m") (FromExpr (Binary Add (Variable (codes "n")) (Number 1 false)))
-    ∷ Return 1
+    (Plain 1 (Declare (Simple JIntVariable) (codes "m") (FromExpr (Binary Add (Variable (codes "n")) (Number 1 false))))
+    ∷ Return 1 None
     ∷ [])
     1
     ∷ [])
@@ -157,8 +161,8 @@ abbrev pub result_dropped : SourceUnit
 result_dropped =
     unit_of
     (native 1 Void (codes "Java_A_f") (reference_parameter JObject (codes "o") ∷ [])
-    (Perform 1 (call (codes "GetIntArrayElements") (given (codes "o") ∷ Value (Named Null) ∷ []))
-    ∷ Return 1
+    (Plain 1 (Perform (call (codes "GetIntArrayElements") (given (codes "o") ∷ Value (Named Null) ∷ [])))
+    ∷ Return 1 None
     ∷ [])
     1
     ∷ [])
@@ -173,8 +177,8 @@ abbrev pub pushed_outside_a_test : SourceUnit
 pushed_outside_a_test =
     unit_of
     (native 1 Void (codes "Java_A_f") []
-    (Declare 1 JIntVariable (codes "r") (FromCall (call (codes "PushLocalFrame") (Value (Number 1 false) ∷ [])))
-    ∷ Return 1
+    (Plain 1 (Declare (Simple JIntVariable) (codes "r") (FromCall (call (codes "PushLocalFrame") (Value (Number 1 false) ∷ []))))
+    ∷ Return 1 None
     ∷ [])
     1
     ∷ [])
@@ -195,10 +199,10 @@ static_copied =
     unit_of
     (static_reference 1 JObject (codes "g")
     ∷ native 2 Void (codes "Java_A_f") (reference_parameter JObject (codes "o") ∷ [])
-    (Assign 3 (codes "g") (FromExpr (Variable (codes "o")))
-    ∷ Assign 4 (codes "g") (FromExpr (Variable (codes "g")))
-    ∷ Assign 5 (codes "g") (FromExpr (Named Null))
-    ∷ Return 6
+    (Plain 3 (Assign (codes "g") (FromExpr (Variable (codes "o"))))
+    ∷ Plain 4 (Assign (codes "g") (FromExpr (Variable (codes "g"))))
+    ∷ Plain 5 (Assign (codes "g") (FromExpr (Named Null)))
+    ∷ Return 6 None
     ∷ [])
     6
     ∷ [])
@@ -213,8 +217,8 @@ abbrev pub unknown_function : SourceUnit
 unknown_function =
     unit_of
     (native 1 Void (codes "Java_A_f") []
-    (Perform 1 (call (codes "Nope") (Value (Number 1 false) ∷ []))
-    ∷ Return 1
+    (Plain 1 (Perform (call (codes "Nope") (Value (Number 1 false) ∷ [])))
+    ∷ Return 1 None
     ∷ [])
     1
     ∷ [])
@@ -229,8 +233,8 @@ abbrev pub unknown_function_and_misfit : SourceUnit
 unknown_function_and_misfit =
     unit_of
     (native 1 Void (codes "Java_A_f") []
-    (Perform 1 (call (codes "Nope") (Value (Binary Add (Number 1 true) (Number 1 false)) ∷ []))
-    ∷ Return 1
+    (Plain 1 (Perform (call (codes "Nope") (Value (Binary Add (Number 1 true) (Number 1 false)) ∷ [])))
+    ∷ Return 1 None
     ∷ [])
     1
     ∷ [])
@@ -245,8 +249,8 @@ abbrev pub too_few_arguments : SourceUnit
 too_few_arguments =
     unit_of
     (native 1 Void (codes "Java_A_f") []
-    (Declare 1 JIntVariable (codes "n") (FromCall (call (codes "GetArrayLength") []))
-    ∷ Return 1
+    (Plain 1 (Declare (Simple JIntVariable) (codes "n") (FromCall (call (codes "GetArrayLength") [])))
+    ∷ Return 1 None
     ∷ [])
     1
     ∷ [])
@@ -261,8 +265,8 @@ abbrev pub a_method_without_its_id : SourceUnit
 a_method_without_its_id =
     unit_of
     (native 1 Void (codes "Java_A_f") []
-    (Perform 1 (call (codes "CallStaticVoidMethod") (given (codes "cls") ∷ []))
-    ∷ Return 1
+    (Plain 1 (Perform (call (codes "CallStaticVoidMethod") (given (codes "cls") ∷ [])))
+    ∷ Return 1 None
     ∷ [])
     1
     ∷ [])
@@ -278,8 +282,8 @@ abbrev pub seventeen_arguments_for_a_method : SourceUnit
 seventeen_arguments_for_a_method =
     unit_of
     (native 1 Void (codes "Java_A_f") []
-    (Perform 2 (call (codes "CallStaticVoidMethod") (given (codes "cls") ∷ Value (Named Null) ∷ Value (Number 1 false) ∷ Value (Number 2 false) ∷ Value (Number 3 false) ∷ Value (Number 4 false) ∷ Value (Number 5 false) ∷ Value (Number 6 false) ∷ Value (Number 7 false) ∷ Value (Number 8 false) ∷ Value (Number 9 false) ∷ Value (Number 10 false) ∷ Value (Number 11 false) ∷ Value (Number 12 false) ∷ Value (Number 13 false) ∷ Value (Number 14 false) ∷ Value (Number 15 false) ∷ Value (Number 16 false) ∷ Value (Number 17 false) ∷ []))
-    ∷ Return 2
+    (Plain 2 (Perform (call (codes "CallStaticVoidMethod") (given (codes "cls") ∷ Value (Named Null) ∷ Value (Number 1 false) ∷ Value (Number 2 false) ∷ Value (Number 3 false) ∷ Value (Number 4 false) ∷ Value (Number 5 false) ∷ Value (Number 6 false) ∷ Value (Number 7 false) ∷ Value (Number 8 false) ∷ Value (Number 9 false) ∷ Value (Number 10 false) ∷ Value (Number 11 false) ∷ Value (Number 12 false) ∷ Value (Number 13 false) ∷ Value (Number 14 false) ∷ Value (Number 15 false) ∷ Value (Number 16 false) ∷ Value (Number 17 false) ∷ [])))
+    ∷ Return 2 None
     ∷ [])
     2
     ∷ [])
@@ -294,8 +298,8 @@ abbrev pub a_flag_for_a_method : SourceUnit
 a_flag_for_a_method =
     unit_of
     (native 1 Void (codes "Java_A_f") []
-    (Perform 1 (call (codes "CallStaticVoidMethod") (given (codes "cls") ∷ Value (Named Null) ∷ Value (Number 1 false) ∷ Value (Named True) ∷ []))
-    ∷ Return 1
+    (Plain 1 (Perform (call (codes "CallStaticVoidMethod") (given (codes "cls") ∷ Value (Named Null) ∷ Value (Number 1 false) ∷ Value (Named True) ∷ [])))
+    ∷ Return 1 None
     ∷ [])
     1
     ∷ [])
@@ -310,8 +314,8 @@ abbrev pub nothing_as_a_number : SourceUnit
 nothing_as_a_number =
     unit_of
     (native 1 Void (codes "Java_A_f") []
-    (Declare 1 JIntVariable (codes "n") (FromCall (call (codes "CallStaticVoidMethod") (given (codes "cls") ∷ Value (Named Null) ∷ [])))
-    ∷ Return 1
+    (Plain 1 (Declare (Simple JIntVariable) (codes "n") (FromCall (call (codes "CallStaticVoidMethod") (given (codes "cls") ∷ Value (Named Null) ∷ []))))
+    ∷ Return 1 None
     ∷ [])
     1
     ∷ [])
@@ -327,9 +331,9 @@ abbrev pub copied_reference : SourceUnit
 copied_reference =
     unit_of
     (native 1 Void (codes "Java_A_f") (reference_parameter JObject (codes "o") ∷ [])
-    (Declare 1 (ReferenceVariable JObject) (codes "x") (FromExpr (Variable (codes "o")))
-    ∷ Assign 2 (codes "x") (FromExpr (Variable (codes "o")))
-    ∷ Return 2
+    (Plain 1 (Declare (Simple (ReferenceVariable JObject)) (codes "x") (FromExpr (Variable (codes "o"))))
+    ∷ Plain 2 (Assign (codes "x") (FromExpr (Variable (codes "o"))))
+    ∷ Return 2 None
     ∷ [])
     2
     ∷ [])
@@ -346,10 +350,10 @@ abbrev pub copied_known_names : SourceUnit
 copied_known_names =
     unit_of
     (native 1 Void (codes "Java_A_f") (int_parameter (codes "n") ∷ [])
-    (Declare 1 (ReferenceVariable JObject) (codes "x") (FromExpr (Variable (codes "n")))
-    ∷ Declare 2 UInt32 (codes "w") (FromExpr (Number 1 true))
-    ∷ Assign 3 (codes "x") (FromExpr (Variable (codes "w")))
-    ∷ Return 3
+    (Plain 1 (Declare (Simple (ReferenceVariable JObject)) (codes "x") (FromExpr (Variable (codes "n"))))
+    ∷ Plain 2 (Declare (Simple UInt32) (codes "w") (FromExpr (Number 1 true)))
+    ∷ Plain 3 (Assign (codes "x") (FromExpr (Variable (codes "w"))))
+    ∷ Return 3 None
     ∷ [])
     3
     ∷ [])
@@ -364,9 +368,9 @@ abbrev pub bad_mode : SourceUnit
 bad_mode =
     unit_of
     (native 1 Void (codes "Java_A_f") (reference_parameter JIntArray (codes "a") ∷ [])
-    (DeclareBuffer 1 JInt (codes "p") (FromCall (call (codes "GetIntArrayElements") (given (codes "a") ∷ Value (Named Null) ∷ [])))
-    ∷ Perform 1 (call (codes "ReleaseIntArrayElements") (given (codes "a") ∷ given (codes "p") ∷ Value (Number 1 false) ∷ []))
-    ∷ Return 1
+    (Plain 1 (Declare (Pointer JInt) (codes "p") (FromCall (call (codes "GetIntArrayElements") (given (codes "a") ∷ Value (Named Null) ∷ []))))
+    ∷ Plain 1 (Perform (call (codes "ReleaseIntArrayElements") (given (codes "a") ∷ given (codes "p") ∷ Value (Number 1 false) ∷ [])))
+    ∷ Return 1 None
     ∷ [])
     1
     ∷ [])
@@ -381,9 +385,9 @@ abbrev pub read_only : SourceUnit
 read_only =
     unit_of
     (native 1 Void (codes "Java_A_f") (reference_parameter JString (codes "s") ∷ [])
-    (DeclareChars 1 (codes "p") (FromCall (call (codes "GetStringChars") (given (codes "s") ∷ Value (Named Null) ∷ [])))
-    ∷ AssignElement 1 (codes "p") (Number 0 false) (Number 1 false)
-    ∷ Return 1
+    (Plain 1 (Declare ConstChars (codes "p") (FromCall (call (codes "GetStringChars") (given (codes "s") ∷ Value (Named Null) ∷ []))))
+    ∷ Plain 1 (AssignElement (codes "p") (Number 0 false) (Number 1 false))
+    ∷ Return 1 None
     ∷ [])
     1
     ∷ [])
@@ -398,8 +402,8 @@ abbrev pub word_printed : SourceUnit
 word_printed =
     unit_of
     (native 1 Void (codes "Java_A_f") []
-    (PutJint 1 (Number 1 true)
-    ∷ Return 1
+    (Plain 1 (PutJint (Number 1 true))
+    ∷ Return 1 None
     ∷ [])
     1
     ∷ [])

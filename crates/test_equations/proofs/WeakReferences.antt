@@ -2,10 +2,11 @@
 use Rattle.std.specs.Prelude.{◌≡◌, ◌∷◌, ◌++◌, false, [], Some, None, Err, codes, refl, replicate}
 use Rattle.syntax.specs.declared.declared_type.ReferenceType.TheVariants.{Object as JObject, IntArray as JIntArray}
 use Rattle.syntax.specs.declared.declared_type.VariableType.TheVariants.{Reference as ReferenceVariable}
+use Rattle.syntax.specs.declared.declared_type.DeclaredType.TheVariants.{Simple}
 use Rattle.syntax.specs.declared.unit.ResultType.TheVariants.{Void}
 use Rattle.syntax.specs.declared.expr.Constant.TheVariants.{Null}
 use Rattle.syntax.specs.declared.expr.BinaryOp.TheVariants.{Equal}
-use Rattle.syntax.specs.Tree.{Number, Named, Variable, Binary, Value, FromCall, TestExpr, Declare, Assign, Perform, PutJint, IfElse, Return, SourceUnit}
+use Rattle.syntax.specs.Tree.{Number, Named, Variable, Binary, Value, FromCall, TestExpr, Declare, Assign, Perform, PutJint, Plain, If, ElseBlock, Return, SourceUnit}
 use Rattle.world_schedules.specs.declared.fault.Rule.TheVariants.{Form}
 use Rattle.semantics.specs.declared.schedule.ScheduleWord.TheVariants.{Turn, Collect, Slice}
 use Rattle.world_schedules.specs.ReadingJournals.{journal_of}
@@ -31,20 +32,20 @@ an_object_that_a_weak_reference_alone_is_left_of =
     unit_of
     (static_weak 1 (codes "w")
     ∷ native 2 Void (codes "Java_A_f") []
-    (Declare 3 (ReferenceVariable JObject) (codes "o") (FromCall (call (codes "AllocObject") (given (codes "cls") ∷ [])))
-    ∷ Assign 4 (codes "w") (FromCall (call (codes "NewWeakGlobalRef") (given (codes "o") ∷ [])))
-    ∷ Perform 5 (call (codes "DeleteLocalRef") (given (codes "o") ∷ []))
-    ∷ Declare 6 (ReferenceVariable JObject) (codes "x") (FromCall (call (codes "NewLocalRef") (given (codes "w") ∷ [])))
-    ∷ IfElse 7 (TestExpr (Binary Equal (Variable (codes "x")) (Named Null)))
+    (Plain 3 (Declare (Simple (ReferenceVariable JObject)) (codes "o") (FromCall (call (codes "AllocObject") (given (codes "cls") ∷ []))))
+    ∷ Plain 4 (Assign (codes "w") (FromCall (call (codes "NewWeakGlobalRef") (given (codes "o") ∷ []))))
+    ∷ Plain 5 (Perform (call (codes "DeleteLocalRef") (given (codes "o") ∷ [])))
+    ∷ Plain 6 (Declare (Simple (ReferenceVariable JObject)) (codes "x") (FromCall (call (codes "NewLocalRef") (given (codes "w") ∷ []))))
+    ∷ If 7 (TestExpr (Binary Equal (Variable (codes "x")) (Named Null)))
     (block
-    (PutJint 7 (Number 0 false)
+    (Plain 7 (PutJint (Number 0 false))
     ∷ [])
     7)
-    (block
-    (PutJint 7 (Number 1 false)
+    (ElseBlock (block
+    (Plain 7 (PutJint (Number 1 false))
     ∷ [])
-    7)
-    ∷ Return 8
+    7))
+    ∷ Return 8 None
     ∷ [])
     8
     ∷ [])
@@ -123,21 +124,21 @@ a_clearing_before_the_step_that_needs_its_room =
     unit_of
     (static_weak 1 (codes "w")
     ∷ native 2 Void (codes "Java_A_f") []
-    (Declare 3 (ReferenceVariable JIntArray) (codes "a") (FromCall (call (codes "NewIntArray") (Value (Number 200 false) ∷ [])))
-    ∷ Assign 4 (codes "w") (FromCall (call (codes "NewWeakGlobalRef") (given (codes "a") ∷ [])))
-    ∷ Perform 5 (call (codes "DeleteLocalRef") (given (codes "a") ∷ []))
-    ∷ Declare 6 (ReferenceVariable JIntArray) (codes "b") (FromCall (call (codes "NewIntArray") (Value (Number 200 false) ∷ [])))
-    ∷ Declare 7 (ReferenceVariable JObject) (codes "x") (FromCall (call (codes "NewLocalRef") (given (codes "w") ∷ [])))
-    ∷ IfElse 8 (TestExpr (Binary Equal (Variable (codes "x")) (Named Null)))
+    (Plain 3 (Declare (Simple (ReferenceVariable JIntArray)) (codes "a") (FromCall (call (codes "NewIntArray") (Value (Number 200 false) ∷ []))))
+    ∷ Plain 4 (Assign (codes "w") (FromCall (call (codes "NewWeakGlobalRef") (given (codes "a") ∷ []))))
+    ∷ Plain 5 (Perform (call (codes "DeleteLocalRef") (given (codes "a") ∷ [])))
+    ∷ Plain 6 (Declare (Simple (ReferenceVariable JIntArray)) (codes "b") (FromCall (call (codes "NewIntArray") (Value (Number 200 false) ∷ []))))
+    ∷ Plain 7 (Declare (Simple (ReferenceVariable JObject)) (codes "x") (FromCall (call (codes "NewLocalRef") (given (codes "w") ∷ []))))
+    ∷ If 8 (TestExpr (Binary Equal (Variable (codes "x")) (Named Null)))
     (block
-    (PutJint 8 (Number 0 false)
+    (Plain 8 (PutJint (Number 0 false))
     ∷ [])
     8)
-    (block
-    (PutJint 8 (Number 1 false)
+    (ElseBlock (block
+    (Plain 8 (PutJint (Number 1 false))
     ∷ [])
-    8)
-    ∷ Return 9
+    8))
+    ∷ Return 9 None
     ∷ [])
     9
     ∷ [])

@@ -1,13 +1,14 @@
 -- The cases of texts/spelled.cases, as gate/worked_equations writes them.
-use Rattle.std.specs.Prelude.{◌∷◌, true, false, [], codes, refl}
+use Rattle.std.specs.Prelude.{◌∷◌, true, false, [], Some, None, codes, refl}
 use Rattle.base.specs.declared.element.ElementType.TheVariants.{Int as JInt}
 use Rattle.syntax.specs.declared.declared_type.ReferenceType.TheVariants.{Object as JObject, String as JString, IntArray as JIntArray}
 use Rattle.syntax.specs.declared.declared_type.VariableType.TheVariants.{Uint32 as UInt32, Jboolean as JBoolean, JmethodId as JMethodId, Reference as ReferenceVariable}
+use Rattle.syntax.specs.declared.declared_type.DeclaredType.TheVariants.{Simple, Pointer}
 use Rattle.syntax.specs.declared.unit.ResultType.TheVariants.{Void, Jint as IntResult, Reference as ReferenceResult}
 use Rattle.syntax.specs.declared.expr.Constant.TheVariants.{False, Abort, Null}
 use Rattle.syntax.specs.declared.expr.PrefixOp.TheVariants.{LogicalNot, Complement, ToWord, ToInt}
 use Rattle.syntax.specs.declared.expr.BinaryOp.TheVariants.{LogicalAnd, BitOr, BitAnd, Equal, NotEqual, Less, ShiftLeft, Add}
-use Rattle.syntax.specs.Tree.{Number, Named, Variable, Element, Prefix, Binary, Paren, Value, Text, AddressOf, FromExpr, FromCall, TestExpr, TestCall, Declare, DeclareBuffer, DeclareArray, Assign, AssignElement, Perform, PutJint, If, IfElse, While, Return, ReturnValue, SourceUnit}
+use Rattle.syntax.specs.Tree.{Number, Named, Variable, Element, Prefix, Binary, Paren, Value, Text, AddressOf, FromExpr, FromCall, TestExpr, TestCall, Declare, DeclareArray, Assign, AssignElement, Perform, PutJint, Plain, If, NoElse, ElseBlock, While, Return, SourceUnit}
 use Rattle.test_equations.proofs.Programs.{unit_of, native, block, static_reference, reference_parameter, int_parameter, call, given}
 use Rattle.parse.specs.Spelling.{SpellsUnit}
 use Rattle.test_equations.proofs.Computed.{a_tree}
@@ -26,8 +27,8 @@ abbrev pub comments_blanks_and_numbers : SourceUnit
 comments_blanks_and_numbers =
     unit_of
     (native 3 IntResult (codes "Java_A_f") (int_parameter (codes "n") ∷ [])
-    (Declare 5 UInt32 (codes "word") (FromExpr (Binary Add (Prefix ToWord (Variable (codes "n"))) (Number 31 true)))
-    ∷ ReturnValue 6 (Prefix ToInt (Paren (Binary BitOr (Binary ShiftLeft (Prefix Complement (Variable (codes "word"))) (Number 2 true)) (Binary BitAnd (Number 1 true) (Variable (codes "word"))))))
+    (Plain 5 (Declare (Simple UInt32) (codes "word") (FromExpr (Binary Add (Prefix ToWord (Variable (codes "n"))) (Number 31 true))))
+    ∷ Return 6 (Some (Prefix ToInt (Paren (Binary BitOr (Binary ShiftLeft (Prefix Complement (Variable (codes "word"))) (Number 2 true)) (Binary BitAnd (Number 1 true) (Variable (codes "word")))))))
     ∷ [])
     7
     ∷ [])
@@ -49,18 +50,18 @@ a_static_and_calls =
     unit_of
     (static_reference 1 JObject (codes "g")
     ∷ native 2 (ReferenceResult JString) (codes "Java_A_f") (reference_parameter JObject (codes "o") ∷ [])
-    (Assign 3 (codes "g") (FromCall (call (codes "NewGlobalRef") (given (codes "o") ∷ [])))
-    ∷ IfElse 4 (TestCall (call (codes "PushLocalFrame") (Value (Number 1 false) ∷ [])))
+    (Plain 3 (Assign (codes "g") (FromCall (call (codes "NewGlobalRef") (given (codes "o") ∷ []))))
+    ∷ If 4 (TestCall (call (codes "PushLocalFrame") (Value (Number 1 false) ∷ [])))
     (block
-    (Perform 4 (call (codes "PopLocalFrame") (Value (Named Null) ∷ []))
+    (Plain 4 (Perform (call (codes "PopLocalFrame") (Value (Named Null) ∷ [])))
     ∷ [])
     4)
-    (block
-    (ReturnValue 4 (Named Null)
+    (ElseBlock (block
+    (Return 4 (Some (Named Null))
     ∷ [])
-    4)
-    ∷ Declare 5 (ReferenceVariable JString) (codes "s") (FromCall (call (codes "NewStringUTF") (Text (codes "a /* b */ c") ∷ [])))
-    ∷ ReturnValue 6 (Variable (codes "s"))
+    4))
+    ∷ Plain 5 (Declare (Simple (ReferenceVariable JString)) (codes "s") (FromCall (call (codes "NewStringUTF") (Text (codes "a /* b */ c") ∷ []))))
+    ∷ Return 6 (Some (Variable (codes "s")))
     ∷ [])
     7
     ∷ [])
@@ -89,23 +90,24 @@ abbrev pub a_buffer_in_a_loop : SourceUnit
 a_buffer_in_a_loop =
     unit_of
     (native 1 Void (codes "Java_A_f") (reference_parameter JIntArray (codes "a") ∷ [])
-    (DeclareArray 2 JInt (codes "b") 2
-    ∷ Declare 3 JBoolean (codes "copied") (FromExpr (Named False))
-    ∷ Declare 4 UInt32 (codes "i") (FromExpr (Number 0 true))
-    ∷ DeclareBuffer 5 JInt (codes "p") (FromCall (call (codes "GetIntArrayElements") (given (codes "a") ∷ AddressOf (codes "copied") ∷ [])))
+    (Plain 2 (DeclareArray JInt (codes "b") 2)
+    ∷ Plain 3 (Declare (Simple JBoolean) (codes "copied") (FromExpr (Named False)))
+    ∷ Plain 4 (Declare (Simple UInt32) (codes "i") (FromExpr (Number 0 true)))
+    ∷ Plain 5 (Declare (Pointer JInt) (codes "p") (FromCall (call (codes "GetIntArrayElements") (given (codes "a") ∷ AddressOf (codes "copied") ∷ []))))
     ∷ If 6 (TestExpr (Binary NotEqual (Variable (codes "p")) (Named Null)))
     (block
     (While 7 (Binary LogicalAnd (Binary Less (Variable (codes "i")) (Number 2 true)) (Prefix LogicalNot (Paren (Binary Equal (Variable (codes "copied")) (Named False)))))
     (block
-    (AssignElement 8 (codes "b") (Variable (codes "i")) (Element (codes "p") (Variable (codes "i")))
-    ∷ Assign 9 (codes "i") (FromExpr (Binary Add (Variable (codes "i")) (Number 1 true)))
+    (Plain 8 (AssignElement (codes "b") (Variable (codes "i")) (Element (codes "p") (Variable (codes "i"))))
+    ∷ Plain 9 (Assign (codes "i") (FromExpr (Binary Add (Variable (codes "i")) (Number 1 true))))
     ∷ [])
     10)
-    ∷ Perform 11 (call (codes "ReleaseIntArrayElements") (given (codes "a") ∷ given (codes "p") ∷ Value (Named Abort) ∷ []))
+    ∷ Plain 11 (Perform (call (codes "ReleaseIntArrayElements") (given (codes "a") ∷ given (codes "p") ∷ Value (Named Abort) ∷ [])))
     ∷ [])
     12)
-    ∷ PutJint 13 (Element (codes "b") (Number 1 false))
-    ∷ Return 14
+    NoElse
+    ∷ Plain 13 (PutJint (Element (codes "b") (Number 1 false)))
+    ∷ Return 14 None
     ∷ [])
     15
     ∷ [])
@@ -127,19 +129,21 @@ abbrev pub a_method_id_that_is_declared_set_and_tested : SourceUnit
 a_method_id_that_is_declared_set_and_tested =
     unit_of
     (native 1 Void (codes "Java_A_f") (int_parameter (codes "n") ∷ [])
-    (Declare 3 JMethodId (codes "m") (FromExpr (Named Null))
-    ∷ Declare 4 JMethodId (codes "own") (FromCall (call (codes "GetStaticMethodID") (given (codes "cls") ∷ Text (codes "f") ∷ Text (codes "(I)V") ∷ [])))
+    (Plain 3 (Declare (Simple JMethodId) (codes "m") (FromExpr (Named Null)))
+    ∷ Plain 4 (Declare (Simple JMethodId) (codes "own") (FromCall (call (codes "GetStaticMethodID") (given (codes "cls") ∷ Text (codes "f") ∷ Text (codes "(I)V") ∷ []))))
     ∷ If 5 (TestExpr (Binary NotEqual (Variable (codes "own")) (Named Null)))
     (block
-    (Assign 5 (codes "m") (FromCall (call (codes "GetStaticMethodID") (given (codes "cls") ∷ Text (codes "g") ∷ Text (codes "()I") ∷ [])))
+    (Plain 5 (Assign (codes "m") (FromCall (call (codes "GetStaticMethodID") (given (codes "cls") ∷ Text (codes "g") ∷ Text (codes "()I") ∷ []))))
     ∷ [])
     5)
+    NoElse
     ∷ If 6 (TestExpr (Binary Equal (Variable (codes "m")) (Named Null)))
     (block
-    (Assign 6 (codes "m") (FromExpr (Named Null))
+    (Plain 6 (Assign (codes "m") (FromExpr (Named Null)))
     ∷ [])
     6)
-    ∷ Return 7
+    NoElse
+    ∷ Return 7 None
     ∷ [])
     8
     ∷ [])

@@ -8,12 +8,12 @@ use Rattle.base.specs.Bytes.{Identifier}
 use Rattle.base.specs.Options.{some_passes}
 use Rattle.syntax.specs.Parts.{statements_of, statements_within, line_of, declared_name, right_side, own_call, own_expressions, names_declared}
 use Rattle.syntax.specs.declared.unit.ResultType.{ResultType}
-use Rattle.syntax.specs.Tree.{Static, Test, Stmt, If, IfElse, While, Block, Next}
+use Rattle.syntax.specs.Tree.{Static, Test, Stmt, If, ElseBlock, Block, Next}
 use Rattle.jni.specs.JniFunction.{function_named}
 use Rattle.type_rules.specs.ExprTypes.{Scope, call_arguments_fit}
 use Rattle.type_rules.specs.declared.rule.TypeRule.{TypeRule}
 use Rattle.type_rules.specs.declared.rule.TypeRule.TheVariants.{UnknownName, DeclaredTwice, TypeMisfit, UnknownFunction, ArgumentCount, ReferenceCopied, BadMode, ReadOnlyWrite}
-use Rattle.type_rules.specs.TypeRules.{typing_rules, Place, StaticForm, StatementForm, has_name, is_formed, statement_fits, has_wrong_count, has_wrong_mode, copies_reference, set_type, breaks, broken_at, with_declared, places_within, places_of}
+use Rattle.type_rules.specs.TypeRules.{typing_rules, StaticForm, has_name, is_formed, statement_fits, has_wrong_count, has_wrong_mode, copies_reference, set_type, breaks, broken_at, with_declared, statement_place, places_inside, places_within, places_of}
 use Rattle.type_rules.proofs.PlaceLists.{AreUnbroken, first_empty, second_empty, front_unbroken, back_unbroken, none_broken, not_twice}
 
 -- what a statement that breaks no rule is known for
@@ -29,9 +29,6 @@ pub record IsKept (known : Scope) (taken : List Identifier) (returns : ResultTyp
 fitting : (a b c : Bool) → (not a || not b || c) ≡ false → (b ≡ true) × (c ≡ false)
 fitting true true c h = (refl, h)
 fitting a b c h = absurd (cc)
-
-abbrev pub statement_place : ResultType → Scope → List Identifier → Stmt → Place
-statement_place returns known taken s = record { line = line_of s; known = known; taken = taken; returns = returns; form = StatementForm s }
 
 -- the rules after others
 abbrev after_copies : List TypeRule
@@ -75,25 +72,12 @@ is_kept returns known taken s none =
 
 -- ---- places inside
 
--- the places of the statements inside a statement
-abbrev pub places_inside : ResultType → Scope → List Identifier → Stmt → List Place
-places_inside returns known taken (If line test then') = places_of returns known taken then'
-places_inside returns known taken (IfElse line test then' else') = places_of returns known taken then' ++ places_of returns known (taken ++ names_declared (statements_of then')) else'
-places_inside returns known taken (While line test body) = places_of returns known taken body
-places_inside returns known taken s = []
-
-parts_kept : (returns : ResultType) (known : Scope) (taken : List Identifier) (s : Stmt) → AreUnbroken (places_within returns known taken s) → AreUnbroken (statement_place returns known taken s ∷ places_inside returns known taken s)
-parts_kept returns known taken (If line test then') h = h
-parts_kept returns known taken (IfElse line test then' else') h = h
-parts_kept returns known taken (While line test body) h = h
-parts_kept returns known taken s h = h
-
 pub own_kept : (returns : ResultType) (known : Scope) (taken : List Identifier) (s : Stmt) → AreUnbroken (places_within returns known taken s) → IsKept known taken returns s
 own_kept returns known taken s h =
-    is_kept returns known taken s (first_empty (broken_at (statement_place returns known taken s)) (flat_map broken_at (places_inside returns known taken s)) (parts_kept returns known taken s h))
+    is_kept returns known taken s (first_empty (broken_at (statement_place returns known taken s)) (flat_map broken_at (places_inside returns known taken s)) h)
 
 pub inside_kept : (returns : ResultType) (known : Scope) (taken : List Identifier) (s : Stmt) → AreUnbroken (places_within returns known taken s) → AreUnbroken (places_inside returns known taken s)
-inside_kept returns known taken s h = second_empty (broken_at (statement_place returns known taken s)) (flat_map broken_at (places_inside returns known taken s)) (parts_kept returns known taken s h)
+inside_kept returns known taken s h = second_empty (broken_at (statement_place returns known taken s)) (flat_map broken_at (places_inside returns known taken s)) h
 
 -- the first statement of a block, and those after it
 pub block_kept : (returns : ResultType) (known : Scope) (taken : List Identifier) (s : Stmt) (rest : Block) → AreUnbroken (places_of returns known taken (Next s rest))
@@ -103,11 +87,11 @@ block_kept returns known taken s rest h =
     (front_unbroken (places_within returns known taken s) after h, back_unbroken (places_within returns known taken s) after h)
 
 -- both blocks of an if-else
-pub paths_kept : (returns : ResultType) (known : Scope) (taken : List Identifier) (line : ℕ) (test : Test) (then' else' : Block) → AreUnbroken (places_within returns known taken (IfElse line test then' else'))
+pub paths_kept : (returns : ResultType) (known : Scope) (taken : List Identifier) (line : ℕ) (test : Test) (then' else' : Block) → AreUnbroken (places_within returns known taken (If line test then' (ElseBlock else')))
     → AreUnbroken (places_of returns known taken then') × AreUnbroken (places_of returns known (taken ++ names_declared (statements_of then')) else')
 paths_kept returns known taken line test then' else' h =
     let second = places_of returns known (taken ++ names_declared (statements_of then')) else' in
-    let both = inside_kept returns known taken (IfElse line test then' else') h in
+    let both = inside_kept returns known taken (If line test then' (ElseBlock else')) h in
     (front_unbroken (places_of returns known taken then') second both, back_unbroken (places_of returns known taken then') second both)
 
 -- the name of a static that breaks no rule isn't taken

@@ -1,11 +1,11 @@
 -- What is asked of the names of a statement part by part is asked of all of them.
-use Rattle.std.proofs.Common.{◌≡◌, Bool, true, false, ◌||◌, List, [], ◌∷◌, ◌++◌, Some, refl, sym, ap, ◌∙◌, flat_map, append-nil}
+use Rattle.std.proofs.Common.{◌≡◌, Bool, true, false, ◌||◌, List, [], ◌∷◌, ◌++◌, Some, refl, sym, ap, ◌∙◌, flat_map, append-nil, None}
 use Rattle.std.specs.List.{list_any}
 use Rattle.std.proofs.Math.Bool.{or_assoc}
 use Rattle.std.proofs.lemmas.List.Folds.{list_any-append}
 use Rattle.base.specs.Bytes.{Identifier}
 use Rattle.syntax.specs.Parts.{argument_expressions, call_expressions, names_in, addresses_in, used_names}
-use Rattle.syntax.specs.Tree.{Expr, Argument, Value, Text, AddressOf, Call, FromExpr, FromCall, TestExpr, TestCall, Stmt, Declare, DeclareBuffer, DeclareChars, DeclareArray, Assign, AssignElement, Perform, PutJint, If, IfElse, While, Return, ReturnValue}
+use Rattle.syntax.specs.Tree.{Expr, Argument, Value, Text, AddressOf, Call, FromExpr, FromCall, TestExpr, TestCall, Stmt, Plain, Declare, DeclareArray, Assign, AssignElement, Perform, PutJint, If, While, Return}
 use Rattle.type_rules.specs.Uses.{expr_uses, argument_uses, call_uses, uses}
 
 or_swap : (a b c : Bool) → (a || (b || c)) ≡ (b || (a || c))
@@ -46,22 +46,16 @@ element_use p x i e =
     ∙ sym (or_assoc (p x) (expr_uses p i) (expr_uses p e))
 
 pub uses_is : (p : Identifier → Bool) (s : Stmt) → list_any p (used_names s) ≡ uses p s
-uses_is p (Declare line t x (FromExpr e)) = one_uses p e
-uses_is p (Declare line t x (FromCall c)) = call_use p c
-uses_is p (DeclareBuffer line t x (FromExpr e)) = one_uses p e
-uses_is p (DeclareBuffer line t x (FromCall c)) = call_use p c
-uses_is p (DeclareChars line x (FromExpr e)) = one_uses p e
-uses_is p (DeclareChars line x (FromCall c)) = call_use p c
-uses_is p (DeclareArray line t x size) = refl
-uses_is p (Assign line x (FromExpr e)) = one_uses p e
-uses_is p (Assign line x (FromCall c)) = call_use p c
-uses_is p (AssignElement line x i e) = element_use p x i e
-uses_is p (Perform line c) = call_use p c
-uses_is p (PutJint line e) = one_uses p e
-uses_is p (If line (TestExpr e) then') = one_uses p e
-uses_is p (If line (TestCall c) then') = call_use p c
-uses_is p (IfElse line (TestExpr e) then' else') = one_uses p e
-uses_is p (IfElse line (TestCall c) then' else') = call_use p c
+uses_is p (Plain line (Declare t x (FromExpr e))) = one_uses p e
+uses_is p (Plain line (Declare t x (FromCall c))) = call_use p c
+uses_is p (Plain line (DeclareArray t x size)) = refl
+uses_is p (Plain line (Assign x (FromExpr e))) = one_uses p e
+uses_is p (Plain line (Assign x (FromCall c))) = call_use p c
+uses_is p (Plain line (AssignElement x i e)) = element_use p x i e
+uses_is p (Plain line (Perform c)) = call_use p c
+uses_is p (Plain line (PutJint e)) = one_uses p e
+uses_is p (If line (TestExpr e) then' else') = one_uses p e
+uses_is p (If line (TestCall c) then' else') = call_use p c
 uses_is p (While line e body) = one_uses p e
-uses_is p (Return line) = refl
-uses_is p (ReturnValue line e) = one_uses p e
+uses_is p (Return line None) = refl
+uses_is p (Return line (Some e)) = one_uses p e

@@ -15,7 +15,9 @@ use Rattle.syntax.specs.declared.unit.ResultType.{ResultType}
 use Rattle.syntax.specs.declared.unit.ResultType.TheVariants.{Void, Jint as IntResult, Reference as ReferenceResult}
 use Rattle.syntax.specs.declared.expr.Constant.TheVariants.{Commit, Abort}
 use Rattle.syntax.specs.Parts.{statements_of, statements_within, line_of, declared_name, right_side, own_call, own_expressions, used_names, assigned_name, written_name, names_declared, parameter_names}
-use Rattle.syntax.specs.Tree.{Expr, Number, Named, Variable, Argument, Value, Call, RightSide, FromExpr, FromCall, Test, TestExpr, TestCall, Stmt, Declare, DeclareBuffer, DeclareChars, DeclareArray, Assign, AssignElement, Perform, PutJint, If, IfElse, While, Return, ReturnValue, Block, End, Next, Function, Static, Item, StaticItem, FunctionItem, SourceUnit}
+use Rattle.syntax.specs.declared.declared_type.DeclaredType.{DeclaredType}
+use Rattle.syntax.specs.declared.declared_type.DeclaredType.TheVariants.{Simple, Pointer, ConstChars}
+use Rattle.syntax.specs.Tree.{Expr, Number, Named, Variable, Argument, Value, Call, RightSide, FromExpr, FromCall, Test, TestExpr, TestCall, PlainStmt, Declare, DeclareArray, Assign, AssignElement, Perform, PutJint, Stmt, Plain, If, NoElse, ElseBlock, While, Return, Block, End, Next, Function, Static, Item, StaticItem, FunctionItem, SourceUnit}
 use Rattle.class_rules.specs.Mangling.{unmangle}
 use Rattle.jni.specs.declared.function.JniFunction.{JniFunction}
 use Rattle.jni.specs.declared.function.JniFunction.TheVariants.{PushLocalFrame}
@@ -46,7 +48,7 @@ pub record Place : Type 0 where
   pub returns : ResultType
   pub form : Form
 
--- the type of a declared variable
+-- the type of a variable
 abbrev pub variable_type : VariableType → ExprType
 variable_type UInt32 = Word
 variable_type JIntVariable = Jint
@@ -55,6 +57,12 @@ variable_type JBoolean = Flag
 variable_type JFieldId = FieldId
 variable_type JMethodId = MethodId
 variable_type (ReferenceVariable r) = Ref
+
+-- the type of a declared variable, a buffer or not
+abbrev pub declared_type : DeclaredType → ExprType
+declared_type (Simple t) = variable_type t
+declared_type (Pointer t) = Buffer t true
+declared_type ConstChars = Buffer JChar false
 
 -- the type of a parameter
 abbrev pub parameter_type : ParameterType → ExprType
@@ -68,31 +76,33 @@ static_type WeakStatic = Weak
 
 -- the names known after a statement
 abbrev pub with_declared : Scope → Stmt → Scope
-with_declared known (Declare line t x r) = (x, variable_type t) ∷ known
-with_declared known (DeclareBuffer line t x r) = (x, Buffer t true) ∷ known
-with_declared known (DeclareChars line x r) = (x, Buffer JChar false) ∷ known
-with_declared known (DeclareArray line t x size) = (x, Array t size) ∷ known
+with_declared known (Plain line (Declare t x r)) = (x, declared_type t) ∷ known
+with_declared known (Plain line (DeclareArray t x size)) = (x, Array t size) ∷ known
 with_declared known s = known
 
--- the places of statements: a name is known to the end of its block, and taken to the end of its function
-abbrev mutual
-  pub places_within : ResultType → Scope → List Identifier → Stmt → List Place
-  places_within returns known taken (If line test then') =
-      record { line = line; known = known; taken = taken; returns = returns; form = StatementForm (If line test then') }
-      ∷ places_of returns known taken then'
-  places_within returns known taken (IfElse line test then' else') =
-      record { line = line; known = known; taken = taken; returns = returns; form = StatementForm (IfElse line test then' else') }
-      ∷ places_of returns known taken then' ++ places_of returns known (taken ++ names_declared (statements_of then')) else'
-  places_within returns known taken (While line test body) =
-      record { line = line; known = known; taken = taken; returns = returns; form = StatementForm (While line test body) }
-      ∷ places_of returns known taken body
-  places_within returns known taken s = record { line = line_of s; known = known; taken = taken; returns = returns; form = StatementForm s } ∷ []
+-- the place of a statement itself
+abbrev pub statement_place : ResultType → Scope → List Identifier → Stmt → Place
+statement_place returns known taken s = record { line = line_of s; known = known; taken = taken; returns = returns; form = StatementForm s }
 
-  -- the same of a block
+abbrev mutual
+  -- the places inside a statement: a name is known to the end of its block, and taken to the end of its function
+  pub places_inside : ResultType → Scope → List Identifier → Stmt → List Place
+  places_inside returns known taken (If line test then' NoElse) = places_of returns known taken then'
+  places_inside returns known taken (If line test then' (ElseBlock else')) =
+      places_of returns known taken then' ++ places_of returns known (taken ++ names_declared (statements_of then')) else'
+  places_inside returns known taken (While line test body) = places_of returns known taken body
+  places_inside returns known taken s = []
+
+  -- those of a block, each before those inside it
   pub places_of : ResultType → Scope → List Identifier → Block → List Place
   places_of returns known taken (End line) = []
   places_of returns known taken (Next s rest) =
-      places_within returns known taken s ++ places_of returns (with_declared known s) (taken ++ names_declared (statements_within s)) rest
+      (statement_place returns known taken s ∷ places_inside returns known taken s)
+      ++ places_of returns (with_declared known s) (taken ++ names_declared (statements_within s)) rest
+
+-- the place of a statement and those inside it
+abbrev pub places_within : ResultType → Scope → List Identifier → Stmt → List Place
+places_within returns known taken s = statement_place returns known taken s ∷ places_inside returns known taken s
 
 -- a function's head, and its statements
 abbrev pub function_places : List Identifier → Scope → Function → List Place
@@ -198,21 +208,31 @@ abbrev pub returns_nothing : ResultType → Bool
 returns_nothing Void = true
 returns_nothing r = false
 
--- a statement, its call's arguments aside
+-- what a function returns, if anything
+abbrev pub returned_fits : Scope → ResultType → Option Expr → Bool
+returned_fits scope returns None = returns_nothing returns
+returned_fits scope returns (Some e) = return_fits scope returns e
+
+-- the right side of a declaration
+abbrev pub declaration_fits : Scope → DeclaredType → RightSide → Bool
+declaration_fits scope (Simple t) r = right_side_sets scope (Some (variable_type t)) r
+declaration_fits scope t r = buffer_begins scope (declared_type t) r
+
+-- a plain statement, its call's arguments aside
+abbrev pub plain_fits : Scope → PlainStmt → Bool
+plain_fits known (Declare t x r) = declaration_fits known t r
+plain_fits known (DeclareArray t x size) = true
+plain_fits known (Assign x r) = right_side_sets known (type_in known x) r
+plain_fits known (AssignElement x i e) = has_elements (type_in known x) && is_index (type_of known i) && is_jint (type_of known e)
+plain_fits known (Perform c) = may_be_dropped (function_named c.function)
+plain_fits known (PutJint e) = is_jint (type_of known e)
+
+-- the same of a statement
 abbrev pub statement_fits : Scope → ResultType → Stmt → Bool
-statement_fits known returns (Declare line t x r) = right_side_sets known (Some (variable_type t)) r
-statement_fits known returns (DeclareBuffer line t x r) = buffer_begins known (Buffer t true) r
-statement_fits known returns (DeclareChars line x r) = buffer_begins known (Buffer JChar false) r
-statement_fits known returns (DeclareArray line t x size) = true
-statement_fits known returns (Assign line x r) = right_side_sets known (type_in known x) r
-statement_fits known returns (AssignElement line x i e) = has_elements (type_in known x) && is_index (type_of known i) && is_jint (type_of known e)
-statement_fits known returns (Perform line c) = may_be_dropped (function_named c.function)
-statement_fits known returns (PutJint line e) = is_jint (type_of known e)
-statement_fits known returns (If line test then') = test_fits known test
-statement_fits known returns (IfElse line test then' else') = test_fits known test
+statement_fits known returns (Plain line p) = plain_fits known p
+statement_fits known returns (If line test then' else') = test_fits known test
 statement_fits known returns (While line test body) = is_truth (type_of known test)
-statement_fits known returns (Return line) = returns_nothing returns
-statement_fits known returns (ReturnValue line e) = return_fits known returns e
+statement_fits known returns (Return line e) = returned_fits known returns e
 
 -- a bare name or constant, or an expression that has a type
 abbrev pub is_formed : Scope → Expr → Bool
@@ -249,8 +269,8 @@ copies_reference known s r = false
 
 -- the type of the variable that a statement sets
 abbrev pub set_type : Scope → Stmt → Option ExprType
-set_type known (Declare line t x r) = Some (variable_type t)
-set_type known (Assign line x r) = type_in known x
+set_type known (Plain line (Declare (Simple t) x r)) = Some (variable_type t)
+set_type known (Plain line (Assign x r)) = type_in known x
 set_type known s = None
 
 -- a mode is 0, JNI_COMMIT or JNI_ABORT

@@ -2,8 +2,9 @@
 use Rattle.std.specs.Prelude.{Bool, false, ◌||◌}
 use Rattle.std.specs.List.{list_any}
 use Rattle.base.specs.Bytes.{Identifier}
+use Rattle.base.specs.Options.{some_passes}
 use Rattle.syntax.specs.Parts.{names_in}
-use Rattle.syntax.specs.Tree.{Expr, Argument, Value, Text, AddressOf, Call, RightSide, FromExpr, FromCall, Test, TestExpr, TestCall, Stmt, Declare, DeclareBuffer, DeclareChars, DeclareArray, Assign, AssignElement, Perform, PutJint, If, IfElse, While, Return, ReturnValue}
+use Rattle.syntax.specs.Tree.{Expr, Argument, Value, Text, AddressOf, Call, RightSide, FromExpr, FromCall, Test, TestExpr, TestCall, PlainStmt, Declare, DeclareArray, Assign, AssignElement, Perform, PutJint, Stmt, Plain, If, While, Return}
 
 -- of the names in an expression
 abbrev pub expr_uses : (Identifier → Bool) → Expr → Bool
@@ -29,18 +30,18 @@ abbrev pub test_uses : (Identifier → Bool) → Test → Bool
 test_uses asked (TestExpr e) = expr_uses asked e
 test_uses asked (TestCall c) = call_uses asked c
 
+-- of a plain statement
+abbrev pub plain_uses : (Identifier → Bool) → PlainStmt → Bool
+plain_uses asked (Declare t x r) = right_uses asked r
+plain_uses asked (DeclareArray t x size) = false
+plain_uses asked (Assign x r) = right_uses asked r
+plain_uses asked (AssignElement x i e) = asked x || expr_uses asked i || expr_uses asked e
+plain_uses asked (Perform c) = call_uses asked c
+plain_uses asked (PutJint e) = expr_uses asked e
+
 -- of a statement
 abbrev pub uses : (Identifier → Bool) → Stmt → Bool
-uses asked (Declare line t x r) = right_uses asked r
-uses asked (DeclareBuffer line t x r) = right_uses asked r
-uses asked (DeclareChars line x r) = right_uses asked r
-uses asked (DeclareArray line t x size) = false
-uses asked (Assign line x r) = right_uses asked r
-uses asked (AssignElement line x i e) = asked x || expr_uses asked i || expr_uses asked e
-uses asked (Perform line c) = call_uses asked c
-uses asked (PutJint line e) = expr_uses asked e
-uses asked (If line test then') = test_uses asked test
-uses asked (IfElse line test then' else') = test_uses asked test
+uses asked (Plain line p) = plain_uses asked p
+uses asked (If line test then' else') = test_uses asked test
 uses asked (While line test body) = expr_uses asked test
-uses asked (Return line) = false
-uses asked (ReturnValue line e) = expr_uses asked e
+uses asked (Return line e) = some_passes (expr_uses asked) e

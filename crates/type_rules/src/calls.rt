@@ -3,22 +3,30 @@
 ghost use Rattle.std.specs.Prelude.{◌≡◌, ℕ};
 ghost use Rattle.std.specs.Option.{option_map};
 ghost use Rattle.syntax.specs.Parts.{own_call};
-ghost use Rattle.syntax.specs.Views.{call_tree, form_tree};
+ghost use Rattle.syntax.specs.Tree.{Plain};
+ghost use Rattle.syntax.specs.Views.{call_tree, form_tree, plain_tree};
 
-use syntax::{Call, Form, RightSide, Test};
+use syntax::{Call, Form, PlainStmt, RightSide, Test};
+
+/// The call that a plain statement makes.
+pub fn plain_call(plain: &PlainStmt) -> Option<&Call>
+    ensures { (line : ℕ) → option_map (λ c. call_tree c.now) result ≡ own_call (Plain line (plain_tree plain.now)) }
+{
+    match plain {
+        PlainStmt::Declare(_, _, RightSide::Call(c)) => Some(c),
+        PlainStmt::Assign(_, RightSide::Call(c)) => Some(c),
+        PlainStmt::Perform(c) => Some(c),
+        _ => None,
+    }
+}
 
 /// The call that a statement makes.
 pub fn own_call(form: &Form) -> Option<&Call>
     ensures { (line : ℕ) → option_map (λ c. call_tree c.now) result ≡ own_call (form_tree line form.now) }
 {
     match form {
-        Form::Declare(_, _, RightSide::Call(c)) => Some(c),
-        Form::DeclareBuffer(_, _, RightSide::Call(c)) => Some(c),
-        Form::DeclareChars(_, RightSide::Call(c)) => Some(c),
-        Form::Assign(_, RightSide::Call(c)) => Some(c),
-        Form::Perform(c) => Some(c),
-        Form::If(Test::Call(c), _) => Some(c),
-        Form::IfElse(Test::Call(c), _, _) => Some(c),
+        Form::Plain(plain) => plain_call(plain),
+        Form::If(Test::Call(c), _, _) => Some(c),
         _ => None,
     }
 }

@@ -8,9 +8,9 @@ mod rule;
 mod ty;
 mod typed;
 
-pub use calls::own_call;
+pub use calls::{own_call, plain_call};
 pub use known::Known;
 pub use names::{Question, first_name};
 pub use rule::TypeRule;
-pub use ty::{ExprType, parameter_type, static_type, variable_type};
+pub use ty::{ExprType, declared_type, parameter_type, static_type, variable_type};
 pub use typed::Typed;

@@ -1,6 +1,6 @@
 //! The name of a statement that a fault is about.
 
-use syntax::{Argument, Call, ExprRef, Form, Name, RightSide, Shape, Test};
+use syntax::{Argument, Call, ExprRef, Form, Name, PlainStmt, RightSide, Shape, Test};
 
 /// A question about the names that a statement uses.
 pub trait Question {
@@ -79,21 +79,23 @@ fn first_in_setting<'f, Q: Question>(
     }
 }
 
+fn first_in_plain<'f, Q: Question>(plain: &'f PlainStmt, question: &Q) -> Option<&'f Name> {
+    match plain {
+        PlainStmt::Declare(_, _, r) | PlainStmt::Assign(_, r) => first_in_right(r, question),
+        PlainStmt::DeclareArray(..) => None,
+        PlainStmt::AssignElement(x, i, e) => first_in_setting(x, i.whole(), e.whole(), question),
+        PlainStmt::Perform(call) => first_in_call(call, question),
+        PlainStmt::PutJint(e) => first_in_expr(e.whole(), question),
+    }
+}
+
 /// The first name that a statement uses of which the answer is yes. A name that it declares, or sets as a whole, is not used, and
 /// the statements of its blocks aren't looked at.
 pub fn first_name<'f, Q: Question>(form: &'f Form, question: &Q) -> Option<&'f Name> {
     match form {
-        Form::Declare(_, _, r)
-        | Form::DeclareBuffer(_, _, r)
-        | Form::DeclareChars(_, r)
-        | Form::Assign(_, r) => first_in_right(r, question),
-        Form::AssignElement(x, i, e) => first_in_setting(x, i.whole(), e.whole(), question),
-        Form::Perform(call) => first_in_call(call, question),
-        Form::If(test, _) | Form::IfElse(test, _, _) => first_in_test(test, question),
-        Form::PutJint(e) | Form::While(e, _) | Form::Return(Some(e)) => first_in_expr(
-            e.whole(),
-            question,
-        ),
-        Form::DeclareArray(..) | Form::Return(None) => None,
+        Form::Plain(plain) => first_in_plain(plain, question),
+        Form::If(test, _, _) => first_in_test(test, question),
+        Form::While(e, _) | Form::Return(Some(e)) => first_in_expr(e.whole(), question),
+        Form::Return(None) => None,
     }
 }

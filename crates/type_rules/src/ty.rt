@@ -1,9 +1,9 @@
 //! The types of names and expressions.
 
 ghost use Rattle.std.specs.Prelude.{◌≡◌};
-ghost use Rattle.type_rules.specs.TypeRules.{variable_type, parameter_type, static_type};
+ghost use Rattle.type_rules.specs.TypeRules.{variable_type, declared_type, parameter_type, static_type};
 
-use syntax::{ElementType, ParameterType, StaticType, VariableType};
+use syntax::{DeclaredType, ElementType, ParameterType, StaticType, VariableType};
 
 /// What a name or an expression is.
 #[derive(Clone, Copy)]
@@ -30,7 +30,7 @@ pub enum ExprType {
     Array(ElementType, u32),
 }
 
-/// The type of a declared variable.
+/// The type of a variable.
 pub fn variable_type(kind: VariableType) -> ExprType
     ensures { result ≡ variable_type kind }
 {
@@ -41,6 +41,17 @@ pub fn variable_type(kind: VariableType) -> ExprType
         VariableType::JfieldId => ExprType::FieldId,
         VariableType::JmethodId => ExprType::MethodId,
         VariableType::Reference(_) => ExprType::Ref,
+    }
+}
+
+/// The type of a declared variable, a buffer or not.
+pub fn declared_type(kind: DeclaredType) -> ExprType
+    ensures { result ≡ declared_type kind }
+{
+    match kind {
+        DeclaredType::Simple(kind) => variable_type(kind),
+        DeclaredType::Pointer(element) => ExprType::Buffer(element, true),
+        DeclaredType::ConstChars => ExprType::Buffer(ElementType::Char, false),
     }
 }
 

@@ -1,24 +1,20 @@
 -- The statements of a block in memory, one after the other.
-use Rattle.std.proofs.Common.{◌≡◌, ℕ, ◌+◌, ◌-◌, ◌<◌, None, Some, Result, Ok, Err, OnOk, List, [], ◌∷◌, ◌++◌, drop, length, get_or, refl, sym, ap, ap₂, ◌∙◌, append_assoc, length-append, arith}
+use Rattle.std.proofs.Common.{◌≡◌, ℕ, ◌+◌, ◌-◌, ◌<◌, Result, Ok, Err, OnOk, List, [], ◌∷◌, ◌++◌, drop, length, get_or, refl, sym, ap, ap₂, ◌∙◌, append_assoc, length-append, arith}
 use Rattle.std.proofs.Math.Seq.{drop-append_seam}
 use Rattle.std.proofs.lemmas.List.Elements.{filter_map-append}
 use Rattle.base.specs.Bytes.{Identifier, ByName}
 use Rattle.base.proofs.Lists.{item_here}
-use Rattle.syntax.specs.declared.call.Test.{Test as TestInMemory}
-use Rattle.syntax.specs.declared.stmt.Block.{Block as BlockInMemory}
-use Rattle.syntax.specs.declared.stmt.Form.{Form}
-use Rattle.syntax.specs.declared.stmt.Form.TheVariants as form
 use Rattle.syntax.specs.declared.stmt.Stmt.{Stmt as StmtInMemory}
 use Rattle.syntax.specs.Parts.{statements_of, statements_within, names_declared, declared_name}
 use Rattle.syntax.specs.declared.unit.ResultType.{ResultType}
-use Rattle.syntax.specs.Views.{form_tree, stmt_tree}
+use Rattle.syntax.specs.Views.{stmt_tree}
 use Rattle.syntax.proofs.Blocks.{statements_tree}
 use Rattle.type_rules.specs.declared.ty.ExprType.{ExprType}
 use Rattle.type_rules.specs.ExprTypes.{Scope}
-use Rattle.type_rules.specs.TypeRules.{places_of, with_declared}
+use Rattle.type_rules.specs.TypeRules.{places_inside, places_of, statement_place, with_declared}
 use Rattle.types.specs.AllFaults.{told_at}
-use Rattle.types.specs.Faults.{IsAbove, found, statement_place, places_inside}
-use Rattle.types.proofs.PlaceLemmas.{found-none, found-statement}
+use Rattle.types.specs.Faults.{IsAbove, found}
+use Rattle.types.proofs.PlaceLemmas.{found-statement}
 
 -- what is refused at a statement and after it
 pub found-rest : (returns : ResultType) (known : Scope) (taken : List Identifier) (items : List StmtInMemory) (i : ℕ) (s : StmtInMemory) (end_line : ℕ) → i < length items → s ≡ get_or items i s
@@ -36,40 +32,6 @@ declared-rest taken items i s end_line h e =
     ap (λ rest. taken ++ names_declared (statements_of (statements_tree rest end_line))) (item_here items i s s h e refl)
     ∙ ap (λ names. taken ++ names) (filter_map-append declared_name (statements_within (stmt_tree s)) _)
     ∙ sym (append_assoc taken _ _)
-
--- ---- statements without blocks
-
-pub alone : (line : ℕ) (f : Form) → ((t : TestInMemory) (b : BlockInMemory) → f ≡ form.If t b → ⊥) → ((t : TestInMemory) (b d : BlockInMemory) → f ≡ form.IfElse t b d → ⊥) → ((e : _) (b : BlockInMemory) → f ≡ form.While e b → ⊥)
-    → statements_within (form_tree line f) ≡ form_tree line f ∷ []
-alone line (form.Declare t x r) h k l = refl
-alone line (form.DeclareBuffer t x r) h k l = refl
-alone line (form.DeclareChars x r) h k l = refl
-alone line (form.DeclareArray t x size) h k l = refl
-alone line (form.Assign x r) h k l = refl
-alone line (form.AssignElement x i e) h k l = refl
-alone line (form.Perform c) h k l = refl
-alone line (form.PutJint e) h k l = refl
-alone line (form.If t b) h k l = absurd (h t b refl)
-alone line (form.IfElse t b d) h k l = absurd (k t b d refl)
-alone line (form.While e b) h k l = absurd (l e b refl)
-alone line (form.Return None) h k l = refl
-alone line (form.Return (Some e)) h k l = refl
-
-pub none-inside : (returns : ResultType) (known : Scope) (taken : List Identifier) (line : ℕ) (f : Form) → ((t : TestInMemory) (b : BlockInMemory) → f ≡ form.If t b → ⊥) → ((t : TestInMemory) (b d : BlockInMemory) → f ≡ form.IfElse t b d → ⊥) → ((e : _) (b : BlockInMemory) → f ≡ form.While e b → ⊥)
-    → found (places_inside returns known taken (form_tree line f)) ≡ []
-none-inside returns known taken line (form.Declare t x r) h k l = found-none
-none-inside returns known taken line (form.DeclareBuffer t x r) h k l = found-none
-none-inside returns known taken line (form.DeclareChars x r) h k l = found-none
-none-inside returns known taken line (form.DeclareArray t x size) h k l = found-none
-none-inside returns known taken line (form.Assign x r) h k l = found-none
-none-inside returns known taken line (form.AssignElement x i e) h k l = found-none
-none-inside returns known taken line (form.Perform c) h k l = found-none
-none-inside returns known taken line (form.PutJint e) h k l = found-none
-none-inside returns known taken line (form.If t b) h k l = absurd (h t b refl)
-none-inside returns known taken line (form.IfElse t b d) h k l = absurd (k t b d refl)
-none-inside returns known taken line (form.While e b) h k l = absurd (l e b refl)
-none-inside returns known taken line (form.Return None) h k l = found-none
-none-inside returns known taken line (form.Return (Some e)) h k l = found-none
 
 -- ---- names that are known
 

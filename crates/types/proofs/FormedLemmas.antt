@@ -7,7 +7,8 @@ use Rattle.base.specs.Options.{some_passes}
 use Rattle.syntax.specs.Parts.{own_call, own_expressions, call_expressions}
 use Rattle.syntax.specs.declared.unit.ResultType.{ResultType}
 use Rattle.syntax.specs.declared.unit.ResultType.TheVariants.{Void, Jint as IntResult, Reference as ReferenceResult}
-use Rattle.syntax.specs.Tree.{Expr, Number, Named, Variable, Element, Prefix, Binary, Paren, Call, FromExpr, FromCall, TestExpr, TestCall, Stmt, Declare, DeclareBuffer, DeclareChars, DeclareArray, Assign, AssignElement, Perform, PutJint, If, IfElse, While, Return, ReturnValue}
+use Rattle.syntax.specs.declared.declared_type.DeclaredType.TheVariants.{Simple, Pointer, ConstChars}
+use Rattle.syntax.specs.Tree.{Expr, Number, Named, Variable, Element, Prefix, Binary, Paren, Call, FromExpr, FromCall, TestExpr, TestCall, Stmt, Plain, Declare, DeclareArray, Assign, AssignElement, Perform, PutJint, If, While, Return}
 use Rattle.jni.specs.JniFunction.{function_named}
 use Rattle.type_rules.specs.declared.ty.ExprType.{ExprType}
 use Rattle.type_rules.specs.declared.ty.ExprType.TheVariants.{Word, Jint, Flag, Truth, Ref, Global, Weak, FieldId, MethodId, Buffer, Array}
@@ -84,28 +85,24 @@ in_call known None = true
 in_call known (Some c) = list_all (is_formed known) (call_expressions c)
 
 formed_is : (known : Scope) (returns : ResultType) (s : Stmt) → statement_fits known returns s ≡ true → list_all (is_formed known) (own_expressions s) ≡ in_call known (own_call s)
-formed_is known returns (Declare line t x (FromExpr e)) h = one known e (value_formed known (Some (variable_type t)) e h)
-formed_is known returns (Declare line t x (FromCall c)) h = refl
-formed_is known returns (DeclareBuffer line t x (FromExpr e)) h = one known e (null_formed known e h)
-formed_is known returns (DeclareBuffer line t x (FromCall c)) h = refl
-formed_is known returns (DeclareChars line x (FromExpr e)) h = one known e (null_formed known e h)
-formed_is known returns (DeclareChars line x (FromCall c)) h = refl
-formed_is known returns (DeclareArray line t x size) h = refl
-formed_is known returns (Assign line x (FromExpr e)) h = one known e (value_formed known (type_in known x) e h)
-formed_is known returns (Assign line x (FromCall c)) h = refl
-formed_is known returns (AssignElement line x i e) h =
+formed_is known returns (Plain line (Declare (Simple t) x (FromExpr e))) h = one known e (value_formed known (Some (variable_type t)) e h)
+formed_is known returns (Plain line (Declare t x (FromCall c))) h = refl
+formed_is known returns (Plain line (Declare (Pointer t) x (FromExpr e))) h = one known e (null_formed known e h)
+formed_is known returns (Plain line (Declare ConstChars x (FromExpr e))) h = one known e (null_formed known e h)
+formed_is known returns (Plain line (DeclareArray t x size)) h = refl
+formed_is known returns (Plain line (Assign x (FromExpr e))) h = one known e (value_formed known (type_in known x) e h)
+formed_is known returns (Plain line (Assign x (FromCall c))) h = refl
+formed_is known returns (Plain line (AssignElement x i e)) h =
     let p = and_parts (has_elements (type_in known x) && is_index (type_of known i)) (is_jint (type_of known e)) h in
     let q = and_parts (has_elements (type_in known x)) (is_index (type_of known i)) p.0 in
     two known i e (on_type known is_index i refl q.1) (on_type known is_jint e refl p.1)
-formed_is known returns (Perform line c) h = refl
-formed_is known returns (PutJint line e) h = one known e (on_type known is_jint e refl h)
-formed_is known returns (If line (TestExpr e) b) h = one known e (on_type known is_truth e refl h)
-formed_is known returns (If line (TestCall c) b) h = refl
-formed_is known returns (IfElse line (TestExpr e) b d) h = one known e (on_type known is_truth e refl h)
-formed_is known returns (IfElse line (TestCall c) b d) h = refl
+formed_is known returns (Plain line (Perform c)) h = refl
+formed_is known returns (Plain line (PutJint e)) h = one known e (on_type known is_jint e refl h)
+formed_is known returns (If line (TestExpr e) b d) h = one known e (on_type known is_truth e refl h)
+formed_is known returns (If line (TestCall c) b d) h = refl
 formed_is known returns (While line e b) h = one known e (on_type known is_truth e refl h)
-formed_is known returns (Return line) h = refl
-formed_is known returns (ReturnValue line e) h = one known e (return_formed known returns e h)
+formed_is known returns (Return line None) h = refl
+formed_is known returns (Return line (Some e)) h = one known e (return_formed known returns e h)
 
 abbrev fit : Scope → Call → Bool
 fit known c = call_arguments_fit known c (function_named c.function)

@@ -14,7 +14,8 @@ use Rattle.syntax.specs.declared.expr.PrefixOp.TheVariants.{LogicalNot, Compleme
 use Rattle.syntax.specs.declared.expr.BinaryOp.{BinaryOp}
 use Rattle.syntax.specs.declared.expr.BinaryOp.TheVariants.{Equal, NotEqual}
 use Rattle.syntax.specs.declared.expr.Constant.TheVariants.{Null}
-use Rattle.syntax.specs.Tree.{Expr, Number, Named, Variable, Element, Prefix, Binary, Paren, FromExpr, FromCall, TestExpr, TestCall, Stmt, Declare, DeclareBuffer, DeclareChars, DeclareArray, Assign, AssignElement, Perform, PutJint, If, IfElse, While, Return, ReturnValue}
+use Rattle.syntax.specs.declared.declared_type.DeclaredType.TheVariants.{Simple, Pointer, ConstChars}
+use Rattle.syntax.specs.Tree.{Expr, Number, Named, Variable, Element, Prefix, Binary, Paren, FromExpr, FromCall, TestExpr, TestCall, Stmt, Plain, Declare, DeclareArray, Assign, AssignElement, Perform, PutJint, If, While, Return}
 use Rattle.type_rules.specs.declared.ty.ExprType.{ExprType}
 use Rattle.type_rules.specs.declared.ty.ExprType.TheVariants.{Word, Jint, Flag, Truth, Ref, Global, Weak, FieldId, MethodId, Buffer, Array}
 use Rattle.type_rules.specs.ExprTypes.{Scope, type_of, type_in, prefix_type, binary_type, OperatorGroup, Logic, Equality, Order, OnWords, group, null_test_type, has_elements, is_index, is_word, is_jint, is_flag, is_truth, is_ref, is_null, name_type, is_nullable, is_unknown}
@@ -147,28 +148,24 @@ elements_some None h = absurd cc
 
 -- the names that a statement without a call uses, or sets
 pub fit_known : (known : Scope) (returns : ResultType) (s : Stmt) → own_call s ≡ None → statement_fits known returns s ≡ true → (uses (is_unknown known) s || some_passes (is_unknown known) (assigned_name s)) ≡ false
-fit_known known returns (Declare line t x (FromExpr e)) none h = ap (λ b. b || false) (value_known known (Some (variable_type t)) e h)
-fit_known known returns (DeclareBuffer line t x (FromExpr e)) none h = ap (λ b. b || false) (null_known known e h)
-fit_known known returns (DeclareChars line x (FromExpr e)) none h = ap (λ b. b || false) (null_known known e h)
-fit_known known returns (DeclareArray line t x size) none h = refl
-fit_known known returns (Assign line x (FromExpr e)) none h = (λ i. value_known known (type_in known x) e h i || known_name known x (set_known known (type_in known x) e h) i)
-fit_known known returns (AssignElement line x i e) none h =
+fit_known known returns (Plain line (Declare (Simple t) x (FromExpr e))) none h = ap (λ b. b || false) (value_known known (Some (variable_type t)) e h)
+fit_known known returns (Plain line (Declare (Pointer t) x (FromExpr e))) none h = ap (λ b. b || false) (null_known known e h)
+fit_known known returns (Plain line (Declare ConstChars x (FromExpr e))) none h = ap (λ b. b || false) (null_known known e h)
+fit_known known returns (Plain line (DeclareArray t x size)) none h = refl
+fit_known known returns (Plain line (Assign x (FromExpr e))) none h = (λ i. value_known known (type_in known x) e h i || known_name known x (set_known known (type_in known x) e h) i)
+fit_known known returns (Plain line (AssignElement x i e)) none h =
     let p = and_parts (has_elements (type_in known x) && is_index (type_of known i)) (is_jint (type_of known e)) h in
     let q = and_parts (has_elements (type_in known x)) (is_index (type_of known i)) p.0 in
     (λ j. ((known_name known x (elements_some (type_in known x) q.0) j || on_type known is_index i refl q.1 j) || on_type known is_jint e refl p.1 j) || false)
-fit_known known returns (PutJint line e) none h = ap (λ b. b || false) (on_type known is_jint e refl h)
-fit_known known returns (If line (TestExpr e) b) none h = ap (λ b. b || false) (on_type known is_truth e refl h)
-fit_known known returns (IfElse line (TestExpr e) b d) none h = ap (λ b. b || false) (on_type known is_truth e refl h)
+fit_known known returns (Plain line (PutJint e)) none h = ap (λ b. b || false) (on_type known is_jint e refl h)
+fit_known known returns (If line (TestExpr e) b d) none h = ap (λ b. b || false) (on_type known is_truth e refl h)
 fit_known known returns (While line e b) none h = ap (λ b. b || false) (on_type known is_truth e refl h)
-fit_known known returns (Return line) none h = refl
-fit_known known returns (ReturnValue line e) none h = ap (λ b. b || false) (return_known known returns e h)
-fit_known known returns (Declare line t x (FromCall c)) none h = absurd cc
-fit_known known returns (DeclareBuffer line t x (FromCall c)) none h = absurd cc
-fit_known known returns (DeclareChars line x (FromCall c)) none h = absurd cc
-fit_known known returns (Assign line x (FromCall c)) none h = absurd cc
-fit_known known returns (Perform line c) none h = absurd cc
-fit_known known returns (If line (TestCall c) b) none h = absurd cc
-fit_known known returns (IfElse line (TestCall c) b d) none h = absurd cc
+fit_known known returns (Return line None) none h = refl
+fit_known known returns (Return line (Some e)) none h = ap (λ b. b || false) (return_known known returns e h)
+fit_known known returns (Plain line (Declare t x (FromCall c))) none h = absurd cc
+fit_known known returns (Plain line (Assign x (FromCall c))) none h = absurd cc
+fit_known known returns (Plain line (Perform c)) none h = absurd cc
+fit_known known returns (If line (TestCall c) b d) none h = absurd cc
 
 -- a statement that breaks no rule of types and has no call names nothing unknown
 pub none_unknown : (known : Scope) (returns : ResultType) (s : Stmt) → own_call s ≡ None → breaks_type_rule TypeMisfit known [] returns s ≡ false → breaks_type_rule UnknownName known [] Void s ≡ false

@@ -4,11 +4,11 @@ use Rattle.std.proofs.lemmas.Grind.{flat_map-append}
 use Rattle.base.specs.Bytes.{Identifier}
 use Rattle.syntax.specs.Parts.{statements_within, names_declared}
 use Rattle.syntax.specs.declared.unit.ResultType.{ResultType}
-use Rattle.syntax.specs.Tree.{Stmt, If, IfElse, While, Block, Next}
+use Rattle.syntax.specs.Tree.{Stmt, Block, Next}
 use Rattle.type_rules.specs.ExprTypes.{Scope}
-use Rattle.type_rules.specs.TypeRules.{Place, places_of, places_within, with_declared}
+use Rattle.type_rules.specs.TypeRules.{Place, places_inside, places_of, places_within, statement_place, with_declared}
 use Rattle.types.specs.AllFaults.{told_at}
-use Rattle.types.specs.Faults.{found, statement_place, places_inside}
+use Rattle.types.specs.Faults.{found}
 
 pub found-none : found [] ≡ []
 unfolding found
@@ -22,18 +22,11 @@ pub found-next : (p : Place) (ps : List Place) → found (p ∷ ps) ≡ told_at 
 unfolding found
 found-next p ps = refl
 
--- a statement's own place is before those inside it
-own_first : (returns : ResultType) (known : Scope) (taken : List Identifier) (s : Stmt) → found (places_within returns known taken s) ≡ told_at (statement_place returns known taken s) ++ found (places_inside returns known taken s)
-own_first returns known taken (If line test then') = found-next _ _
-own_first returns known taken (IfElse line test then' else') = found-next _ _
-own_first returns known taken (While line test body) = found-next _ _
-own_first returns known taken s = found-next _ _
-
 -- a statement before others
 pub found-statement : (returns : ResultType) (known : Scope) (taken : List Identifier) (s : Stmt) (rest : Block)
     → found (places_of returns known taken (Next s rest)) ≡ (told_at (statement_place returns known taken s) ++ found (places_inside returns known taken s)) ++ found (places_of returns (with_declared known s) (taken ++ names_declared (statements_within s)) rest)
 found-statement returns known taken s rest =
-    found-append (places_within returns known taken s) _ ∙ ap (λ xs. xs ++ found (places_of returns (with_declared known s) (taken ++ names_declared (statements_within s)) rest)) (own_first returns known taken s)
+    found-append (places_within returns known taken s) _ ∙ ap (λ xs. xs ++ found (places_of returns (with_declared known s) (taken ++ names_declared (statements_within s)) rest)) (found-next _ _)
 
 pub ruleset place_rules = (found-none, found-append)
 

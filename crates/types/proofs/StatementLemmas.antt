@@ -5,15 +5,14 @@ use Rattle.std.specs.Option.{option_to_list}
 use Rattle.std.proofs.lemmas.List.Folds.{list_any-append}
 use Rattle.base.specs.Bytes.{Identifier}
 use Rattle.base.specs.Options.{some_passes}
-use Rattle.syntax.specs.declared.stmt.Form.TheVariants as form
 use Rattle.syntax.specs.Parts.{line_of, used_names, assigned_name}
 use Rattle.syntax.specs.declared.unit.ResultType.{ResultType}
 use Rattle.syntax.specs.declared.unit.ResultType.TheVariants.{Void}
 use Rattle.syntax.specs.Tree.{Stmt}
 use Rattle.type_rules.specs.ExprTypes.{Scope, is_unknown}
 use Rattle.type_rules.specs.declared.rule.TypeRule.TheVariants.{UnknownName}
-use Rattle.type_rules.specs.TypeRules.{typing_rules, breaks_type_rule, broken_at}
-use Rattle.types.specs.Faults.{statement_place, refused_of}
+use Rattle.type_rules.specs.TypeRules.{typing_rules, breaks_type_rule, broken_at, statement_place}
+use Rattle.types.specs.Faults.{refused_of}
 use Rattle.type_rules.specs.Uses.{uses}
 use Rattle.types.proofs.RuleLemmas.{listed}
 use Rattle.type_rules.proofs.UseLemmas.{uses_is}

@@ -1,16 +1,15 @@
 -- What a statement calls and what it declares, looked up once.
-use Rattle.std.specs.Prelude.{ℕ, ◌-◌, Bool, true, false, if◌then◌else◌, List, [], ◌++◌, length, replicate, Option, None, Some}
+use Rattle.std.specs.Prelude.{ℕ, ◌-◌, Bool, if◌then◌else◌, List, [], ◌++◌, length, replicate, Option, None, Some}
 use Rattle.std.specs.Option.{option_and_then}
 use Rattle.base.specs.Bytes.{Identifier}
-use Rattle.base.specs.declared.element.ElementType.TheVariants.{Char as JChar}
-use Rattle.syntax.specs.Tree.{Call, Test, TestExpr, TestCall, Stmt, Declare, DeclareBuffer, DeclareChars, DeclareArray}
+use Rattle.syntax.specs.Tree.{Call, Test, TestExpr, TestCall, Stmt, Plain, Declare, DeclareArray}
 use Rattle.jni.specs.declared.function.JniFunction.{JniFunction}
 use Rattle.jni.specs.JniFunction.{function_named}
 use Rattle.jni.specs.declared.kinds.ParameterKind.{ParameterKind}
 use Rattle.jni.specs.declared.kinds.ParameterKind.TheVariants.{Passed}
 use Rattle.type_rules.specs.declared.ty.ExprType.{ExprType}
-use Rattle.type_rules.specs.declared.ty.ExprType.TheVariants.{Buffer, Array}
-use Rattle.type_rules.specs.TypeRules.{variable_type}
+use Rattle.type_rules.specs.declared.ty.ExprType.TheVariants.{Array}
+use Rattle.type_rules.specs.TypeRules.{declared_type}
 
 -- the function of a call, where there is a call and the table has its name
 abbrev pub function_in : Option Call → Option JniFunction
@@ -27,8 +26,6 @@ call_of_test (TestCall c) = Some c
 
 -- the name that a statement declares, and its type
 abbrev pub declared : Stmt → Option (Identifier × ExprType)
-declared (Declare line t x r) = Some (x, variable_type t)
-declared (DeclareBuffer line t x r) = Some (x, Buffer t true)
-declared (DeclareChars line x r) = Some (x, Buffer JChar false)
-declared (DeclareArray line t x size) = Some (x, Array t size)
+declared (Plain line (Declare t x r)) = Some (x, declared_type t)
+declared (Plain line (DeclareArray t x size)) = Some (x, Array t size)
 declared s = None

@@ -5,10 +5,9 @@ use Rattle.base.specs.Bytes.{Identifier, ByName}
 use Rattle.class_rules.specs.Mangling.{unmangle}
 use Rattle.places.specs.declared.fault.Fault.{Fault as FaultAt}
 use Rattle.syntax.specs.declared.unit.Function.{Function as FunctionInMemory}
-use Rattle.syntax.specs.Parts.{line_of, statements_of, names_declared}
 use Rattle.syntax.specs.declared.unit.ResultType.{ResultType}
 use Rattle.syntax.specs.declared.unit.ResultType.TheVariants.{Void}
-use Rattle.syntax.specs.Tree.{Stmt, If, IfElse, While, Item, StaticItem, FunctionItem}
+use Rattle.syntax.specs.Tree.{Stmt, Item, StaticItem, FunctionItem}
 use Rattle.types.specs.AllFaults.{told_at}
 use Rattle.types.specs.declared.fault.TypeError.{TypeError}
 use Rattle.types.specs.declared.fault.TypeError.TheVariants.{Memory, Fault}
@@ -17,7 +16,7 @@ use Rattle.type_rules.specs.declared.ty.ExprType.TheVariants.{Ref}
 use Rattle.type_rules.specs.ExprTypes.{Scope}
 use Rattle.type_rules.specs.declared.rule.TypeRule.{TypeRule}
 use Rattle.type_rules.specs.declared.rule.TypeRule.TheVariants.{UnknownName, DeclaredTwice}
-use Rattle.type_rules.specs.TypeRules.{Place, StaticForm, StatementForm, breaks_type_rule, places_of, function_places, has_name, has_repeated, parameter_type, static_type}
+use Rattle.type_rules.specs.TypeRules.{Place, StaticForm, breaks_type_rule, function_places, has_name, has_repeated, parameter_type, static_type}
 
 -- a rule that is broken, and the line
 abbrev pub TypeFault : Type 0
@@ -79,21 +78,9 @@ kept false faults = take 1 faults
 abbrev pub Tells : (all : Bool) → (old new : List TypeFault) → (found : Faults) → Type 0
 Tells all old new found = kept all (map fault_of new) ≡ kept all (map fault_of old ++ found)
 
--- the place of a statement of a function with this result, where these names are known and these are taken
-abbrev pub statement_place : ResultType → Scope → List Identifier → Stmt → Place
-statement_place returns known taken s = record { line = line_of s; known = known; taken = taken; returns = returns; form = StatementForm s }
-
 -- what is refused at a statement on this line of these rules, one after the other
 abbrev pub refused_of : ResultType → Scope → List Identifier → Stmt → ℕ → List TypeRule → Faults
 refused_of returns known taken s line rules = flat_map (λ rule. broken_if (breaks_type_rule rule known taken returns s) rule line) rules
-
--- the places inside a statement
-abbrev pub places_inside : ResultType → Scope → List Identifier → Stmt → List Place
-places_inside returns known taken (If line test then') = places_of returns known taken then'
-places_inside returns known taken (IfElse line test then' else') = places_of returns known taken then'
-    ++ places_of returns known (taken ++ names_declared (statements_of then')) else'
-places_inside returns known taken (While line test body) = places_of returns known taken body
-places_inside returns known taken s = []
 
 -- the places of an item alone
 abbrev pub own_places : List Identifier → Scope → Item → List Place

@@ -3,14 +3,14 @@
 ghost use Rattle.std.specs.Prelude.{◌≡◌, ℕ, [], ◌∷◌, ◌++◌, OnOk};
 ghost use Rattle.syntax.specs.Parts.{statements_of, statements_within, names_declared};
 ghost use Rattle.syntax.specs.Views.{form_tree, block_tree};
-ghost use Rattle.type_rules.specs.TypeRules.{places_of, with_declared};
-ghost use Rattle.types.specs.Faults.{Tells, IsAbove, found, places_inside};
+ghost use Rattle.type_rules.specs.TypeRules.{places_inside, places_of, with_declared};
+ghost use Rattle.types.specs.Faults.{Tells, IsAbove, found};
 
 use crate::fault::TypeFault;
 use crate::statements::{check_statement, declared};
 use crate::taken::Taken;
 use std::alloc::AllocError;
-use syntax::{Block, Form, ResultType};
+use syntax::{Block, Else, Form, ResultType};
 use type_rules::{ExprType, Known};
 
 /// The name that a statement declares is known and taken.
@@ -55,13 +55,16 @@ fn check_inside<'a: 'n, 'n>(
         ≡ taken.old ++ names_declared (statements_within (form_tree line form.now))) }
 {
     match form {
-        Form::If(_, b) => check_block(known, taken, returns, b, all, faults),
-        Form::IfElse(_, b, d) => {
+        Form::Plain(_) => declare(known, taken, form),
+        Form::If(_, b, other) => {
             check_block(known, taken, returns, b, all, faults)?;
-            check_block(known, taken, returns, d, all, faults)
+            match other {
+                Else::Nothing => Ok(()),
+                Else::Block(d) => check_block(known, taken, returns, d, all, faults),
+            }
         }
         Form::While(_, b) => check_block(known, taken, returns, b, all, faults),
-        _ => declare(known, taken, form),
+        Form::Return(_) => Ok(()),
     }
 }
 

@@ -9,15 +9,16 @@ ghost use Rattle.base.specs.Bytes.{Identifier};
 ghost use Rattle.syntax.specs.declared.unit.ResultType.{ResultType as ReturnType};
 ghost use Rattle.syntax.specs.declared.unit.ResultType.TheVariants.{Void};
 ghost use Rattle.syntax.specs.Shapes.{ref_tree};
-ghost use Rattle.syntax.specs.Views.{right_side_tree, test_tree, form_tree, stmt_tree};
+ghost use Rattle.syntax.specs.Tree.{Plain};
+ghost use Rattle.syntax.specs.Views.{right_side_tree, test_tree, plain_tree, form_tree, stmt_tree};
 ghost use Rattle.jni.specs.JniFunction.{function_named};
 ghost use Rattle.type_rules.specs.ExprTypes.{type_in, is_unknown, type_of, has_elements, is_index, is_jint, call_arguments_fit};
 ghost use Rattle.type_rules.specs.declared.rule.TypeRule.TheVariants.{UnknownName, DeclaredTwice, TypeMisfit, UnknownFunction, ArgumentCount, ReferenceCopied, BadMode, ReadOnlyWrite};
-ghost use Rattle.type_rules.specs.TypeRules.{is_formed, value_sets, right_side_sets, buffer_begins, test_fits, return_fits, statement_fits, copies_reference, typing_rules, breaks_type_rule};
+ghost use Rattle.type_rules.specs.TypeRules.{is_formed, value_sets, right_side_sets, buffer_begins, declaration_fits, test_fits, return_fits, plain_fits, statement_fits, copies_reference, typing_rules, breaks_type_rule, statement_place};
 ghost use Rattle.types.specs.Called.{function_in, call_of_test, declared};
 ghost use Rattle.types.specs.AllFaults.{told_at};
-ghost use Rattle.types.specs.Faults.{Faults, Judges, Tells, statement_place, refused_of};
-ghost use Rattle.type_rules.specs.Uses.{right_uses, test_uses, uses};
+ghost use Rattle.types.specs.Faults.{Faults, Judges, Tells, refused_of};
+ghost use Rattle.type_rules.specs.Uses.{right_uses, test_uses, plain_uses, uses};
 
 use crate::calls::{
     call_arguments_fit, call_fits, call_formed, call_unknown, has_wrong_count, has_wrong_mode,
@@ -25,6 +26,7 @@ use crate::calls::{
 };
 use crate::expressions::{has_unknown, is_null, name_type, type_of};
 use crate::fault::{TypeError, TypeFault, keep};
+use crate::meant::{asked, is_asked};
 use crate::scope::{is_unknown, type_in};
 use crate::taken::Taken;
 use crate::telling::statement_detail;
@@ -34,8 +36,10 @@ use crate::ty::{
 use jni::{JniFunction, function_named};
 use places::{Fault, Line};
 use std::alloc::AllocError;
-use syntax::{Call, ElementType, ExprRef, Form, Name, ResultType, RightSide, Stmt, Test};
-use type_rules::{ExprType, Known, TypeRule, own_call, variable_type};
+use syntax::{
+    Call, DeclaredType, ExprRef, Form, Name, PlainStmt, ResultType, RightSide, Stmt, Test,
+};
+use type_rules::{ExprType, Known, TypeRule, declared_type, own_call, variable_type};
 
 /// The function that a statement calls, if it is known.
 pub(crate) fn function_called(form: &Form) -> Option<JniFunction>
@@ -67,25 +71,30 @@ fn test_unknown(known: &Known<'_, ExprType>, test: &Test) -> bool
     }
 }
 
+/// Whether some name that a plain statement uses is not known.
+fn plain_unknown(known: &Known<'_, ExprType>, plain: &PlainStmt) -> bool
+    ensures { result ≡ plain_uses (is_unknown known.now) (plain_tree plain.now) }
+{
+    match plain {
+        PlainStmt::Declare(_, _, r) | PlainStmt::Assign(_, r) => right_unknown(known, r),
+        PlainStmt::DeclareArray(..) => false,
+        PlainStmt::AssignElement(x, i, e) => {
+            is_unknown(known, x) || has_unknown(known, i.whole()) || has_unknown(known, e.whole())
+        }
+        PlainStmt::Perform(c) => call_unknown(known, c),
+        PlainStmt::PutJint(e) => has_unknown(known, e.whole()),
+    }
+}
+
 /// Whether some name that a statement uses is not known.
 fn uses_unknown(known: &Known<'_, ExprType>, form: &Form) -> bool
     ensures { (line : ℕ) → result ≡ uses (is_unknown known.now) (form_tree line form.now) }
 {
     match form {
-        Form::Declare(_, _, r)
-        | Form::DeclareBuffer(_, _, r)
-        | Form::DeclareChars(_, r)
-        | Form::Assign(_, r) => right_unknown(known, r),
-        Form::AssignElement(x, i, e) => {
-            is_unknown(known, x) || has_unknown(known, i.whole()) || has_unknown(known, e.whole())
-        }
-        Form::Perform(c) => call_unknown(known, c),
-        Form::If(test, _) | Form::IfElse(test, _, _) => test_unknown(known, test),
-        Form::PutJint(e) | Form::While(e, _) | Form::Return(Some(e)) => has_unknown(
-            known,
-            e.whole(),
-        ),
-        _ => false,
+        Form::Plain(plain) => plain_unknown(known, plain),
+        Form::If(test, _, _) => test_unknown(known, test),
+        Form::While(e, _) | Form::Return(Some(e)) => has_unknown(known, e.whole()),
+        Form::Return(None) => false,
     }
 }
 
@@ -95,7 +104,7 @@ fn assigns_unknown(known: &Known<'_, ExprType>, form: &Form) -> bool
         (assigned_name (form_tree line form.now)) }
 {
     match form {
-        Form::Assign(x, _) => is_unknown(known, x),
+        Form::Plain(PlainStmt::Assign(x, _)) => is_unknown(known, x),
         _ => false,
     }
 }
@@ -120,10 +129,8 @@ pub(crate) fn declared(form: &Form) -> Option<(&Name, ExprType)>
     ensures { (line : ℕ) → option_map (λ d. (d.0.now, d.1)) result ≡ declared (form_tree line form.now) }
 {
     match form {
-        Form::Declare(t, x, _) => Some((x, variable_type(*t))),
-        Form::DeclareBuffer(t, x, _) => Some((x, ExprType::Buffer(*t, true))),
-        Form::DeclareChars(x, _) => Some((x, ExprType::Buffer(ElementType::Char, false))),
-        Form::DeclareArray(t, x, size) => Some((x, ExprType::Array(*t, *size))),
+        Form::Plain(PlainStmt::Declare(t, x, _)) => Some((x, declared_type(*t))),
+        Form::Plain(PlainStmt::DeclareArray(t, x, size)) => Some((x, ExprType::Array(*t, *size))),
         _ => None,
     }
 }
@@ -183,6 +190,24 @@ fn buffer_begins(ty: ExprType, right: &RightSide, function: Option<JniFunction>)
     }
 }
 
+/// Whether a variable may be declared with this type and this right side.
+fn declaration_fits(
+    known: &Known<'_, ExprType>,
+    kind: DeclaredType,
+    right: &RightSide,
+    function: Option<JniFunction>,
+) -> bool
+    requires { function
+        ≡ function_in (call_of_right_side (Some (right_side_tree right.now))) }
+    ensures { result ≡ declaration_fits known.now kind (right_side_tree right.now) }
+{
+    match kind {
+        DeclaredType::Simple(t) => right_side_sets(known, Some(variable_type(t)), right, function),
+        DeclaredType::Pointer(_) => buffer_begins(declared_type(kind), right, function),
+        DeclaredType::ConstChars => buffer_begins(declared_type(kind), right, function),
+    }
+}
+
 /// Whether an `if` may test this.
 fn test_fits(known: &Known<'_, ExprType>, test: &Test, function: Option<JniFunction>) -> bool
     requires { function ≡ function_in (call_of_test (test_tree test.now)) }
@@ -221,6 +246,21 @@ fn element_fits(
         && is_jint(type_of(known, value))
 }
 
+/// Whether the parts of a plain statement fit one another, its call's arguments aside.
+fn plain_fits(known: &Known<'_, ExprType>, plain: &PlainStmt, function: Option<JniFunction>) -> bool
+    requires { (line : ℕ) → function ≡ function_in (own_call (Plain line (plain_tree plain.now))) }
+    ensures { result ≡ plain_fits known.now (plain_tree plain.now) }
+{
+    match plain {
+        PlainStmt::Declare(t, _, r) => declaration_fits(known, *t, r, function),
+        PlainStmt::DeclareArray(..) => true,
+        PlainStmt::Assign(x, r) => right_side_sets(known, type_in(known, x), r, function),
+        PlainStmt::AssignElement(x, i, e) => element_fits(known, x, i.whole(), e.whole()),
+        PlainStmt::Perform(_) => may_be_dropped(function),
+        PlainStmt::PutJint(e) => is_jint(type_of(known, e.whole())),
+    }
+}
+
 /// Whether the parts of a statement fit one another, its call's arguments aside.
 pub(crate) fn statement_fits(
     known: &Known<'_, ExprType>,
@@ -233,18 +273,8 @@ pub(crate) fn statement_fits(
         (form_tree line form.now) }
 {
     match form {
-        Form::Declare(t, _, r) => { right_side_sets(known, Some(variable_type(*t)), r, function) }
-        Form::DeclareBuffer(t, _, r) => buffer_begins(ExprType::Buffer(*t, true), r, function),
-        Form::DeclareChars(_, r) => {
-            buffer_begins(ExprType::Buffer(ElementType::Char, false), r, function)
-        }
-        Form::DeclareArray(..) => true,
-        Form::Assign(x, r) => right_side_sets(known, type_in(known, x), r, function),
-        Form::AssignElement(x, i, e) => element_fits(known, x, i.whole(), e.whole()),
-        Form::Perform(_) => may_be_dropped(function),
-        Form::PutJint(e) => is_jint(type_of(known, e.whole())),
-        Form::If(test, _) => test_fits(known, test, function),
-        Form::IfElse(test, _, _) => test_fits(known, test, function),
+        Form::Plain(plain) => plain_fits(known, plain, function),
+        Form::If(test, _, _) => test_fits(known, test, function),
         Form::While(e, _) => is_truth(type_of(known, e.whole())),
         Form::Return(None) => matches!(returns, ResultType::Void),
         Form::Return(Some(e)) => return_fits(known, returns, e.whole()),
@@ -329,8 +359,10 @@ fn copies_reference(known: &Known<'_, ExprType>, form: &Form) -> bool
         (form_tree line form.now) }
 {
     match form {
-        Form::Declare(t, _, r) => copies(known, Some(variable_type(*t)), r),
-        Form::Assign(x, r) => copies(known, type_in(known, x), r),
+        Form::Plain(PlainStmt::Declare(DeclaredType::Simple(t), _, r)) => {
+            copies(known, Some(variable_type(*t)), r)
+        }
+        Form::Plain(PlainStmt::Assign(x, r)) => copies(known, type_in(known, x), r),
         _ => false,
     }
 }
@@ -341,7 +373,7 @@ fn writes_read_only(known: &Known<'_, ExprType>, form: &Form) -> bool
         (form_tree line form.now) }
 {
     match form {
-        Form::AssignElement(x, _, _) => is_read_only(type_in(known, x)),
+        Form::Plain(PlainStmt::AssignElement(x, _, _)) => is_read_only(type_in(known, x)),
         _ => false,
     }
 }
@@ -414,10 +446,11 @@ fn first_broken(
     miscalled(known, form, function)
 }
 
-/// Keeps the fault of a statement that breaks a rule, with what is told of it.
+/// Keeps the fault of a statement that breaks a rule, with what is told of it. Its place is there before the words are sought.
 #[cold]
 fn keep_broken(
     known: &Known<'_, ExprType>,
+    taken: &Taken<'_>,
     returns: ResultType,
     stmt: &Stmt,
     rule: TypeRule,
@@ -427,14 +460,15 @@ fn keep_broken(
     ensures { (broken : Faults) → Judges (Some rule) stmt.now.line broken
         → OnOk result (Tells all faults.old.items faults.new.items (take 1 broken)) }
 {
-    let fault = Fault {
-        rule,
-        line: Line::told(
-            stmt.line,
-            statement_detail(known, returns, &stmt.form, rule),
-        ),
+    faults.reserve(1)?;
+    let found = statement_detail(known, returns, &stmt.form, rule);
+    let detail = if is_asked(all, faults.len()) {
+        asked(*faults.allocator(), known, taken, rule, found)
+    } else {
+        found
     };
-    keep(all, faults, Err(TypeError::Fault(fault)))
+    let line = Line::told(stmt.line, detail);
+    keep(all, faults, Err(TypeError::Fault(Fault { rule, line })))
 }
 
 /// Keeps what is found at a statement of a function with this result, where these names are known and these are taken.
@@ -450,7 +484,7 @@ pub(crate) fn check_statement(
         known.now taken.now (stmt_tree stmt.now)))) }
 {
     match first_broken(known, taken, returns, &stmt.form) {
-        Some(rule) => keep_broken(known, returns, stmt, rule, all, faults),
+        Some(rule) => keep_broken(known, taken, returns, stmt, rule, all, faults),
         None => Ok(()),
     }
 }

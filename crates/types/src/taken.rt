@@ -13,6 +13,10 @@ use type_rules::Known;
 pub(crate) struct Taken<'n> {
     /// Contracts see the latest first.
     names: Known<'n, ()>,
+    /// How many are taken where the function begins; contracts don't see it.
+    entered: usize,
+    /// How many of these the function is given: its class and its parameters.
+    given: usize,
 }
 
 impl<'n> Model for Taken<'n> {
@@ -25,13 +29,25 @@ impl<'n> Model for Taken<'n> {
 }
 
 impl<'n> Taken<'n> {
-    /// None is taken.
-    pub(crate) fn new(alloc: Global) -> Taken<'n>
+    /// None is taken, in a function that is given this many names.
+    pub(crate) fn new(alloc: Global, given: usize) -> Taken<'n>
         ensures { result ≡ [] }
     {
         Taken {
             names: Known::new(alloc),
+            entered: 0,
+            given,
         }
+    }
+
+    /// How many names were taken where the function began.
+    pub(crate) fn entered(&self) -> usize {
+        self.entered
+    }
+
+    /// How many of these the function is given: its class and its parameters.
+    pub(crate) fn given(&self) -> usize {
+        self.given
     }
 
     /// These names are taken, where none was. Answers whether two of them are spelled alike.
@@ -40,6 +56,7 @@ impl<'n> Taken<'n> {
         ensures taken { OnOk result (self.new ≡ names.now) }
         ensures repeated { IfOk result (λ repeated. repeated ≡ has_repeated names.now) }
     {
+        self.entered = names.len();
         let mut repeated = false;
         for name in names {
             repeated |= self.has(name);

@@ -6,12 +6,12 @@ use Rattle.syntax.specs.declared.stmt.Stmt.{Stmt as StmtInMemory}
 use Rattle.syntax.specs.declared.stmt.Form.{Form as FormInMemory}
 use Rattle.syntax.specs.declared.stmt.Block.{out-Block}
 use Rattle.syntax.specs.Tree.{Block, Next}
-use Rattle.syntax.specs.Views.{form_tree, block_tree}
+use Rattle.syntax.specs.Views.{form_tree, else_tree, block_tree}
 use Rattle.syntax.proofs.Blocks.{block_is, statements_tree}
 use Rattle.code.specs.declared.instr.Instr.{Instr}
 use Rattle.code.specs.declared.instr.Instr.TheVariants as instr
-use Rattle.code_meaning.specs.Layout.{Layout, layout_after, block_layout}
-use Rattle.code_meaning.specs.Coding.{first_code, paths_code, loop_code, stmt_code, block_code}
+use Rattle.code_meaning.specs.Layout.{Layout, closed, layout_after, else_layout, block_layout}
+use Rattle.code_meaning.specs.Coding.{first_code, paths_code, loop_code, stmt_code, else_code, block_code}
 use Rattle.lower_statements.proofs.BlockNames.{block_closed}
 use Rattle.lower_statements.proofs.Jumps.{on_ok, on_always, on_fault, if_fault, first_made, paths_made, loop_made}
 use Rattle.lower_statements.proofs.statements.+statements.Goals as goal
@@ -64,30 +64,32 @@ paths_whole old a b new test then' else' end n ea eb at size en =
     let far : n - end ≡ length else' + 1 = omega (arith, at, size, ap length eb, length-append a else') in
     en ∙ rw (eb, ea) (paths_made old test then' else' end (n - end) place far)
 
-path_whole : (old a new test then' : List Instr) (end n : ℕ) → a ≡ old ++ first_code test then' → end + 1 ≡ length a → n ≡ length a → new ≡ slice_set (a ++ instr.Jump 0 ∷ []) end (instr.Jump (n - end)) → new ≡ old ++ (test ++ paths_code then' (instr.Jump 0 ∷ []))
-path_whole old a new test then' end n ea at size en = paths_whole old a a new test then' [] end n ea (sym (append-nil a)) at size en
-
-pub emit_form-returns-in_ok-end-in-If-clause-code : goal.emit_form-returns-in_ok-end-in-If-clause-code
-emit_form-returns-in_ok-end-in-If-clause-code t c =
+pub emit_form-returns-in_ok-emit_else-in-If-clause-code : goal.emit_form-returns-in_ok-emit_else-in-If-clause-code
+emit_form-returns-in_ok-emit_else-in-If-clause-code t c =
     let first = c.emit_first.new.code in
+    let second = c.emit_else.new.code in
+    let end = c.in_ok-end-in-If.end in
     on_ok c.emit_end.result _ _
-    (λ (e : c.emit_end.new.code.items ≡ slice_set (first.items ++ instr.Jump 0 ∷ []) c.in_ok-end-in-If.end (instr.Jump (vec_len first - c.in_ok-end-in-If.end))).
-    path_whole c.args.code.now.items first.items _ _ _ c.in_ok-end-in-If.end (vec_len first) c.in_ok-end-in-If.ensures.code (c.in_ok-end-in-If.ensures.end ∙ first.ok.0) first.ok.0 e
+    (λ (e : c.emit_end.new.code.items ≡ slice_set (second.items ++ instr.Jump 0 ∷ []) end (instr.Jump (vec_len second - end))).
+    paths_whole c.args.code.now.items first.items second.items _ _ _ _ end (vec_len second) c.in_ok-end-in-If.ensures.code
+    (c.in_ok-emit_else-in-If.ensures.code ∙ ap (λ l. first.items ++ else_code l (else_tree c.in-If.other)) c.in_ok-end-in-If.ensures.names) (c.in_ok-end-in-If.ensures.end ∙ first.ok.0) second.ok.0 e
     ∙ ap (λ f. c.args.code.now.items ++ stmt_code c.args.names.now (form_tree c.args.line f)) (sym c.in-If.is))
     c.emit_end.ensures
 
-pub emit_form-returns-in_ok-emit_block-in-IfElse-clause-code : goal.emit_form-returns-in_ok-emit_block-in-IfElse-clause-code
-emit_form-returns-in_ok-emit_block-in-IfElse-clause-code t c =
-    let first = c.emit_first-in-IfElse.new.code in
-    let second = c.emit_block.new.code in
-    let end = c.in_ok-end-in-IfElse.end in
-    let names = c.in_ok-end-in-IfElse.ensures.names in
-    on_ok c.emit_end-in-IfElse.result _ _
-    (λ (e : c.emit_end-in-IfElse.new.code.items ≡ slice_set (second.items ++ instr.Jump 0 ∷ []) end (instr.Jump (vec_len second - end))).
-    paths_whole c.args.code.now.items first.items second.items _ _ _ _ end (vec_len second) c.in_ok-end-in-IfElse.ensures.code
-    (c.in_ok-emit_block-in-IfElse.ensures.code ∙ ap (λ l. first.items ++ block_code l (block_tree c.in-IfElse.second)) names) (c.in_ok-end-in-IfElse.ensures.end ∙ first.ok.0) second.ok.0 e
-    ∙ ap (λ f. c.args.code.now.items ++ stmt_code c.args.names.now (form_tree c.args.line f)) (sym c.in-IfElse.is))
-    c.emit_end-in-IfElse.ensures
+pub emit_form-returns-in_ok-emit_else-in-If-clause-names : goal.emit_form-returns-in_ok-emit_else-in-If-clause-names
+emit_form-returns-in_ok-emit_else-in-If-clause-names t c =
+    rw c.in-If.is (on_always c.emit_end.result _ (c.in_ok-emit_else-in-If.ensures.names ∙ ap (λ l. closed l (else_layout l (else_tree c.in-If.other))) c.in_ok-end-in-If.ensures.names))
+
+-- ---- the second block of an `if`
+
+pub emit_else-returns-in-Nothing-clause-code : goal.emit_else-returns-in-Nothing-clause-code
+emit_else-returns-in-Nothing-clause-code t c = rw c.in-Nothing.is (sym (append-nil c.args.code.now.items))
+
+pub emit_else-returns-in-Nothing-clause-names : goal.emit_else-returns-in-Nothing-clause-names
+emit_else-returns-in-Nothing-clause-names t c = rw c.in-Nothing.is refl
+
+pub emit_else-returns-in-Block : goal.emit_else-returns-in-Block
+emit_else-returns-in-Block t c = record { code = rw c.in-Block.is c.emit_block.ensures.code; names = rw c.in-Block.is c.emit_block.ensures.names }
 
 -- ---- the loop over a block's statements
 
@@ -129,6 +131,12 @@ emit_form-returns-in_err-end-in-If-clause-code t c = on_fault c.from_residual.re
 pub emit_form-returns-in_err-end-in-If-clause-names : goal.emit_form-returns-in_err-end-in-If-clause-names
 emit_form-returns-in_err-end-in-If-clause-names t c = on_fault c.from_residual.result _ c.from_residual.ensures.0
 
+pub emit_form-returns-in_err-emit_else-in-If-clause-code : goal.emit_form-returns-in_err-emit_else-in-If-clause-code
+emit_form-returns-in_err-emit_else-in-If-clause-code t c = on_fault c.from_residual-in_err-emit_else-in-If.result _ c.from_residual-in_err-emit_else-in-If.ensures.0
+
+pub emit_form-returns-in_err-emit_else-in-If-clause-names : goal.emit_form-returns-in_err-emit_else-in-If-clause-names
+emit_form-returns-in_err-emit_else-in-If-clause-names t c = on_fault c.from_residual-in_err-emit_else-in-If.result _ c.from_residual-in_err-emit_else-in-If.ensures.0
+
 pub emit_block-returns-in_err-counted-clause-names : goal.emit_block-returns-in_err-counted-clause-names
 emit_block-returns-in_err-counted-clause-names t c = on_fault c.from_residual.result _ c.from_residual.ensures.0
 
@@ -152,18 +160,6 @@ emit_first-returns-in_err-emit_block-clause-code t c = on_fault c.from_residual-
 
 pub emit_first-returns-in_err-emit_block-clause-names : goal.emit_first-returns-in_err-emit_block-clause-names
 emit_first-returns-in_err-emit_block-clause-names t c = on_fault c.from_residual-in_err-emit_block.result _ c.from_residual-in_err-emit_block.ensures.0
-
-pub emit_form-returns-in_err-end-in-IfElse-clause-code : goal.emit_form-returns-in_err-end-in-IfElse-clause-code
-emit_form-returns-in_err-end-in-IfElse-clause-code t c = on_fault c.from_residual-in_err-end-in-IfElse.result _ c.from_residual-in_err-end-in-IfElse.ensures.0
-
-pub emit_form-returns-in_err-end-in-IfElse-clause-names : goal.emit_form-returns-in_err-end-in-IfElse-clause-names
-emit_form-returns-in_err-end-in-IfElse-clause-names t c = on_fault c.from_residual-in_err-end-in-IfElse.result _ c.from_residual-in_err-end-in-IfElse.ensures.0
-
-pub emit_form-returns-in_err-emit_block-in-IfElse-clause-code : goal.emit_form-returns-in_err-emit_block-in-IfElse-clause-code
-emit_form-returns-in_err-emit_block-in-IfElse-clause-code t c = on_fault c.from_residual-in_err-emit_block-in-IfElse.result _ c.from_residual-in_err-emit_block-in-IfElse.ensures.0
-
-pub emit_form-returns-in_err-emit_block-in-IfElse-clause-names : goal.emit_form-returns-in_err-emit_block-in-IfElse-clause-names
-emit_form-returns-in_err-emit_block-in-IfElse-clause-names t c = on_fault c.from_residual-in_err-emit_block-in-IfElse.result _ c.from_residual-in_err-emit_block-in-IfElse.ensures.0
 
 pub emit_loop-returns-in_err-emit_expr-clause-code : goal.emit_loop-returns-in_err-emit_expr-clause-code
 emit_loop-returns-in_err-emit_expr-clause-code t c = on_fault c.from_residual.result _ c.from_residual.ensures.0
@@ -204,13 +200,7 @@ pub emit_loop-returns-clause-names : goal.emit_loop-returns-clause-names
 emit_loop-returns-clause-names t c = on_always c.close_turn.result _ c.in_ok-emit_block.ensures.names
 
 pub emit_form-emit_end-requires : goal.emit_form-emit_end-requires
-emit_form-emit_end-requires t c = omega (arith, c.in_ok-end-in-If.ensures.end)
-
-pub emit_form-emit_end-requires-in-IfElse : goal.emit_form-emit_end-requires-in-IfElse
-emit_form-emit_end-requires-in-IfElse t c = omega (arith, c.in_ok-end-in-IfElse.ensures.end, c.emit_first-in-IfElse.new.code.ok.0, c.emit_block.new.code.ok.0, simp length-append at (ap length c.in_ok-emit_block-in-IfElse.ensures.code))
-
-pub emit_form-returns-in_ok-end-in-If-clause-names : goal.emit_form-returns-in_ok-end-in-If-clause-names
-emit_form-returns-in_ok-end-in-If-clause-names t c = rw c.in-If.is (on_always c.emit_end.result _ c.in_ok-end-in-If.ensures.names)
+emit_form-emit_end-requires t c = omega (arith, c.in_ok-end-in-If.ensures.end, c.emit_first.new.code.ok.0, c.emit_else.new.code.ok.0, simp length-append at (ap length c.in_ok-emit_else-in-If.ensures.code))
 
 pub emit_form-returns-in-While-clause-code : goal.emit_form-returns-in-While-clause-code
 emit_form-returns-in-While-clause-code t c = rw c.in-While.is (rw c.whole.ensures at c.emit_loop.ensures.code)
@@ -218,8 +208,8 @@ emit_form-returns-in-While-clause-code t c = rw c.in-While.is (rw c.whole.ensure
 pub emit_form-returns-in-While-clause-names : goal.emit_form-returns-in-While-clause-names
 emit_form-returns-in-While-clause-names t c = rw c.in-While.is c.emit_loop.ensures.names
 
-pub emit_form-returns-in_default : goal.emit_form-returns-in_default
-emit_form-returns-in_default t c = record { code = c.emit_plain.ensures.code; names = c.emit_plain.ensures.names }
+pub emit_form-returns-in-Plain : goal.emit_form-returns-in-Plain
+emit_form-returns-in-Plain t c = record { code = rw c.in-Plain.is c.emit_plain.ensures.code; names = rw c.in-Plain.is c.emit_plain.ensures.names }
 
 pub emit_block-returns-clause-code : goal.emit_block-returns-clause-code
 emit_block-returns-clause-code t c =

@@ -1,12 +1,9 @@
-use Rattle.std.proofs.Common.{ap, ◌∙◌, map}
-use Rattle.syntax.specs.Parts.{own_call}
-use Rattle.syntax.specs.Views.{argument_tree, call_tree, form_tree}
-use Rattle.region_states.proofs.EffectLemmas.{called_is}
+use Rattle.std.proofs.Common.{Option, ap, ◌∙◌}
+use Rattle.std.specs.Option.{option_map}
+use Rattle.syntax.specs.Tree.{Call}
+use Rattle.region_rules.specs.RegionStates.{call_of}
+use Rattle.region_states.specs.StateEffects.{call_state_effect}
 use Rattle.region_states.proofs.calls.called.Goals as goal
 
-pub returns-in-Some : goal.returns-in-Some
-returns-in-Some c =
-    λ line.
-    c.made.ensures
-    ∙ called_is (own_call (form_tree line c.args.form.now)) (call_tree c.in-Some.call.now) _ _ _
-    (c.in-Some.ensures line) c.function_named.ensures c.as_bytes.ensures (ap (map argument_tree) c.deref.ensures.value)
+pub returns : goal.returns
+returns c = λ line. c.called_by.ensures ∙ ap (λ (o : Option Call). option_map call_state_effect (call_of o)) (c.own_call.ensures line)

@@ -6,7 +6,9 @@ use Rattle.base.specs.Bytes.{Identifier}
 use Rattle.base.proofs.Lists.{item_here}
 use Rattle.syntax.specs.declared.stmt.Stmt.{Stmt as StmtInMemory}
 use Rattle.syntax.specs.declared.stmt.Block.{out-Block}
+use Rattle.syntax.specs.declared.stmt.Else.{Else as ElseInMemory}
 use Rattle.syntax.specs.declared.stmt.Form.{Form as FormInMemory, the_lemmas}
+use Rattle.syntax.specs.declared.stmt.Form.TheVariants as form
 use Rattle.syntax.specs.Tree.{Block, Next}
 use Rattle.syntax.specs.Views.{block_tree, stmt_tree, test_tree, form_tree}
 use Rattle.syntax.proofs.Blocks.{block_is, statements_tree}
@@ -20,7 +22,7 @@ use Rattle.region_states.specs.StatesInMemory.{names_of}
 use Rattle.regions.specs.Walks.{PathOrFault, path_value, Branches, Awaits, go_on, inner_path}
 use Rattle.regions.specs.Paths.{join_paths, path_of_block}
 use Rattle.region_states.proofs.NameLemmas.{where_true_names, where_false_names}
-use Rattle.regions.proofs.PathLemmas.{plain_is, plain_new, Goes-along, Stops-along, first_stops, stmt_goes, go_fault, if_ok_weaker, if_ok_always, branch_awaits, passed_names, stmt_fault, go_rest, go_step, after_line, turn_is_join}
+use Rattle.regions.proofs.PathLemmas.{Goes-along, Stops-along, first_stops, stmt_goes, go_fault, if_ok_weaker, if_ok_always, branch_awaits, passed_names, stmt_fault, go_rest, go_step, after_line, turn_is_join}
 use Rattle.regions.proofs.walk.+walk.Goals as goal
 
 -- ---- the loop over a block's statements
@@ -143,17 +145,19 @@ pub stmt_path-returns-in-If-clause-names : goal.stmt_path-returns-in-If-clause-n
 stmt_path-returns-in-If-clause-names t c = c.inner_path.ensures.names
 
 pub stmt_path-plain_path-requires : goal.stmt_path-plain_path-requires
-stmt_path-plain_path-requires t c =
-    plain_new (names_of c.args.state.now) c.args.stmt.now.line c.args.stmt.now.form (c.in_default.not-If, c.in_default.not-IfElse, c.in_default.not-While) c.requires
+stmt_path-plain_path-requires t c = subst (λ (f : FormInMemory). DeclaresNew (names_of c.args.state.now) (form_tree c.args.stmt.now.line f)) c.in-Plain.is c.requires
 
-pub stmt_path-returns-in_default-clause-goes : goal.stmt_path-returns-in_default-clause-goes
-stmt_path-returns-in_default-clause-goes t c =
+pub stmt_path-returns-in-Plain-clause-goes : goal.stmt_path-returns-in-Plain-clause-goes
+stmt_path-returns-in-Plain-clause-goes t c =
     let line = c.args.stmt.now.line in
     stmt_goes c.plain_path.result c.plain_path.new.state c.args.state.now c.args.stmt.now (c.in-None.ensures line)
-    (Goes-along c.plain_path.result c.plain_path.new.state _ _ (plain_is c.args.state.now line c.args.stmt.now.form (c.in_default.not-If, c.in_default.not-IfElse, c.in_default.not-While)) (c.plain_path.ensures.goes line))
+    (Goes-along c.plain_path.result c.plain_path.new.state _ _ (ap (λ (f : FormInMemory). inner_path c.args.state.now (form_tree line f)) c.in-Plain.is) (c.plain_path.ensures.goes line))
 
-pub stmt_path-returns-in_default-clause-names : goal.stmt_path-returns-in_default-clause-names
-stmt_path-returns-in_default-clause-names t c = c.plain_path.ensures.names c.args.stmt.now.line
+pub stmt_path-returns-in-Plain-clause-names : goal.stmt_path-returns-in-Plain-clause-names
+stmt_path-returns-in-Plain-clause-names t c =
+    if_ok_weaker c.plain_path.result
+    (λ w e. e ∙ ap (λ (f : FormInMemory). names_of c.args.state.now ++ own_names (form_tree c.args.stmt.now.line f)) (sym c.in-Plain.is))
+    c.plain_path.ensures.names
 
 -- ---- first branches
 
@@ -236,27 +240,27 @@ other_path-returns-in-Ok-clause-goes t c = λ outer expected other same is.
 
 -- ---- statements with blocks
 
-pub inner_path-returns-in-If-clause-goes : goal.inner_path-returns-in-If-clause-goes
-inner_path-returns-in-If-clause-goes t c =
+pub inner_path-returns-in-Nothing-clause-goes : goal.inner_path-returns-in-Nothing-clause-goes
+inner_path-returns-in-Nothing-clause-goes t c =
     let now = c.args.state.now in
     Goes-along c.one_path.result c.one_path.new.state _ _
-    (ap (λ (f : FormInMemory). inner_path now (form_tree c.args.line f)) c.in-If.is)
+    (ap (λ (f : FormInMemory). inner_path now (form_tree c.args.line f)) (c.in-If.is ∙ ap (λ (d : ElseInMemory). form.If c.in-If.test c.in-If.b d) c.in-Nothing.is))
     (c.one_path.ensures.goes _ (where_false now (test_tree c.in-If.test)) c.then_path-first.ensures)
 
-pub inner_path-returns-in-If-clause-names : goal.inner_path-returns-in-If-clause-names
-inner_path-returns-in-If-clause-names t c =
+pub inner_path-returns-in-Nothing-clause-names : goal.inner_path-returns-in-Nothing-clause-names
+inner_path-returns-in-Nothing-clause-names t c =
     let now = c.args.state.now in
     if_ok_weaker c.one_path.result
-    (λ w e. e ∙ sym (append-nil (names_of now)) ∙ ap (λ (f : FormInMemory). names_of now ++ own_names (form_tree c.args.line f)) (sym c.in-If.is))
+    (λ w e. e ∙ sym (append-nil (names_of now)) ∙ ap (λ (f : FormInMemory). names_of now ++ own_names (form_tree c.args.line f)) (sym (c.in-If.is ∙ ap (λ (d : ElseInMemory). form.If c.in-If.test c.in-If.b d) c.in-Nothing.is)))
     (c.one_path.ensures.names (names_of now) (passed_names c.then_path-first.result c.then_path-first.new.state now (test_tree c.in-If.test) _ c.then_path-first.ensures))
 
 pub inner_path-other_path-requires : goal.inner_path-other_path-requires
 inner_path-other_path-requires t c =
     let now = c.args.state.now in
-    let first = c.then_path-first-in-IfElse in
-    let test = test_tree c.in-IfElse.test in
-    let otherwise = block_tree c.in-IfElse.d in
-    let new = (subst (λ (f : FormInMemory). DeclaresNew (names_of now) (form_tree c.args.line f)) c.in-IfElse.is c.requires).1 in (
+    let first = c.then_path-first in
+    let test = test_tree c.in-If.test in
+    let otherwise = block_tree c.in-Block.d in
+    let new = (subst (λ (f : FormInMemory). DeclaresNew (names_of now) (form_tree c.args.line f)) (c.in-If.is ∙ ap (λ (d : ElseInMemory). form.If c.in-If.test c.in-If.b d) c.in-Block.is) c.requires).1 in (
       search (rules, the_lemmas),
       (
         branch_awaits first.result first.new.state (where_false now test) _ first.ensures,
@@ -266,21 +270,21 @@ inner_path-other_path-requires t c =
       ),
     )
 
-pub inner_path-returns-in-IfElse-clause-goes : goal.inner_path-returns-in-IfElse-clause-goes
-inner_path-returns-in-IfElse-clause-goes t c =
+pub inner_path-returns-in-Block-clause-goes : goal.inner_path-returns-in-Block-clause-goes
+inner_path-returns-in-Block-clause-goes t c =
     let now = c.args.state.now in
-    let test = test_tree c.in-IfElse.test in
+    let test = test_tree c.in-If.test in
     Goes-along c.other_path.result c.other_path.new.state _ _
-    (ap (λ (f : FormInMemory). inner_path now (form_tree c.args.line f)) c.in-IfElse.is)
-    (c.other_path.ensures.goes now _ (where_false now test) (sym (where_false_names now test)) c.then_path-first-in-IfElse.ensures)
+    (ap (λ (f : FormInMemory). inner_path now (form_tree c.args.line f)) (c.in-If.is ∙ ap (λ (d : ElseInMemory). form.If c.in-If.test c.in-If.b d) c.in-Block.is))
+    (c.other_path.ensures.goes now _ (where_false now test) (sym (where_false_names now test)) c.then_path-first.ensures)
 
-pub inner_path-returns-in-IfElse-clause-names : goal.inner_path-returns-in-IfElse-clause-names
-inner_path-returns-in-IfElse-clause-names t c =
+pub inner_path-returns-in-Block-clause-names : goal.inner_path-returns-in-Block-clause-names
+inner_path-returns-in-Block-clause-names t c =
     let now = c.args.state.now in
-    let first = c.then_path-first-in-IfElse in
+    let first = c.then_path-first in
     if_ok_weaker c.other_path.result
-    (λ w e. e ∙ sym (append-nil (names_of now)) ∙ ap (λ (f : FormInMemory). names_of now ++ own_names (form_tree c.args.line f)) (sym c.in-IfElse.is))
-    (c.other_path.ensures.names (names_of now) (passed_names first.result first.new.state now (test_tree c.in-IfElse.test) _ first.ensures))
+    (λ w e. e ∙ sym (append-nil (names_of now)) ∙ ap (λ (f : FormInMemory). names_of now ++ own_names (form_tree c.args.line f)) (sym (c.in-If.is ∙ ap (λ (d : ElseInMemory). form.If c.in-If.test c.in-If.b d) c.in-Block.is)))
+    (c.other_path.ensures.names (names_of now) (passed_names first.result first.new.state now (test_tree c.in-If.test) _ first.ensures))
 
 pub inner_path-returns-in-While-clause-goes : goal.inner_path-returns-in-While-clause-goes
 inner_path-returns-in-While-clause-goes t c =
@@ -299,19 +303,13 @@ inner_path-returns-in-While-clause-names t c =
 pub inner_path-then_path-first-requires : goal.inner_path-then_path-first-requires
 inner_path-then_path-first-requires t c = (
   search (rules, the_lemmas),
-  subst (λ (f : FormInMemory). DeclaresNew (names_of c.args.state.now) (form_tree c.args.line f)) c.in-If.is c.requires,
+  (subst (λ (f : FormInMemory). DeclaresNew (names_of c.args.state.now) (form_tree c.args.line f)) c.in-If.is c.requires).0,
 )
 
 pub inner_path-one_path-requires : goal.inner_path-one_path-requires
 inner_path-one_path-requires t c =
     let first = c.then_path-first in
     branch_awaits first.result first.new.state (where_false c.args.state.now (test_tree c.in-If.test)) _ first.ensures
-
-pub inner_path-then_path-first-requires-in-IfElse : goal.inner_path-then_path-first-requires-in-IfElse
-inner_path-then_path-first-requires-in-IfElse t c = (
-  search (rules, the_lemmas),
-  (subst (λ (f : FormInMemory). DeclaresNew (names_of c.args.state.now) (form_tree c.args.line f)) c.in-IfElse.is c.requires).0,
-)
 
 pub inner_path-other_path-requires-in-While : goal.inner_path-other_path-requires-in-While
 inner_path-other_path-requires-in-While t c =
@@ -320,3 +318,16 @@ inner_path-other_path-requires-in-While t c =
       search (rules, the_lemmas),
       (branch_awaits c.no_turn-before.result now now _ c.no_turn-before.ensures, if_ok_always c.no_turn-before.result (λ b. new)),
     )
+
+pub inner_path-plain_path-requires : goal.inner_path-plain_path-requires
+inner_path-plain_path-requires t c = subst (λ (f : FormInMemory). DeclaresNew (names_of c.args.state.now) (form_tree c.args.line f)) c.in-Plain.is c.requires
+
+pub inner_path-returns-in-Plain-clause-goes : goal.inner_path-returns-in-Plain-clause-goes
+inner_path-returns-in-Plain-clause-goes t c =
+    Goes-along c.plain_path.result c.plain_path.new.state _ _ (ap (λ (f : FormInMemory). inner_path c.args.state.now (form_tree c.args.line f)) c.in-Plain.is) (c.plain_path.ensures.goes c.args.line)
+
+pub inner_path-returns-in-Plain-clause-names : goal.inner_path-returns-in-Plain-clause-names
+inner_path-returns-in-Plain-clause-names t c =
+    if_ok_weaker c.plain_path.result
+    (λ w e. e ∙ ap (λ (f : FormInMemory). names_of c.args.state.now ++ own_names (form_tree c.args.line f)) (sym c.in-Plain.is))
+    c.plain_path.ensures.names

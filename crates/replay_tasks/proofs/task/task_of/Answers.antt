@@ -1,19 +1,23 @@
+use Rattle.std.proofs.Common.{subst}
+use Rattle.std.specs.Prelude.{IsTrue}
+use Rattle.syntax.specs.Views.{form_tree}
+use Rattle.replay_tasks.specs.Tasks.{has_numbers_in_range, calls_known}
 use Rattle.replay_tasks.proofs.task.task_of.Goals as goal
 
-pub returns-in-Declare : goal.returns-in-Declare
-returns-in-Declare c = record { view = rw (c.in-Declare.is, ← c.kind_of.ensures) c.declaration.ensures.view; range = c.declaration.ensures.range }
+pub returns-in-Plain : goal.returns-in-Plain
+returns-in-Plain c = record { view = rw c.in-Plain.is c.plain_task.ensures.view; range = c.plain_task.ensures.range }
 
-pub returns-in-DeclareBuffer : goal.returns-in-DeclareBuffer
-returns-in-DeclareBuffer c = record { view = rw c.in-DeclareBuffer.is c.declaration-in-DeclareBuffer.ensures.view; range = c.declaration-in-DeclareBuffer.ensures.range }
+pub plain_task-requires-clause-numbers : goal.plain_task-requires-clause-numbers
+plain_task-requires-clause-numbers c = subst (λ f. IsTrue (has_numbers_in_range (form_tree c.args.s.now.line f))) c.in-Plain.is c.requires.numbers
 
-pub returns-in-DeclareChars : goal.returns-in-DeclareChars
-returns-in-DeclareChars c = record { view = rw c.in-DeclareChars.is c.declaration-in-DeclareChars.ensures.view; range = c.declaration-in-DeclareChars.ensures.range }
+pub plain_task-requires-clause-known : goal.plain_task-requires-clause-known
+plain_task-requires-clause-known c = subst (λ f. IsTrue (calls_known (form_tree c.args.s.now.line f))) c.in-Plain.is c.requires.known
 
-pub returns-in-Assign : goal.returns-in-Assign
-returns-in-Assign c = record { view = rw c.in-Assign.is c.set_task.ensures.view; range = c.set_task.ensures.range }
+pub returns-in-Nothing : goal.returns-in-Nothing
+returns-in-Nothing c = record { view = rw (c.in-If.is, c.in-Nothing.is) c.if_task.ensures.view; range = c.if_task.ensures.range }
 
-pub returns-in-AssignElement : goal.returns-in-AssignElement
-returns-in-AssignElement c = record { view = rw c.in-AssignElement.is c.element_task.ensures.view; range = c.element_task.ensures.range }
+pub returns-in-Block : goal.returns-in-Block
+returns-in-Block c = record { view = rw (c.in-If.is, c.in-Block.is) c.if_task-in-Block.ensures.view; range = c.if_task-in-Block.ensures.range }
 
-pub returns-in-Perform : goal.returns-in-Perform
-returns-in-Perform c = record { view = rw c.in-Perform.is c.call_task.ensures.view; range = c.call_task.ensures.range }
+pub returns-in-While : goal.returns-in-While
+returns-in-While c = record { view = rw c.in-While.is c.begin_loop.ensures.view; range = c.begin_loop.ensures.range }

@@ -38,12 +38,6 @@ after_form-returns-in_err-after_first-in-If-clause-some t c = λ line. rw c.from
 pub after_form-returns-in_err-after_first-in-If-clause-none : goal.after_form-returns-in_err-after_first-in-If-clause-none
 after_form-returns-in_err-after_first-in-If-clause-none t c = λ line. rw (c.from_residual.ensures, c.in-If.is) (omega (arith, c.in_err-after_first-in-If.ensures.none))
 
-pub after_form-returns-in_err-after_first-in-IfElse-clause-some : goal.after_form-returns-in_err-after_first-in-IfElse-clause-some
-after_form-returns-in_err-after_first-in-IfElse-clause-some t c = λ line. rw c.from_residual-in_err-after_first-in-IfElse.ensures tt
-
-pub after_form-returns-in_err-after_first-in-IfElse-clause-none : goal.after_form-returns-in_err-after_first-in-IfElse-clause-none
-after_form-returns-in_err-after_first-in-IfElse-clause-none t c = λ line. rw (c.from_residual-in_err-after_first-in-IfElse.ensures, c.in-IfElse.is) (omega (arith, c.in_err-after_first-in-IfElse.ensures.none))
-
 pub after_form-returns-in_err-after_number-in-While-clause-some : goal.after_form-returns-in_err-after_number-in-While-clause-some
 after_form-returns-in_err-after_number-in-While-clause-some t c = λ line. rw c.from_residual-in_err-after_number-in-While.ensures tt
 
@@ -71,25 +65,28 @@ pub after_path-returns-clause-none : goal.after_path-returns-clause-none
 after_path-returns-clause-none t c = none_by c.after_one.result _ _ (λ e. omega (arith, e, c.in_ok-after_block.ensures.some)) c.after_one.ensures.none
 
 pub after_form-returns-in_ok-after_first-in-If-clause-some : goal.after_form-returns-in_ok-after_first-in-If-clause-some
-after_form-returns-in_ok-after_first-in-If-clause-some t c = λ line. rw c.in-If.is (some_by c.after_one.result _ _ (λ x e. omega (arith, e, c.in_ok-after_first-in-If.ensures.some)) c.after_one.ensures.some)
+after_form-returns-in_ok-after_first-in-If-clause-some t c = λ line. rw c.in-If.is (some_by c.after_else.result _ _ (λ x e. omega (arith, e, c.in_ok-after_first-in-If.ensures.some)) c.after_else.ensures.some)
 
 pub after_form-returns-in_ok-after_first-in-If-clause-none : goal.after_form-returns-in_ok-after_first-in-If-clause-none
-after_form-returns-in_ok-after_first-in-If-clause-none t c = λ line. rw c.in-If.is (none_by c.after_one.result _ _ (λ e. omega (arith, e, c.in_ok-after_first-in-If.ensures.some)) c.after_one.ensures.none)
-
-pub after_form-returns-in_ok-after_first-in-IfElse-clause-some : goal.after_form-returns-in_ok-after_first-in-IfElse-clause-some
-after_form-returns-in_ok-after_first-in-IfElse-clause-some t c = λ line. rw c.in-IfElse.is (some_by c.after_path.result _ _ (λ x e. omega (arith, e, c.in_ok-after_first-in-IfElse.ensures.some)) c.after_path.ensures.some)
-
-pub after_form-returns-in_ok-after_first-in-IfElse-clause-none : goal.after_form-returns-in_ok-after_first-in-IfElse-clause-none
-after_form-returns-in_ok-after_first-in-IfElse-clause-none t c = λ line. rw c.in-IfElse.is (none_by c.after_path.result _ _ (λ e. omega (arith, e, c.in_ok-after_first-in-IfElse.ensures.some)) c.after_path.ensures.none)
+after_form-returns-in_ok-after_first-in-If-clause-none t c = λ line. rw c.in-If.is (none_by c.after_else.result _ _ (λ e. omega (arith, e, c.in_ok-after_first-in-If.ensures.some)) c.after_else.ensures.none)
 
 pub after_form-returns-in_ok-after_number-in-While-clause-some : goal.after_form-returns-in_ok-after_number-in-While-clause-some
-after_form-returns-in_ok-after_number-in-While-clause-some t c = λ line. rw c.in-While.is (some_by c.after_path-in-While.result _ _ (λ x e. omega (arith, e, c.in_ok-after_number-in-While.ensures.some, ap expr_steps c.whole.ensures)) c.after_path-in-While.ensures.some)
+after_form-returns-in_ok-after_number-in-While-clause-some t c = λ line. rw c.in-While.is (some_by c.after_path.result _ _ (λ x e. omega (arith, e, c.in_ok-after_number-in-While.ensures.some, ap expr_steps c.whole.ensures)) c.after_path.ensures.some)
 
 pub after_form-returns-in_ok-after_number-in-While-clause-none : goal.after_form-returns-in_ok-after_number-in-While-clause-none
-after_form-returns-in_ok-after_number-in-While-clause-none t c = λ line. rw c.in-While.is (none_by c.after_path-in-While.result _ _ (λ e. omega (arith, e, c.in_ok-after_number-in-While.ensures.some, ap expr_steps c.whole.ensures)) c.after_path-in-While.ensures.none)
+after_form-returns-in_ok-after_number-in-While-clause-none t c = λ line. rw c.in-While.is (none_by c.after_path.result _ _ (λ e. omega (arith, e, c.in_ok-after_number-in-While.ensures.some, ap expr_steps c.whole.ensures)) c.after_path.ensures.none)
 
-pub after_form-returns-in_default : goal.after_form-returns-in_default
-after_form-returns-in_default t c = record { some = c.after_plain.ensures.some; none = c.after_plain.ensures.none }
+pub after_form-returns-in-Plain : goal.after_form-returns-in-Plain
+after_form-returns-in-Plain t c = record { some = λ line. rw c.in-Plain.is c.after_plain.ensures.some; none = λ line. rw c.in-Plain.is c.after_plain.ensures.none }
+
+pub after_else-returns-in-Nothing-clause-some : goal.after_else-returns-in-Nothing-clause-some
+after_else-returns-in-Nothing-clause-some t c = rw c.in-Nothing.is c.after_one.ensures.some
+
+pub after_else-returns-in-Nothing-clause-none : goal.after_else-returns-in-Nothing-clause-none
+after_else-returns-in-Nothing-clause-none t c = rw c.in-Nothing.is (none_by c.after_one.result _ _ (λ e. omega (arith, e)) c.after_one.ensures.none)
+
+pub after_else-returns-in-Block : goal.after_else-returns-in-Block
+after_else-returns-in-Block t c = record { some = rw c.in-Block.is c.after_path.ensures.some; none = rw c.in-Block.is c.after_path.ensures.none }
 
 -- ---- the loop over a block's statements
 

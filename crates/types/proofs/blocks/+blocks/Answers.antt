@@ -4,19 +4,21 @@ use Rattle.std.proofs.lemmas.Result.{on_ok_weaker}
 use Rattle.std.proofs.lemmas.List.{drop_all}
 use Rattle.base.specs.Bytes.{Identifier}
 use Rattle.syntax.specs.declared.stmt.Block.{out-Block}
+use Rattle.syntax.specs.declared.stmt.Else.{Else as ElseInMemory}
+use Rattle.syntax.specs.declared.stmt.Form.TheVariants as form
 use Rattle.syntax.specs.Parts.{statements_of, statements_within, names_declared, declared_name}
-use Rattle.syntax.specs.Tree.{Test, Block, IfElse}
+use Rattle.syntax.specs.Tree.{Test, If, ElseBlock, Block}
 use Rattle.syntax.specs.Views.{form_tree, block_tree, stmt_tree, test_tree}
 use Rattle.syntax.proofs.Blocks.{block_is, statements_tree}
-use Rattle.type_rules.specs.TypeRules.{places_of, with_declared}
+use Rattle.type_rules.specs.TypeRules.{places_inside, places_of, statement_place, with_declared}
 use Rattle.types.specs.AllFaults.{told_at}
-use Rattle.types.specs.Faults.{Tells, IsAbove, found, statement_place, places_inside}
+use Rattle.types.specs.Faults.{Tells, IsAbove, found}
 use Rattle.types.proofs.KeptLemmas.{tells-none, tells-next, left-all, left-next, left-none}
 use Rattle.types.proofs.PlaceLemmas.{found-none, found-append}
-use Rattle.types.proofs.BlockLemmas.{found-rest, declared-rest, alone, none-inside, above-none, above-more, forgotten}
+use Rattle.types.proofs.BlockLemmas.{found-rest, declared-rest, above-none, above-more, forgotten}
 use Rattle.types.proofs.blocks.+blocks.Goals as goal
 
-two_blocks : (taken : List Identifier) (line : ℕ) (test : Test) (b d : Block) → (taken ++ names_declared (statements_of b)) ++ names_declared (statements_of d) ≡ taken ++ names_declared (statements_within (IfElse line test b d))
+two_blocks : (taken : List Identifier) (line : ℕ) (test : Test) (b d : Block) → (taken ++ names_declared (statements_of b)) ++ names_declared (statements_of d) ≡ taken ++ names_declared (statements_within (If line test b (ElseBlock d)))
 two_blocks taken line test b d = append_assoc taken _ _ ∙ ap (λ names. taken ++ names) (sym (filter_map-append declared_name (statements_of b) (statements_of d)))
 
 -- ---- the loop over a block's statements
@@ -72,78 +74,100 @@ check_block-returns-clause-taken t c =
 
 -- ---- what is inside a statement
 
-pub check_inside-returns-in_ok-check_block-in-IfElse-clause-taken : goal.check_inside-returns-in_ok-check_block-in-IfElse-clause-taken
-check_inside-returns-in_ok-check_block-in-IfElse-clause-taken t c =
-    on_ok_weaker c.check_block-in-IfElse-2.result
-    (λ e line.
-    e ∙ ap (λ names. names ++ names_declared (statements_of (block_tree c.in-IfElse.d))) c.in_ok-check_block-in-IfElse.ensures.taken
-    ∙ two_blocks c.args.taken.now line (test_tree c.in-IfElse.field-0) (block_tree c.in-IfElse.b) (block_tree c.in-IfElse.d)
-    ∙ ap (λ f. c.args.taken.now ++ names_declared (statements_within (form_tree line f))) (sym c.in-IfElse.is))
-    c.check_block-in-IfElse-2.ensures.taken
-
-pub check_inside-returns-in_default-clause-tells : goal.check_inside-returns-in_default-clause-tells
-check_inside-returns-in_default-clause-tells t c =
+pub check_inside-returns-in-Plain-clause-tells : goal.check_inside-returns-in-Plain-clause-tells
+check_inside-returns-in-Plain-clause-tells t c =
     on_ok_weaker c.declare.result
     (λ e line.
-    subst (λ broken. Tells c.args.all c.args.faults.now.items c.args.faults.now.items broken)
-    (sym (none-inside c.args.returns c.args.known.now c.args.taken.now line c.args.form.now c.in_default.not-If c.in_default.not-IfElse c.in_default.not-While))
-    (tells-none c.args.all c.args.faults.now.items))
+    subst (λ f. Tells c.args.all c.args.faults.now.items c.args.faults.now.items (found (places_inside c.args.returns c.args.known.now c.args.taken.now (form_tree line f)))) (sym c.in-Plain.is)
+    (subst (Tells c.args.all c.args.faults.now.items c.args.faults.now.items) (sym found-none) (tells-none c.args.all c.args.faults.now.items)))
     c.declare.ensures.above
 
-pub check_inside-returns-in_ok-check_block-in-IfElse-clause-tells : goal.check_inside-returns-in_ok-check_block-in-IfElse-clause-tells
-check_inside-returns-in_ok-check_block-in-IfElse-clause-tells t c =
-    let all = c.args.all in
-    let old = c.args.faults.now.items in
-    let middle = c.check_block-in-IfElse.new.faults.items in
-    let new = c.check_block-in-IfElse-2.new.faults.items in
-    let returned = c.args.returns in
-    let first = c.in_ok-check_block-in-IfElse.ensures in
-    on_ok_weaker c.check_block-in-IfElse-2.result
-    (λ e line.
-    subst (λ f. Tells all old new (found (places_inside returned c.args.known.now c.args.taken.now (form_tree line f)))) (sym c.in-IfElse.is)
-    (subst (Tells all old new) (sym (found-append _ _))
-    (tells-next all old middle new _ _ first.tells
-    (subst (Tells all middle new) (ap₂ (λ k names. found (places_of returned k names (block_tree c.in-IfElse.d))) first.restored first.taken) e))))
-    c.check_block-in-IfElse-2.ensures.tells
+pub check_inside-returns-in-Plain-clause-scope : goal.check_inside-returns-in-Plain-clause-scope
+check_inside-returns-in-Plain-clause-scope t c = c.declare.ensures.scope
 
-pub check_inside-returns-in_default-clause-scope : goal.check_inside-returns-in_default-clause-scope
-check_inside-returns-in_default-clause-scope t c = c.declare.ensures.scope
+pub check_inside-returns-in-Plain-clause-above : goal.check_inside-returns-in-Plain-clause-above
+check_inside-returns-in-Plain-clause-above t c = c.declare.ensures.above
 
-pub check_inside-returns-in_default-clause-above : goal.check_inside-returns-in_default-clause-above
-check_inside-returns-in_default-clause-above t c = c.declare.ensures.above
-
-pub check_inside-returns-in_default-clause-taken : goal.check_inside-returns-in_default-clause-taken
-check_inside-returns-in_default-clause-taken t c =
+pub check_inside-returns-in-Plain-clause-taken : goal.check_inside-returns-in-Plain-clause-taken
+check_inside-returns-in-Plain-clause-taken t c =
     on_ok_weaker c.declare.result
     (λ (e : (line : ℕ) → c.declare.new.taken ≡ c.args.taken.now ++ names_declared (form_tree line c.args.form.now ∷ [])) line.
-    e line ∙ ap (λ all. c.args.taken.now ++ names_declared all) (sym (alone line c.args.form.now c.in_default.not-If c.in_default.not-IfElse c.in_default.not-While)))
+    e line ∙ ap (λ f. c.args.taken.now ++ names_declared (form_tree line f ∷ [])) c.in-Plain.is ∙ ap (λ f. c.args.taken.now ++ names_declared (statements_within (form_tree line f))) (sym c.in-Plain.is))
     c.declare.ensures.taken
 
-pub check_inside-returns-in-If-clause-tells : goal.check_inside-returns-in-If-clause-tells
-check_inside-returns-in-If-clause-tells t c =
-    on_ok_weaker c.check_block.result
+pub check_inside-returns-in-Return-clause-tells : goal.check_inside-returns-in-Return-clause-tells
+check_inside-returns-in-Return-clause-tells t c = λ line.
+    subst (λ f. Tells c.args.all c.args.faults.now.items c.args.faults.now.items (found (places_inside c.args.returns c.args.known.now c.args.taken.now (form_tree line f)))) (sym c.in-Return.is)
+    (subst (Tells c.args.all c.args.faults.now.items c.args.faults.now.items) (sym found-none) (tells-none c.args.all c.args.faults.now.items))
+
+pub check_inside-returns-in-Return-clause-scope : goal.check_inside-returns-in-Return-clause-scope
+check_inside-returns-in-Return-clause-scope t c = λ line. ap (λ f. with_declared c.args.known.now (form_tree line f)) (sym c.in-Return.is)
+
+pub check_inside-returns-in-Return-clause-above : goal.check_inside-returns-in-Return-clause-above
+check_inside-returns-in-Return-clause-above t c = above-none c.args.known.now
+
+pub check_inside-returns-in-Return-clause-taken : goal.check_inside-returns-in-Return-clause-taken
+check_inside-returns-in-Return-clause-taken t c = λ line.
+    sym (append-nil c.args.taken.now) ∙ ap (λ f. c.args.taken.now ++ names_declared (statements_within (form_tree line f))) (sym c.in-Return.is)
+
+pub check_inside-returns-in-Nothing-clause-tells : goal.check_inside-returns-in-Nothing-clause-tells
+check_inside-returns-in-Nothing-clause-tells t c = λ line.
+    subst (λ f. Tells c.args.all c.args.faults.now.items c.check_block.new.faults.items (found (places_inside c.args.returns c.args.known.now c.args.taken.now (form_tree line f))))
+    (sym (c.in-If.is ∙ ap (λ (d : ElseInMemory). form.If c.in-If.field-0 c.in-If.b d) c.in-Nothing.is))
+    c.in_ok-check_block-in-If.ensures.tells
+
+pub check_inside-returns-in-Nothing-clause-scope : goal.check_inside-returns-in-Nothing-clause-scope
+check_inside-returns-in-Nothing-clause-scope t c = λ line.
+    c.in_ok-check_block-in-If.ensures.restored ∙ ap (λ f. with_declared c.args.known.now (form_tree line f)) (sym c.in-If.is)
+
+pub check_inside-returns-in-Nothing-clause-above : goal.check_inside-returns-in-Nothing-clause-above
+check_inside-returns-in-Nothing-clause-above t c =
+    subst (λ known. IsAbove known c.args.known.now) (sym c.in_ok-check_block-in-If.ensures.restored) (above-none c.args.known.now)
+
+pub check_inside-returns-in-Nothing-clause-taken : goal.check_inside-returns-in-Nothing-clause-taken
+check_inside-returns-in-Nothing-clause-taken t c = λ line.
+    c.in_ok-check_block-in-If.ensures.taken
+    ∙ ap (λ f. c.args.taken.now ++ names_declared (statements_within (form_tree line f))) (sym (c.in-If.is ∙ ap (λ (d : ElseInMemory). form.If c.in-If.field-0 c.in-If.b d) c.in-Nothing.is))
+
+pub check_inside-returns-in-Block-clause-tells : goal.check_inside-returns-in-Block-clause-tells
+check_inside-returns-in-Block-clause-tells t c =
+    let all = c.args.all in
+    let old = c.args.faults.now.items in
+    let middle = c.check_block.new.faults.items in
+    let new = c.check_block-in-Block.new.faults.items in
+    let returned = c.args.returns in
+    let first = c.in_ok-check_block-in-If.ensures in
+    on_ok_weaker c.check_block-in-Block.result
     (λ e line.
-    subst (λ f. Tells c.args.all c.args.faults.now.items c.check_block.new.faults.items (found (places_inside c.args.returns c.args.known.now c.args.taken.now (form_tree line f)))) (sym c.in-If.is) e)
-    c.check_block.ensures.tells
+    subst (λ f. Tells all old new (found (places_inside returned c.args.known.now c.args.taken.now (form_tree line f))))
+    (sym (c.in-If.is ∙ ap (λ (d : ElseInMemory). form.If c.in-If.field-0 c.in-If.b d) c.in-Block.is))
+    (subst (Tells all old new) (sym (found-append _ _))
+    (tells-next all old middle new _ _ first.tells
+    (subst (Tells all middle new) (ap₂ (λ k names. found (places_of returned k names (block_tree c.in-Block.d))) first.restored first.taken) e))))
+    c.check_block-in-Block.ensures.tells
 
-pub check_inside-returns-in-If-clause-scope : goal.check_inside-returns-in-If-clause-scope
-check_inside-returns-in-If-clause-scope t c =
-    on_ok_weaker c.check_block.result
-    (λ (e : c.check_block.new.known ≡ c.args.known.now) line. e ∙ ap (λ f. with_declared c.args.known.now (form_tree line f)) (sym c.in-If.is))
-    c.check_block.ensures.restored
+pub check_inside-returns-in-Block-clause-scope : goal.check_inside-returns-in-Block-clause-scope
+check_inside-returns-in-Block-clause-scope t c =
+    on_ok_weaker c.check_block-in-Block.result
+    (λ (e : c.check_block-in-Block.new.known ≡ c.check_block.new.known) line.
+    e ∙ c.in_ok-check_block-in-If.ensures.restored ∙ ap (λ f. with_declared c.args.known.now (form_tree line f)) (sym c.in-If.is))
+    c.check_block-in-Block.ensures.restored
 
-pub check_inside-returns-in-If-clause-above : goal.check_inside-returns-in-If-clause-above
-check_inside-returns-in-If-clause-above t c =
-    on_ok_weaker c.check_block.result
-    (λ (e : c.check_block.new.known ≡ c.args.known.now). subst (λ known. IsAbove known c.args.known.now) (sym e) (above-none c.args.known.now))
-    c.check_block.ensures.restored
+pub check_inside-returns-in-Block-clause-above : goal.check_inside-returns-in-Block-clause-above
+check_inside-returns-in-Block-clause-above t c =
+    on_ok_weaker c.check_block-in-Block.result
+    (λ (e : c.check_block-in-Block.new.known ≡ c.check_block.new.known).
+    subst (λ known. IsAbove known c.args.known.now) (sym (e ∙ c.in_ok-check_block-in-If.ensures.restored)) (above-none c.args.known.now))
+    c.check_block-in-Block.ensures.restored
 
-pub check_inside-returns-in-If-clause-taken : goal.check_inside-returns-in-If-clause-taken
-check_inside-returns-in-If-clause-taken t c =
-    on_ok_weaker c.check_block.result
-    (λ (e : c.check_block.new.taken ≡ c.args.taken.now ++ names_declared (statements_of (block_tree c.in-If.b))) line.
-    e ∙ ap (λ f. c.args.taken.now ++ names_declared (statements_within (form_tree line f))) (sym c.in-If.is))
-    c.check_block.ensures.taken
+pub check_inside-returns-in-Block-clause-taken : goal.check_inside-returns-in-Block-clause-taken
+check_inside-returns-in-Block-clause-taken t c =
+    on_ok_weaker c.check_block-in-Block.result
+    (λ e line.
+    e ∙ ap (λ names. names ++ names_declared (statements_of (block_tree c.in-Block.d))) c.in_ok-check_block-in-If.ensures.taken
+    ∙ two_blocks c.args.taken.now line (test_tree c.in-If.field-0) (block_tree c.in-If.b) (block_tree c.in-Block.d)
+    ∙ ap (λ f. c.args.taken.now ++ names_declared (statements_within (form_tree line f))) (sym (c.in-If.is ∙ ap (λ (d : ElseInMemory). form.If c.in-If.field-0 c.in-If.b d) c.in-Block.is)))
+    c.check_block-in-Block.ensures.taken
 
 pub check_inside-returns-in-While-clause-tells : goal.check_inside-returns-in-While-clause-tells
 check_inside-returns-in-While-clause-tells t c =

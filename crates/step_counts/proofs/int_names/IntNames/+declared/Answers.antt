@@ -6,7 +6,9 @@ use Rattle.syntax.specs.Parts.{statements_of, statements_within}
 use Rattle.syntax.specs.Tree.{Block}
 use Rattle.syntax.specs.Views.{form_tree, stmt_tree, block_tree}
 use Rattle.syntax.specs.declared.stmt.Stmt.{Stmt as StmtInMemory}
+use Rattle.syntax.specs.declared.stmt.Else.{Else as ElseInMemory}
 use Rattle.syntax.specs.declared.stmt.Form.{Form as FormInMemory}
+use Rattle.syntax.specs.declared.stmt.Form.TheVariants as form
 use Rattle.syntax.specs.declared.stmt.Block.{out-Block}
 use Rattle.syntax.proofs.Blocks.{block_is, statements_tree}
 use Rattle.code_meaning.specs.Length.{int_declared}
@@ -42,11 +44,23 @@ take_block-returns t c =
     ∙ sym (ap (λ (items : List StmtInMemory). with_names c.loop-stmt.self (filter_map int_declared (statements_of (statements_tree items end)))) (drop_of_length-le _ c.loop-stmt-test.false))
     ∙ c.loop-stmt.invariant
 
-pub take_stmt-returns-in-IfElse : goal.take_stmt-returns-in-IfElse
-take_stmt-returns-in-IfElse t c =
+pub take_stmt-returns-in-Nothing : goal.take_stmt-returns-in-Nothing
+take_stmt-returns-in-Nothing t c =
+    c.take_block.ensures
+    ∙ ap (λ (f : FormInMemory). with_names c.args.self.now (filter_map int_declared (statements_within (form_tree c.args.stmt.now.line f))))
+    (sym (c.in-If.is ∙ ap (λ (d : ElseInMemory). form.If c.in-If.field-0 c.in-If.first d) c.in-Nothing.is))
+
+pub take_stmt-returns-in-Block : goal.take_stmt-returns-in-Block
+take_stmt-returns-in-Block t c =
     let self = c.args.self.now in
-    let first = statements_of (block_tree c.in-IfElse.first) in
-    let second = statements_of (block_tree c.in-IfElse.second) in
-    c.take_block-in-IfElse.ensures ∙ ap (λ (l : List Identifier). with_names l (filter_map int_declared second)) c.take_block.ensures
+    let first = statements_of (block_tree c.in-If.first) in
+    let second = statements_of (block_tree c.in-Block.second) in
+    c.take_block-in-Block.ensures ∙ ap (λ (l : List Identifier). with_names l (filter_map int_declared second)) c.take_block.ensures
     ∙ with_both self (filter_map int_declared first) (filter_map int_declared second) ∙ ap (with_names self) (sym (ints_both first second))
-    ∙ ap (λ (f : FormInMemory). with_names self (filter_map int_declared (statements_within (form_tree c.args.stmt.now.line f)))) (sym c.in-IfElse.is)
+    ∙ ap (λ (f : FormInMemory). with_names self (filter_map int_declared (statements_within (form_tree c.args.stmt.now.line f))))
+    (sym (c.in-If.is ∙ ap (λ (d : ElseInMemory). form.If c.in-If.field-0 c.in-If.first d) c.in-Block.is))
+
+pub take_stmt-returns-in-Plain : goal.take_stmt-returns-in-Plain
+take_stmt-returns-in-Plain t c =
+    c.take_declared.ensures c.args.stmt.now.line
+    ∙ ap (λ (f : FormInMemory). with_names c.args.self.now (filter_map int_declared (statements_within (form_tree c.args.stmt.now.line f)))) (sym c.in-Plain.is)
