@@ -2,22 +2,19 @@
 //! found.
 
 ghost use Rattle.std.specs.Prelude.{◌≡◌, IfSome, IfNone};
+ghost use Rattle.places.specs.declared.place.Place.TheVariants as placed;
 ghost use Rattle.places.specs.declared.place.Text.TheVariants as which;
-ghost use Rattle.world_schedules.specs.declared.fault.ReadError.TheVariants as reading;
 ghost use Rattle.jnirun.specs.Errors.{of_lower, of_reading, of_load, of_run, of_report, of_replay};
 
-use crate::telling::misfit_detail;
+use crate::telling::entry_detail;
 use lower::LowerError;
 use machine::{LoadFault, ReportFault, RunFault};
-use places::{Detail, Place, Text};
+use places::{Detail, Line, Place, Text};
 use program_check::{FaultPlace, RunError, too_long};
 use region_rules::Checked;
 use replay::ReplayError;
 use semantics::Entry;
-use std::alloc::Global;
-use world::{WorldError, entry_detail, journal_detail, schedule_detail};
-use world_schedules::{ReadError, TextFault};
-use world_values::World;
+use world_schedules::ReadError;
 
 /// The error of a program that can't be lowered.
 pub(crate) fn of_lower(checked: &Checked, error: LowerError) -> RunError
@@ -29,46 +26,16 @@ pub(crate) fn of_lower(checked: &Checked, error: LowerError) -> RunError
     }
 }
 
-/// The error of a fault of a text, where this was found.
-fn of_fault(text: Text, fault: TextFault, detail: Detail) -> RunError
-    ensures { result ≡ of_reading text (reading.Fault fault) }
-{
-    let place = Place::Line(text, fault.line);
-    RunError::Fault(fault.rule.number(), FaultPlace::told(place, detail))
-}
-
-/// The error of a world.
-pub(crate) fn of_world(error: WorldError) -> RunError
-    ensures { result ≡ of_reading which.World error }
-{
-    match error.error() {
-        ReadError::Memory => RunError::Memory,
-        ReadError::Fault(fault) => of_fault(Text::World, fault, error.into_detail()),
-    }
-}
-
-/// The error of a schedule for a world of so many threads.
-pub(crate) fn of_schedule(alloc: Global, text: &[u8], threads: u8, error: ReadError) -> RunError
-    ensures { result ≡ of_reading which.Schedule error }
+/// The error of this text, which is a world, a schedule or a journal.
+pub(crate) fn of_reading(text: Text, error: ReadError) -> RunError
+    ensures { result ≡ of_reading text error }
 {
     match error {
         ReadError::Memory => RunError::Memory,
         ReadError::Fault(fault) => {
-            let detail = schedule_detail(alloc, text, fault, threads);
-            of_fault(Text::Schedule, fault, detail)
-        }
-    }
-}
-
-/// The error of a journal for a world of so many threads.
-pub(crate) fn of_journal(alloc: Global, text: &[u8], threads: u8, error: ReadError) -> RunError
-    ensures { result ≡ of_reading which.Journal error }
-{
-    match error {
-        ReadError::Memory => RunError::Memory,
-        ReadError::Fault(fault) => {
-            let detail = journal_detail(alloc, text, fault, threads);
-            of_fault(Text::Journal, fault, detail)
+            let place = Place::Line(text, fault.line.number());
+            let detail = fault.line.into_detail();
+            RunError::Fault(fault.rule.number(), FaultPlace::told(place, detail))
         }
     }
 }
@@ -84,16 +51,22 @@ fn fault_at(number: Option<u32>, place: FaultPlace) -> RunError
     }
 }
 
-/// The error of a world that isn't loaded. What was found is added where the program and the world's text are known.
+/// The place of a fault on this line of the world.
+fn in_world(line: Line) -> FaultPlace
+    ensures { result ≡ placed.Line which.World line }
+{
+    let place = Place::Line(Text::World, line.number());
+    FaultPlace::told(place, line.into_detail())
+}
+
+/// The error of a world that isn't loaded.
 pub(crate) fn of_load(fault: LoadFault) -> RunError
     ensures { result ≡ of_load fault }
 {
+    let number = fault.number();
     match fault {
         LoadFault::Memory => RunError::Memory,
-        LoadFault::DoesNotFit(line) => {
-            let place = FaultPlace::at(Place::Line(Text::World, line));
-            fault_at(fault.number(), place)
-        }
+        LoadFault::DoesNotFit(line) => fault_at(number, in_world(line)),
     }
 }
 
@@ -124,26 +97,17 @@ fn detail_of_entry(journal: &[Entry], number: usize) -> Detail {
     }
 }
 
-/// The error of a journal of a program in a world that isn't replayed.
-pub(crate) fn of_replay(
-    alloc: Global,
-    checked: &Checked,
-    world: &World,
-    journal: &[Entry],
-    error: ReplayError,
-) -> RunError
+/// The error of a journal that isn't replayed.
+pub(crate) fn of_replay(journal: &[Entry], error: ReplayError) -> RunError
     ensures { result ≡ of_replay error }
 {
+    let number = error.number();
     match error {
-        ReplayError::DoesNotFit(line) => {
-            let place = Place::Line(Text::World, line);
-            let detail = misfit_detail(alloc, checked, world, line);
-            fault_at(error.number(), FaultPlace::told(place, detail))
-        }
+        ReplayError::DoesNotFit(line) => fault_at(number, in_world(line)),
         ReplayError::Impossible(entry) => {
             let place = Place::Entry(entry);
             let detail = detail_of_entry(journal, entry);
-            fault_at(error.number(), FaultPlace::told(place, detail))
+            fault_at(number, FaultPlace::told(place, detail))
         }
         ReplayError::Memory => RunError::Memory,
         ReplayError::Writer => RunError::Writer,

@@ -10,9 +10,10 @@ ghost use Rattle.jnirun.specs.Replays.{EndsReplay, AreRefusedReplays, IsPossible
 ghost use Rattle.world_values.specs.WorldRules.{IsWorldText};
 ghost use Rattle.world.specs.ReadingWorlds.{world_of_text};
 
-use crate::errors::{of_journal, of_replay, of_world};
+use crate::errors::{of_reading, of_replay};
 use crate::run::thread_count;
 use parse::one_unit;
+use places::Text;
 use program_check::{RunError, read_program};
 use region_rules::Checked;
 use replay::{TrapAt, replay};
@@ -39,7 +40,7 @@ fn replay_checked<W: Sink>(
 {
     match read_world(alloc, world_text) {
         Ok(world) => replay_world(alloc, checked, &world, journal_text, out),
-        Err(error) => Err(of_world(error)),
+        Err(error) => Err(of_reading(Text::World, error)),
     }
 }
 
@@ -64,9 +65,9 @@ fn replay_world<W: Sink>(
     match read_journal(alloc, journal_text, threads) {
         Ok(journal) => match replay(alloc, checked, world, &journal, out) {
             Ok(trap) => Ok(trap),
-            Err(error) => Err(of_replay(alloc, checked, world, &journal, error)),
+            Err(error) => Err(of_replay(&journal, error)),
         },
-        Err(error) => Err(of_journal(alloc, journal_text, threads, error)),
+        Err(error) => Err(of_reading(Text::Journal, error)),
     }
 }
 

@@ -12,10 +12,10 @@ ghost use Rattle.world_schedules.specs.ReadingSchedules.{schedule_of};
 ghost use Rattle.world_schedules.specs.ScheduleText.{IsScheduleText};
 ghost use Rattle.world.specs.ReadingWorlds.{world_of_text};
 
-use crate::errors::{of_load, of_lower, of_report, of_schedule, of_world};
-use crate::telling::with_misfit;
+use crate::errors::{of_load, of_lower, of_reading, of_report};
 use lower::{Program, lower};
 use machine::{Machine, RunFault};
+use places::Text;
 use program_check::{RunError, read_program};
 use region_rules::Checked;
 use replay::{TrapAt, shown_stop};
@@ -103,7 +103,7 @@ fn run_world<W: Sink>(
     let threads = thread_count(&world);
     match read_schedule(alloc, schedule_text, threads) {
         Ok(schedule) => run_by(alloc, lowered, world, &schedule, out),
-        Err(error) => Err(of_schedule(alloc, schedule_text, threads, error)),
+        Err(error) => Err(of_reading(Text::Schedule, error)),
     }
 }
 
@@ -124,11 +124,8 @@ fn run_checked<W: Sink>(
 {
     match lower(alloc, checked) {
         Ok(lowered) => match read_world(alloc, world_text) {
-            Ok(world) => {
-                let outcome = run_world(alloc, lowered, world, schedule_text, out);
-                with_misfit(alloc, checked, world_text, outcome)
-            }
-            Err(error) => Err(of_world(error)),
+            Ok(world) => run_world(alloc, lowered, world, schedule_text, out),
+            Err(error) => Err(of_reading(Text::World, error)),
         },
         Err(error) => Err(of_lower(checked, error)),
     }

@@ -6,10 +6,11 @@ ghost use Rattle.cli_commands.specs.Commands.{runs_workers};
 ghost use Rattle.replay_trace.specs.Traces.{GoesOn};
 ghost use Rattle.jnirun.specs.Traces.{ServesTraced};
 
-use crate::errors::of_world;
+use crate::errors::of_reading;
 use crate::serving::{read_or_tell, run_texts, tell_outcome};
 use crate::working::work_text;
 use cli_commands::{Command, DONE, Files, Texts, Trace};
+use places::Text;
 use program_check::{RunError, read_program};
 use region_rules::Checked;
 use replay_trace::{Keeping, Told, tell_lack, tell_nothing, trace_line};
@@ -36,7 +37,7 @@ fn read_again(alloc: Global, texts: &Texts) -> Result<Read, RunError> {
     let checked = read_program(alloc, &texts.program)?;
     match read_world(alloc, &texts.world) {
         Ok(world) => Ok((checked, world)),
-        Err(error) => Err(of_world(error)),
+        Err(error) => Err(of_reading(Text::World, error)),
     }
 }
 

@@ -10,11 +10,11 @@ ghost use Rattle.jnirun.specs.Runs.{RunsTexts};
 ghost use Rattle.jnirun.specs.Works.{WorkMeaning, EndsWork, AreRefusedWork, IsWorkOrFails};
 ghost use Rattle.world.specs.ReadingWorlds.{world_of_text};
 
-use crate::errors::{of_load, of_lower, of_report, of_run, of_world};
-use crate::telling::with_misfit;
+use crate::errors::{of_load, of_lower, of_reading, of_report, of_run};
 use lower::Program;
 use lower_parallel::{Watch, lower_parallel};
 use machine::{Machine, RunFault};
+use places::Text;
 use program_check::{RunError, read_program};
 use region_rules::Checked;
 use replay::{TrapAt, shown_stop};
@@ -144,11 +144,8 @@ fn work_checked<W: Sink, R: Threads + Wait + Sync>(
 {
     match lower_parallel(rt, alloc, checked, LOWERING, &Open) {
         Ok(lowered) => match read_world(alloc, world_text) {
-            Ok(world) => {
-                let outcome = work_in(rt, alloc, lowered, world, out);
-                with_misfit(alloc, checked, world_text, outcome)
-            }
-            Err(error) => Err(of_world(error)),
+            Ok(world) => work_in(rt, alloc, lowered, world, out),
+            Err(error) => Err(of_reading(Text::World, error)),
         },
         Err(error) => Err(of_lower(checked, error)),
     }

@@ -3,17 +3,18 @@
 ghost use Rattle.std.specs.Prelude.{◌≡◌, ℕ, Some, None};
 ghost use Rattle.machine_threads.specs.declared.fault.LoadFault.TheVariants.{DoesNotFit, Memory};
 
+use places::Line;
 use std::alloc::{AllocError, AllocFailed};
 use thiserror::Error;
 use world_schedules::Rule;
 
 /// Why a world was not loaded.
-#[derive(Clone, Copy, Debug, Error)]
+#[derive(Debug, Drop, Error)]
 pub enum LoadFault {
     /// Fault 82: the function of a call or its class is unknown, or the arguments don't fit; or methods are asked for, which
-    /// the world doesn't allow. The line is the call's in the world, or that of its heap, counted from 1.
+    /// the world doesn't allow. The line is the call's in the world, or that of its heap, with what was found there.
     #[error("fault {} line {}", Rule::Name.number(), .0)]
-    DoesNotFit(usize),
+    DoesNotFit(Line),
     /// Host memory was refused.
     #[error("out of memory")]
     Memory,
@@ -21,9 +22,9 @@ pub enum LoadFault {
 
 impl LoadFault {
     /// The number of the fault. Want of memory has none.
-    pub fn number(self) -> Option<u32>
-        ensures unfit { (line : ℕ) → self ≡ DoesNotFit line → result ≡ Some 82 }
-        ensures memory { self ≡ Memory → result ≡ None }
+    pub fn number(&self) -> Option<u32>
+        ensures unfit { (line : ℕ) → self.now ≡ DoesNotFit line → result ≡ Some 82 }
+        ensures memory { self.now ≡ Memory → result ≡ None }
     {
         match self {
             LoadFault::DoesNotFit(_) => Some(Rule::Name.number()),

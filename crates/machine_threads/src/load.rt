@@ -19,7 +19,7 @@ ghost use Rattle.machine_threads.specs.Loading.{AreWaiting, IsCallOf, IsFirstOf,
 
 use crate::fault::LoadFault;
 use crate::thread::{PendingCall, Thread};
-use class_queries::{arguments_fit, methods_load, native_class};
+use class_queries::{arguments_fit, line_of_call, line_of_heap, methods_load, native_class};
 use code_meaning::Program;
 use functions::{Functions, NumberedFunction};
 use semantics::Ending;
@@ -39,7 +39,7 @@ pub fn load_threads(
     ensures refused { IfErr result (IsLoadFault (unit_tree program.now.unit) world.now) }
 {
     if !methods_load(program.items(), world) {
-        return Err(LoadFault::DoesNotFit(world.heap_line()));
+        return Err(LoadFault::DoesNotFit(line_of_heap(world)));
     }
     let functions = Functions::of(alloc, program.items())?;
     load_all(alloc, program, &functions, world)
@@ -88,7 +88,10 @@ fn load_thread(
     for call in calls {
         match load_call(alloc, program, functions, world, call)? {
             Some(next) => nexts.push_back(next)?,
-            None => return Err(LoadFault::DoesNotFit(call.line())),
+            None => {
+                let line = line_of_call(alloc, program.items(), call);
+                return Err(LoadFault::DoesNotFit(line));
+            }
         }
     }
     Ok(Thread {

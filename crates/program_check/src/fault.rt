@@ -3,17 +3,15 @@
 ghost use Rattle.std.specs.Prelude.{◌≡◌};
 ghost use Rattle.places.specs.declared.place.Place.TheVariants.{Line};
 ghost use Rattle.places.specs.declared.place.Text.TheVariants as which;
-ghost use Rattle.scan.specs.Spelling.{Spells};
 ghost use Rattle.program_check.specs.Errors.{of_scan, of_parse, of_types, of_regions, too_long};
 
-use crate::detail::{detail_of_length, detail_of_types};
 use crate::fault_place::FaultPlace;
 use parse_lexemes::ParseError;
 use places::{Detail, Place, Text};
 use region_rules::Checked;
 use regions::CheckError;
 use scan::{ScanError, Token};
-use std::alloc::Global;
+use step_counts::long_function;
 use thiserror::Error;
 use types::TypeError;
 
@@ -64,9 +62,8 @@ pub(crate) fn of_parse(text: &[u8], tokens: &[Token], error: ParseError) -> RunE
     }
 }
 
-/// The error of a text whose unit, of which these are the tokens, breaks a rule on names and types.
-pub(crate) fn of_types(alloc: Global, text: &[u8], tokens: &[Token], error: TypeError) -> RunError
-    requires { Spells text.now tokens.now }
+/// The error of a text whose unit breaks a rule on names and types.
+pub(crate) fn of_types(error: TypeError) -> RunError
     ensures { result ≡ of_types error }
 {
     match error {
@@ -74,7 +71,7 @@ pub(crate) fn of_types(alloc: Global, text: &[u8], tokens: &[Token], error: Type
         TypeError::Fault(fault) => {
             let number = fault.rule.number();
             let line = fault.line.number();
-            on_line(number, line, detail_of_types(alloc, text, tokens, fault))
+            on_line(number, line, fault.line.into_detail())
         }
     }
 }
@@ -90,6 +87,16 @@ pub(crate) fn of_regions(error: CheckError) -> RunError
             let line = fault.line.number();
             on_line(number, line, fault.line.into_detail())
         }
+    }
+}
+
+/// The function that is too long.
+fn detail_of_length(checked: &Checked) -> Detail {
+    match long_function(checked) {
+        Some(function) => Detail::of(function.name.as_bytes())
+            .words(b", at line ")
+            .number(function.line),
+        None => Detail::none(),
     }
 }
 

@@ -13,7 +13,6 @@ ghost use Rattle.types.specs.Faults.{fault_of as type_of};
 ghost use Rattle.regions.specs.Findings.{fault_of as region_of};
 
 use crate::fault::{RunError, of_parse, of_scan, too_long};
-use crate::meant::{function_asked, name_asked};
 use parse::parse;
 use places::{Detail, Place, Text};
 use region_rules::Checked;
@@ -22,10 +21,7 @@ use scan::scan;
 use std::alloc::{AllocError, Global};
 use step_counts::has_long_function;
 use syntax::Unit;
-use types::{TypeFault, TypeRule, Typed, type_faults};
-
-/// The most faults of a text of which it is sought which name may be meant, since each is sought in its whole function.
-const MOST_ASKED: usize = 64;
+use types::{TypeFault, Typed, type_faults};
 
 /// A fault of a program text: its number, its place, and what was found there, in words that no contract fixes.
 #[derive(Drop)]
@@ -53,38 +49,25 @@ fn alone(alloc: Global, error: RunError) -> Result<Vec<ToldFault>, AllocError>
     }
 }
 
-/// A fault of a unit's names and types, before which there are so many. Of the first ones it is asked which name may be meant.
-fn told_type(alloc: Global, unit: &Unit, fault: TypeFault, before: usize) -> ToldFault
+/// A fault of a unit's names and types.
+fn told_type(fault: TypeFault) -> ToldFault
     ensures { entry_of result ≡ of_type_rule (type_of fault) }
 {
-    let rule = fault.rule;
-    let line = fault.line.number();
-    let found = fault.line.into_detail();
-    let detail = match rule {
-        TypeRule::UnknownName if before < MOST_ASKED => name_asked(alloc, unit, line, &found),
-        TypeRule::UnknownFunction if before < MOST_ASKED => function_asked(alloc, &found),
-        _ => found,
-    };
     ToldFault {
-        number: rule.number(),
-        place: Place::Line(Text::Program, line),
-        detail,
+        number: fault.rule.number(),
+        place: Place::Line(Text::Program, fault.line.number()),
+        detail: fault.line.into_detail(),
     }
 }
 
 /// The faults of a unit's names and types, as those of its text.
-fn told_types(
-    alloc: Global,
-    unit: &Unit,
-    found: Vec<TypeFault>,
-) -> Result<Vec<ToldFault>, AllocError>
+fn told_types(alloc: Global, found: Vec<TypeFault>) -> Result<Vec<ToldFault>, AllocError>
     ensures { IfOk result (λ faults. map entry_of faults.items ≡ map of_type_rule (map type_of found.items)) }
 {
     let mut faults: Vec<ToldFault> = Vec::new(alloc);
     let mut left = found.into_iter();
     while let Some(fault) = left.next() {
-        let told = told_type(alloc, unit, fault, faults.len());
-        faults.push(told)?;
+        faults.push(told_type(fault))?;
     }
     Ok(faults)
 }
@@ -120,7 +103,7 @@ fn faults_of_unit(alloc: Global, unit: Unit) -> Result<Vec<ToldFault>, AllocErro
 {
     let types = type_faults(alloc, &unit)?;
     if !types.is_empty() {
-        return told_types(alloc, &unit, types);
+        return told_types(alloc, types);
     }
     let typed = Typed::of(unit);
     let paths = region_faults(alloc, &typed)?;

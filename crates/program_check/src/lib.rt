@@ -2,11 +2,9 @@
 #![tactic(auto)]
 
 mod checking;
-mod detail;
 mod fault;
 mod fault_place;
 mod faults;
-mod meant;
 mod program;
 
 pub use checking::check_text;

@@ -30,7 +30,7 @@ pub fn read_program(alloc: Global, text: &[u8]) -> Result<Checked, RunError>
     };
     let typed = match type_unit(alloc, unit) {
         Ok(typed) => typed,
-        Err(error) => return Err(of_types(alloc, text, &tokens, error)),
+        Err(error) => return Err(of_types(error)),
     };
     match check(alloc, typed) {
         Ok(checked) => Ok(checked),

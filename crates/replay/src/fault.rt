@@ -3,6 +3,7 @@
 ghost use Rattle.std.specs.Prelude.{◌≡◌, ℕ, Some, None};
 ghost use Rattle.replay.specs.declared.fault.ReplayError.TheVariants.{DoesNotFit, Impossible, Memory, Writer};
 
+use places::Line;
 use std::alloc::{AllocError, AllocFailed};
 use thiserror::Error;
 
@@ -13,13 +14,13 @@ const UNFIT: u32 = 82;
 const IMPOSSIBLE: u32 = 91;
 
 /// Why `replay` did not write a run to its end.
-#[derive(Clone, Copy, Debug, Error)]
+#[derive(Debug, Drop, Error)]
 pub enum ReplayError {
     /// Fault 82: the function of a call or its class is unknown, or the arguments don't fit, and the line is the call's in
-    /// the world; or the unit asks for methods, which the world doesn't allow, and the line is the heap's. Lines are counted
-    /// from 1.
+    /// the world; or the unit asks for methods, which the world doesn't allow, and the line is the heap's. What was found there
+    /// is beside it.
     #[error("fault {} line {}", UNFIT, .0)]
-    DoesNotFit(usize),
+    DoesNotFit(Line),
     /// Fault 91: an entry isn't possible where the entries before it have led. Entries are counted from 1.
     #[error("fault {} entry {}", IMPOSSIBLE, .0)]
     Impossible(usize),
@@ -33,11 +34,11 @@ pub enum ReplayError {
 
 impl ReplayError {
     /// The number of the fault. Want of memory and a writer that failed have none.
-    pub fn number(self) -> Option<u32>
-        ensures unfit { (line : ℕ) → self ≡ DoesNotFit line → result ≡ Some 82 }
-        ensures impossible { (entry : ℕ) → self ≡ Impossible entry → result ≡ Some 91 }
-        ensures memory { self ≡ Memory → result ≡ None }
-        ensures writer { self ≡ Writer → result ≡ None }
+    pub fn number(&self) -> Option<u32>
+        ensures unfit { (line : ℕ) → self.now ≡ DoesNotFit line → result ≡ Some 82 }
+        ensures impossible { (entry : ℕ) → self.now ≡ Impossible entry → result ≡ Some 91 }
+        ensures memory { self.now ≡ Memory → result ≡ None }
+        ensures writer { self.now ≡ Writer → result ≡ None }
     {
         match self {
             ReplayError::DoesNotFit(_) => Some(UNFIT),

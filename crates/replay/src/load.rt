@@ -12,8 +12,9 @@ ghost use Rattle.replay.specs.Loading.{first_line, AddsWaiting, AreWaiting, IsWa
 ghost use Rattle.replay.specs.Replays.{IsLoadFault};
 
 use crate::fault::ReplayError;
-use class_queries::{arguments_fit, methods_load};
+use class_queries::{arguments_fit, line_of_call, line_of_heap, methods_load};
 use functions::Functions;
+use places::Line;
 use replay_arguments::Shared;
 use replay_objects::{Monitors, Names, loaded_store};
 use replay_terms::null_statics;
@@ -58,13 +59,13 @@ fn first_unfit(
     functions: &Functions<'_>,
     world: &World,
     calls: &[Call],
-) -> Result<Option<usize>, AllocError>
+) -> Result<Option<Line>, AllocError>
     ensures { IfOk result (λ line. line ≡ first_line
         (refused_calls (unit_tree functions.now) world.now.classes calls.now)) }
 {
     for call in calls {
         if !fits(alloc, functions, world, call)? {
-            return Ok(Some(call.line()));
+            return Ok(Some(line_of_call(alloc, functions.items(), call)));
         }
     }
     Ok(None)
@@ -75,7 +76,7 @@ fn first_misfit(
     alloc: Global,
     functions: &Functions<'_>,
     world: &World,
-) -> Result<Option<usize>, AllocError>
+) -> Result<Option<Line>, AllocError>
     ensures { IfOk result (λ line. line ≡ first_line
         (flat_map (refused_calls (unit_tree functions.now) world.now.classes) world.now.threads)) }
 {
@@ -94,11 +95,11 @@ fn first_fault(
     alloc: Global,
     functions: &Functions<'_>,
     world: &World,
-) -> Result<Option<usize>, AllocError>
+) -> Result<Option<Line>, AllocError>
     ensures { IfOk result (λ line. line ≡ first_load_fault (unit_tree functions.now) world.now) }
 {
     if !methods_load(functions.items(), world) {
-        return Ok(Some(world.heap_line()));
+        return Ok(Some(line_of_heap(world)));
     }
     first_misfit(alloc, functions, world)
 }

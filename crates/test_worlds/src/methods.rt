@@ -45,7 +45,7 @@ fn a_world_without(rt: HostRuntime) -> Result<(), Fail> {
 /// The number and the line of a fault; zeros where memory was refused.
 fn number_and_line(error: ReadError) -> (u32, usize) {
     match error {
-        ReadError::Fault(fault) => (fault.rule.number(), fault.line),
+        ReadError::Fault(fault) => (fault.rule.number(), fault.line.number()),
         ReadError::Memory => (0, 0),
     }
 }
@@ -54,7 +54,7 @@ fn number_and_line(error: ReadError) -> (u32, usize) {
 fn fault_of(alloc: Global, text: &[u8]) -> (u32, usize) {
     match read_world(alloc, text) {
         Ok(_world) => (0, 0),
-        Err(error) => number_and_line(error.error()),
+        Err(error) => number_and_line(error),
     }
 }
 

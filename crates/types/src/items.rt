@@ -74,7 +74,7 @@ fn check_body<'a>(
         ++ found (places_of f.now.result known.old entry.now (block_tree f.now.body)))) }
     ensures restored { OnOk result (known.new ≡ known.old) }
 {
-    let mut taken = Taken::new(alloc);
+    let mut taken = Taken::new(alloc, f.parameters.len().saturating_add(1));
     let repeated = taken.enter(entry)?;
     let head = check_head(names, entry, repeated, f);
     keep(all, faults, head)?;

@@ -6,6 +6,7 @@ mod calls;
 mod expressions;
 mod fault;
 mod items;
+mod meant;
 mod scope;
 mod statements;
 mod taken;

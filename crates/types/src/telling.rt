@@ -9,10 +9,10 @@ use base::limits::MOST_FURTHER;
 use jni::{Access, JniFunction, ParameterKind, ResultKind};
 use places::Detail;
 use syntax::{
-    Argument, BinaryOp, Call, Constant, ElementType, ExprRef, Form, Function, Name, PrefixOp,
-    ResultType, RightSide, Shape, Test,
+    Argument, BinaryOp, Call, Constant, DeclaredType, ElementType, ExprRef, Form, Function, Name,
+    PlainStmt, PrefixOp, ResultType, RightSide, Shape, Test,
 };
-use type_rules::{ExprType, Known, Question, TypeRule, first_name, own_call, variable_type};
+use type_rules::{ExprType, Known, Question, TypeRule, declared_type, first_name, own_call};
 
 /// An element type in C's words.
 fn element_words(element: ElementType) -> &'static [u8] {
@@ -329,6 +329,38 @@ fn undroppable(call: &Call, function: Option<JniFunction>) -> Detail {
     }
 }
 
+/// A right side doesn't fit the type of its declaration.
+fn misfit_declaration(
+    known: &Known<'_, ExprType>,
+    kind: DeclaredType,
+    right: &RightSide,
+    function: Option<JniFunction>,
+) -> Detail {
+    let ty = declared_type(kind);
+    match kind {
+        DeclaredType::Simple(_) => misfit_right(known, Some(ty), right, function),
+        DeclaredType::Pointer(_) | DeclaredType::ConstChars => {
+            misfit_buffer(known, ty, right, function)
+        }
+    }
+}
+
+/// The parts of a plain statement don't fit each other, its call's arguments aside.
+fn misfit_plain(
+    known: &Known<'_, ExprType>,
+    plain: &PlainStmt,
+    function: Option<JniFunction>,
+) -> Detail {
+    match plain {
+        PlainStmt::Declare(t, _, r) => misfit_declaration(known, *t, r, function),
+        PlainStmt::DeclareArray(..) => Detail::none(),
+        PlainStmt::Assign(x, r) => misfit_right(known, type_in(known, x), r, function),
+        PlainStmt::AssignElement(x, i, e) => misfit_element(known, x, i.whole(), e.whole()),
+        PlainStmt::Perform(call) => undroppable(call, function),
+        PlainStmt::PutJint(e) => misfit(known, e.whole(), b"jint"),
+    }
+}
+
 /// The parts of a statement don't fit each other, its call's arguments aside.
 fn misfit_statement(
     known: &Known<'_, ExprType>,
@@ -337,25 +369,8 @@ fn misfit_statement(
     function: Option<JniFunction>,
 ) -> Detail {
     match form {
-        Form::Declare(t, _, r) => misfit_right(known, Some(variable_type(*t)), r, function),
-        Form::DeclareBuffer(t, _, r) => misfit_buffer(
-            known,
-            ExprType::Buffer(*t, true),
-            r,
-            function,
-        ),
-        Form::DeclareChars(_, r) => misfit_buffer(
-            known,
-            ExprType::Buffer(ElementType::Char, false),
-            r,
-            function,
-        ),
-        Form::DeclareArray(..) => Detail::none(),
-        Form::Assign(x, r) => misfit_right(known, type_in(known, x), r, function),
-        Form::AssignElement(x, i, e) => misfit_element(known, x, i.whole(), e.whole()),
-        Form::Perform(call) => undroppable(call, function),
-        Form::PutJint(e) => misfit(known, e.whole(), b"jint"),
-        Form::If(test, _) | Form::IfElse(test, _, _) => misfit_test(known, test),
+        Form::Plain(plain) => misfit_plain(known, plain, function),
+        Form::If(test, _, _) => misfit_test(known, test),
         Form::While(e, _) => misfit(known, e.whole(), b"a truth value"),
         Form::Return(None) => Detail::of(b"found `return;`, wanted a value"),
         Form::Return(Some(e)) => misfit_return(known, returns, e.whole()),
@@ -467,7 +482,7 @@ impl Question for Unknown<'_, '_> {
 /// The first name that a statement sets or uses and that isn't known.
 fn unknown_name<'f>(known: &Known<'_, ExprType>, form: &'f Form) -> Option<&'f Name> {
     match form {
-        Form::Assign(x, _) if is_unknown(known, x) => Some(x),
+        Form::Plain(PlainStmt::Assign(x, _)) if is_unknown(known, x) => Some(x),
         _ => first_name(form, &Unknown { known }),
     }
 }
@@ -518,7 +533,9 @@ fn miscounted(call: &Call) -> Detail {
 /// The name that a reference is set to.
 fn copied(form: &Form) -> Detail {
     match form {
-        Form::Declare(_, _, RightSide::Expr(e)) | Form::Assign(_, RightSide::Expr(e)) => {
+        Form::Plain(
+            PlainStmt::Declare(_, _, RightSide::Expr(e)) | PlainStmt::Assign(_, RightSide::Expr(e)),
+        ) => {
             match e.whole().shape() {
                 Shape::Variable(x) => Detail::of(x.as_bytes()),
                 _ => Detail::none(),
@@ -541,7 +558,7 @@ pub(crate) fn statement_detail(
         TypeRule::TypeMisfit => misfit_form(known, returns, form),
         TypeRule::ReferenceCopied => copied(form),
         TypeRule::ReadOnlyWrite => match form {
-            Form::AssignElement(x, _, _) => named(Some(x)),
+            Form::Plain(PlainStmt::AssignElement(x, _, _)) => named(Some(x)),
             _ => Detail::none(),
         },
         TypeRule::UnknownFunction | TypeRule::ArgumentCount | TypeRule::BadMode => {

@@ -1,8 +1,9 @@
 //! Why a text is refused.
 
 ghost use Rattle.std.specs.Prelude.{◌≡◌};
-ghost use Rattle.world_schedules.specs.declared.fault.ReadError.TheVariants.{Memory};
+ghost use Rattle.world_schedules.specs.declared.fault.ReadError.TheVariants.{Memory, Fault};
 
+use places::{Detail, Line};
 use std::alloc::{AllocError, AllocFailed};
 use thiserror::Error;
 
@@ -39,21 +40,31 @@ impl Rule {
 }
 
 /// A text is refused: the first line that breaks a rule, and the rule of the least number there.
-#[derive(Clone, Copy, Debug, Error)]
+#[derive(Debug, Drop, Error)]
 #[error("fault {} line {line}", .rule.number())]
 pub struct TextFault {
     pub rule: Rule,
-    /// The line, counted from 1.
-    pub line: usize,
+    /// The line, with what was found there.
+    pub line: Line,
 }
 
 /// A text is not read.
-#[derive(Clone, Copy, Debug, Error)]
+#[derive(Debug, Drop, Error)]
 pub enum ReadError {
     #[error("out of memory")]
     Memory,
     #[error(transparent)]
     Fault(TextFault),
+}
+
+impl ReadError {
+    /// This rule is broken on the line of this number, where this was found.
+    pub fn told(rule: Rule, number: usize, detail: Detail) -> ReadError
+        ensures { result ≡ Fault (record { rule = rule; line = number }) }
+    {
+        let line = Line::told(number, detail);
+        ReadError::Fault(TextFault { rule, line })
+    }
 }
 
 impl From<AllocError> for ReadError {

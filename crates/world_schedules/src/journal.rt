@@ -37,6 +37,7 @@ impl Word for Entry {
         }
     }
 
+    #[inline]
     fn is_known(&self, threads: u8) -> bool {
         match self.kind() {
             EntryKind::Step { thread, .. } => *thread <= threads,
@@ -56,6 +57,10 @@ impl Word for Entry {
             EntryKind::Step { .. } => 0,
             EntryKind::Clearing(_) => 1,
         }
+    }
+
+    fn limit() -> &'static [u8] {
+        b"at most 1000000 steps, and as many clearings"
     }
 }
 

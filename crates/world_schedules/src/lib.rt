@@ -1,11 +1,13 @@
 //! Texts that are read: their lines, words and numbers, and the faults of these; schedules and journals.
 #![tactic(auto)]
 
+mod broken;
 mod fault;
 mod journal;
 mod numbers;
 mod schedule;
 mod split;
+mod telling;
 mod words;
 
 pub use fault::{ReadError, Rule, TextFault};

@@ -68,6 +68,7 @@ impl Word for Repetition {
         Ok(repetition_of(bytes))
     }
 
+    #[inline]
     fn is_known(&self, threads: u8) -> bool {
         match self.word {
             ScheduleWord::Turn(thread) => thread <= threads,
@@ -81,6 +82,10 @@ impl Word for Repetition {
 
     fn apart(&self) -> u32 {
         0
+    }
+
+    fn limit() -> &'static [u8] {
+        b"at most 1000000 words in all"
     }
 }
 

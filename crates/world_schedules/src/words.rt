@@ -2,13 +2,15 @@
 
 ghost use Rattle.std.specs.Prelude.{◌≡◌, ℕ, [], ◌+◌, ◌++◌, ◌-◌, ◌^◌, ◌<◌, ◌≤◌, List, Option, Bool, IfOk, OnOk, IfSome, is_some, min, sum_by};
 ghost use Rattle.std.specs.Option.{option_map};
+ghost use Rattle.std.specs.Result.{result_ok};
 ghost use Rattle.std.specs.List.{list_all};
 ghost use Rattle.base.specs.Limits.{most_entries};
 ghost use Rattle.world_schedules.specs.Reading.{Gives};
 ghost use Rattle.world_schedules.specs.ReadingWords.{formed_words, line_words, text_words};
 ghost use Rattle.world_schedules.specs.Split.{parts_of};
 
-use crate::fault::{ReadError, Rule, TextFault};
+use crate::broken::Broken;
+use crate::fault::{ReadError, Rule};
 use crate::split::Split;
 use base::limits::MOST_ENTRIES;
 use std::alloc::{AllocError, Global};
@@ -39,23 +41,30 @@ pub trait Word: Drop {
 
     fn apart(&self) -> u32
         ensures { result ≡ apart self.now };
+
+    /// How many a text may have, in words on one that has more.
+    fn limit() -> &'static [u8];
 }
 
-/// The words of a line, put into an empty list, or `None` where one of them has no form.
-fn formed<W: Word>(alloc: Global, empty: Vec<W>, line: &[u8]) -> Result<Option<Vec<W>>, AllocError>
+/// The words of a line, put into an empty list, or the place of the first that has no form.
+fn formed<W: Word>(
+    alloc: Global,
+    empty: Vec<W>,
+    line: &[u8],
+) -> Result<Result<Vec<W>, usize>, AllocError>
     requires { empty.items ≡ [] }
-    ensures { IfOk result (λ words. option_map (λ v. v.items) words ≡ formed_words W.spelled (parts_of 32 line.now)) }
+    ensures { IfOk result (λ words. option_map (λ v. v.items) (result_ok words) ≡ formed_words W.spelled (parts_of 32 line.now)) }
 {
     let mut words = empty;
     for part in Split::new(line, b' ') {
         if !part.is_empty() {
             match W::read(alloc, part)? {
                 Some(word) => words.push(word)?,
-                None => return Ok(None),
+                None => return Ok(Err(words.len())),
             }
         }
     }
-    Ok(Some(words))
+    Ok(Ok(words))
 }
 
 /// How many words there are so far, and how many of those that are counted apart.
@@ -83,6 +92,15 @@ fn counts_of<W: Word>(words: &[W], threads: u8) -> Option<Counts>
     Some(counts)
 }
 
+/// The place of the first of the words of a line that names what isn't there with this number of threads.
+#[inline(never)]
+fn place_of_unknown<W: Word>(words: &[W], threads: u8) -> usize {
+    words
+        .iter()
+        .position(|word| !word.is_known(threads))
+        .unwrap_or(0)
+}
+
 /// The words of a line, put into an empty list, after those so far, with which they are counted then.
 fn read_line<W: Word>(
     alloc: Global,
@@ -91,7 +109,7 @@ fn read_line<W: Word>(
     number: usize,
     threads: u8,
     so_far: &mut Counts,
-) -> Result<Vec<W>, ReadError>
+) -> Result<Vec<W>, Broken>
     requires empty { empty.items ≡ [] }
     requires words { so_far.old.words ≤ most_entries }
     requires apart { so_far.old.apart ≤ most_entries }
@@ -102,21 +120,19 @@ fn read_line<W: Word>(
     ensures within { OnOk result (so_far.new.words ≤ most_entries) }
     ensures within_apart { OnOk result (so_far.new.apart ≤ most_entries) }
 {
-    let Some(words) = formed::<W>(alloc, empty, line)? else {
-        let rule = Rule::Form;
-        return Err(ReadError::Fault(TextFault { rule, line: number }));
+    let words = match formed::<W>(alloc, empty, line)? {
+        Ok(words) => words,
+        Err(place) => return Err(Broken::at(Rule::Form, number, place)),
     };
     let Some(more) = counts_of(&words, threads) else {
-        let rule = Rule::Name;
-        return Err(ReadError::Fault(TextFault { rule, line: number }));
+        let place = place_of_unknown(&words, threads);
+        return Err(Broken::at(Rule::Name, number, place));
     };
     if more.words > MOST_WORDS - so_far.words {
-        let rule = Rule::Limit;
-        return Err(ReadError::Fault(TextFault { rule, line: number }));
+        return Err(Broken::at(Rule::Limit, number, 0));
     }
     if more.apart > MOST_WORDS - so_far.apart {
-        let rule = Rule::Limit;
-        return Err(ReadError::Fault(TextFault { rule, line: number }));
+        return Err(Broken::at(Rule::Limit, number, 0));
     }
     so_far.words += more.words;
     so_far.apart += more.apart;
@@ -146,7 +162,10 @@ pub fn read_words<W: Word>(alloc: Global, text: &[u8], threads: u8) -> Result<Ve
     let mut number = 0;
     for line in Split::new(text, b'\n') {
         number += 1;
-        let mut more = read_line::<W>(alloc, empty, line, number, threads, &mut so_far)?;
+        let mut more = match read_line::<W>(alloc, empty, line, number, threads, &mut so_far) {
+            Ok(more) => more,
+            Err(broken) => return Err(broken.told::<W>(line, threads)),
+        };
         gather(&mut words, &mut more)?;
         empty = more;
     }

@@ -10,4 +10,4 @@ returns-in-Ok-clause-accepted g c = λ program p same. c.replay_world.ensures.ac
 
 pub returns-in-Err-clause-replay : goal.returns-in-Err-clause-replay
 returns-in-Err-clause-replay g c = λ program is.
-    rw c.of_world.ensures (refused_world program c.args.world_text.now c.args.journal_text.now (g.W.Sink.written c.args.out.now) (unit_tree c.args.checked.now) c.in-Err.error is c.in-Err.ensures.read)
+    rw c.of_reading.ensures (refused_world program c.args.world_text.now c.args.journal_text.now (g.W.Sink.written c.args.out.now) (unit_tree c.args.checked.now) c.in-Err.error is c.in-Err.ensures.read)

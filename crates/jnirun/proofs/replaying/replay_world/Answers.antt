@@ -22,10 +22,10 @@ returns-in-Ok-clause-accepted g c = λ program text reads p same.
 
 pub returns-clause-replay : goal.returns-clause-replay
 returns-clause-replay g c = λ program text is reads meant.
-    rw c.of_journal.ensures (refused_journal program text c.args.journal_text.now (g.W.Sink.written c.args.out.now) (unit_tree c.args.checked.now) c.args.world.now c.in-Err.error
+    rw c.of_reading.ensures (refused_journal program text c.args.journal_text.now (g.W.Sink.written c.args.out.now) (unit_tree c.args.checked.now) c.args.world.now c.in-Err.error
     is reads (rw c.thread_count-threads.ensures at c.in-Err.ensures.read))
 
 pub returns-clause-accepted : goal.returns-clause-accepted
 returns-clause-accepted g c = λ program text reads p same.
-    rw c.of_journal.ensures (unread_journal program text c.args.journal_text.now (g.W.Sink.written c.args.out.now) c.args.world.now c.in-Err.error p
+    rw c.of_reading.ensures (unread_journal program text c.args.journal_text.now (g.W.Sink.written c.args.out.now) c.args.world.now c.in-Err.error p
     reads (rw c.thread_count-threads.ensures at c.in-Err.ensures.read))

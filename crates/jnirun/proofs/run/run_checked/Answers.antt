@@ -5,7 +5,7 @@ use Rattle.jnirun.proofs.run.run_checked.Goals as goal
 
 pub returns-in-Err-read_world-clause-run : goal.returns-in-Err-read_world-clause-run
 returns-in-Err-read_world-clause-run g c = λ program is.
-    rw c.of_world.ensures (refused_world program c.args.world_text.now c.args.schedule_text.now (g.W.Sink.written c.args.out.now) c.in-Err-read_world.error
+    rw c.of_reading.ensures (refused_world program c.args.world_text.now c.args.schedule_text.now (g.W.Sink.written c.args.out.now) c.in-Err-read_world.error
     (passing program c.args.world_text.now c.args.schedule_text.now (g.W.Sink.written c.args.out.now) (unit_tree c.args.checked.now) is c.in-Ok.ensures.short) c.in-Err-read_world.ensures.read)
 
 pub returns-in-Err-clause-run : goal.returns-in-Err-clause-run
@@ -14,13 +14,13 @@ returns-in-Err-clause-run g c = λ program is.
 
 pub returns-in-Ok-read_world-clause-run : goal.returns-in-Ok-read_world-clause-run
 returns-in-Ok-read_world-clause-run g c = λ program is.
-    rw c.with_misfit.ensures (c.run_world-outcome.ensures.run program c.args.world_text.now (record {
+    c.run_world.ensures.run program c.args.world_text.now (record {
       of_program = rw c.in-Ok.ensures.ok is;
       short = rw c.in-Ok.ensures.ok c.in-Ok.ensures.short;
       of_world = c.in-Ok-read_world.ensures.read;
       means = c.in-Ok-read_world.ensures.means;
-    }))
+    })
 
 pub returns-in-Ok-read_world-clause-accepted : goal.returns-in-Ok-read_world-clause-accepted
 returns-in-Ok-read_world-clause-accepted g c = λ program m same.
-    rw c.with_misfit.ensures (c.run_world-outcome.ensures.accepted program c.args.world_text.now c.in-Ok-read_world.ensures.read m (ap unit_tree c.in-Ok.ensures.ok ∙ same))
+    c.run_world.ensures.accepted program c.args.world_text.now c.in-Ok-read_world.ensures.read m (ap unit_tree c.in-Ok.ensures.ok ∙ same)

@@ -11,5 +11,5 @@ returns-in-Ok-clause-accepted g c = λ program text of_world m same. c.run_by.en
 
 pub returns-in-Err-clause-run : goal.returns-in-Err-clause-run
 returns-in-Err-clause-run g c = λ program text passed.
-    rw c.of_schedule.ensures (refused_schedule program text c.args.schedule_text.now (g.W.Sink.written c.args.out.now) c.args.world c.in-Err.error
+    rw c.of_reading.ensures (refused_schedule program text c.args.schedule_text.now (g.W.Sink.written c.args.out.now) c.args.world c.in-Err.error
     (passing program text c.args.schedule_text.now (g.W.Sink.written c.args.out.now) (unit_tree c.args.lowered.unit) passed.of_program passed.short) passed.of_world (rw c.thread_count-threads.ensures at c.in-Err.ensures.read))

@@ -8,7 +8,7 @@ use Rattle.semantics.specs.World.{loaded_objects}
 use Rattle.semantics.specs.State.{views}
 use Rattle.world_values.proofs.LoadedWorlds.{few_loaded}
 use Rattle.std.proofs.lemmas.List.{length-map}
-use Rattle.machine.proofs.TextBytes.{texts_are_bytes}
+use Rattle.semantics_typing.proofs.TextsOfTrees.{tree_has_texts}
 use Rattle.semantics_typing.specs.Texts.{HasTexts}
 use Rattle.semantics_typing.proofs.Runs.{calls_there}
 use Rattle.machine_threads.proofs.ThreadLoads.{agree_length}
@@ -54,7 +54,7 @@ returns-clause-begins c =
           (c.in_ok-threads.ensures.methods, all_load (unit_tree c.args.program.now.unit) w.classes w.threads c.in_ok-threads.ensures.all) (calls_there w.threads c.threads.ensures.sound.calls);
       typed = c.objects_are_typed.ensures (unit_tree c.args.program.now.unit) w
           (subst (λ (l : List Item). IsWellTyped (unit_tree l)) c.items.ensures.items c.items.ensures.well_typed) (subst (λ (l : List Item). HasRegions (unit_tree l)) c.items.ensures.items c.items.ensures.regions)
-          (subst (λ (l : List Item). HasTexts (unit_tree l)) c.items.ensures.items (texts_are_bytes (unit_tree c.items.result.now) c.items.ensures.tree))
+          (subst (λ (l : List Item). HasTexts (unit_tree l)) c.items.ensures.items (tree_has_texts (unit_tree c.items.result.now) c.items.ensures.tree))
           (c.in_ok-threads.ensures.methods, all_load (unit_tree c.args.program.now.unit) w.classes w.threads c.in_ok-threads.ensures.all) c.threads.ensures.sound;
       methods = c.threads.ensures.sound.methods;
       state = s;

@@ -47,7 +47,7 @@ returns-in-None-clause-refused c =
     let at = slice_get_read calls (length calls) k c.call-item.result refl c.loop-call-test.true c.call-item.is in
     let refused = subst (λ (o : Option PendingCall). IsCallOf p classes (length (loaded_objects c.args.world.now)) c.call-item.result o) c.in-None.is c.in_ok-next.ensures in
     ap (λ (l : List Invocation). slice_get (map (λ (x : Invocation). x.line) l) 0) (c.loop-call.invariant.all ∙ refused_at (unit_tree p.unit) classes calls k c.call-item.result at refused)
-    ∙ ap (λ (line : ℕ). Some line) (sym c.line.ensures)
+    ∙ ap (λ (line : ℕ). Some line) (sym c.line_of_call-line.ensures)
 
 pub returns-clause-all : goal.returns-clause-all
 returns-clause-all c = c.loop-call.invariant.all ∙ none_refused (unit_tree c.args.program.now.unit) c.args.world.now.classes c.args.calls.now c.loop-call.call-index c.loop-call-test.false

@@ -1,5 +1,4 @@
 use Rattle.std.proofs.Common.{◌+◌, length, arith, ap}
-use Rattle.std.proofs.lemmas.Result.{err_from_is_err_and}
 use Rattle.world_schedules.specs.Split.{parts_left}
 use Rattle.world_schedules.specs.ReadingWords.{text_words}
 use Rattle.world_schedules.proofs.LineLemmas.{goes_on, stops, is_all}
@@ -9,23 +8,22 @@ pub overflow_add-number : goal.overflow_add-number
 overflow_add-number g c =
     omega (arith, c.loop-line.invariant.number, ap length c.in-Some.ensures.steps, c.new-line-items.ensures.few)
 
-pub returns-in_err-more : goal.returns-in_err-more
-returns-in_err-more g c =
-    let p = err_from_is_err_and c.from_residual.result c.from_residual.ensures.1 in
+pub returns-in-Err : goal.returns-in-Err
+returns-in-Err g c =
     let w = g.W.Word in
-    rw (p.1, p.2) (stops w.spelled (w.known c.args.threads) w.times w.apart (c.loop-line.number + 1) c.loop-line.so_far.words c.loop-line.so_far.apart c.in-Some.line.now (parts_left c.loop-line.line-iterator) (parts_left c.next.new.self) c.loop-line.words.items
-    (text_words w.spelled (w.known c.args.threads) w.times w.apart c.args.text.now) c.in-Some.ensures.steps c.loop-line.invariant.words c.in_err-more.field-0.0 c.in_err-more.ensures.words)
+    rw c.told.ensures (stops w.spelled (w.known c.args.threads) w.times w.apart (c.loop-line.number + 1) c.loop-line.so_far.words c.loop-line.so_far.apart c.in-Some.line.now (parts_left c.loop-line.line-iterator) (parts_left c.next.new.self) c.loop-line.words.items
+    (text_words w.spelled (w.known c.args.threads) w.times w.apart c.args.text.now) c.in-Some.ensures.steps c.loop-line.invariant.words c.in-Err.broken c.in-Err.ensures.words)
 
 pub loop-line-preserved : goal.loop-line-preserved
 loop-line-preserved g c =
     let w = g.W.Word in
-    let first = c.in_ok-more.more.items in
+    let first = c.in-Ok.more.items in
     record {
-      words = rw (c.in_ok-gather.ensures.items, c.in_ok-more.ensures.counted, c.in_ok-more.ensures.counted_apart) (goes_on w.spelled (w.known c.args.threads) w.times w.apart (c.loop-line.number + 1) c.loop-line.so_far.words c.loop-line.so_far.apart c.in-Some.line.now (parts_left c.loop-line.line-iterator) (parts_left c.next.new.self) c.loop-line.words.items
-          (text_words w.spelled (w.known c.args.threads) w.times w.apart c.args.text.now) c.in-Some.ensures.steps c.loop-line.invariant.words first c.in_ok-more.ensures.words);
+      words = rw (c.in_ok-gather.ensures.items, c.in-Ok.ensures.counted, c.in-Ok.ensures.counted_apart) (goes_on w.spelled (w.known c.args.threads) w.times w.apart (c.loop-line.number + 1) c.loop-line.so_far.words c.loop-line.so_far.apart c.in-Some.line.now (parts_left c.loop-line.line-iterator) (parts_left c.next.new.self) c.loop-line.words.items
+          (text_words w.spelled (w.known c.args.threads) w.times w.apart c.args.text.now) c.in-Some.ensures.steps c.loop-line.invariant.words first c.in-Ok.ensures.words);
       empty = c.in_ok-gather.ensures.none;
-      few = c.in_ok-more.ensures.within;
-      few_apart = c.in_ok-more.ensures.within_apart;
+      few = c.in-Ok.ensures.within;
+      few_apart = c.in-Ok.ensures.within_apart;
       number = omega (arith, c.loop-line.invariant.number, ap length c.in-Some.ensures.steps);
     }
 
