@@ -9,7 +9,6 @@ ghost use Rattle.class_queries.specs.Asking.{is_asking, asks_itself};
 
 use jni::JniFunction;
 use syntax::{Block, Call, Else, Form, Function, Item};
-use type_rules::own_call;
 use world_values::World;
 
 /// Whether it is a call of GetStaticMethodID.
@@ -23,7 +22,7 @@ fn is_asking(call: &Call) -> bool
 fn asks_itself(form: &Form) -> bool
     ensures { (line : ℕ) → result ≡ asks_itself (form_tree line form.now) }
 {
-    match own_call(form) {
+    match form.own_call() {
         Some(call) => is_asking(call),
         None => false,
     }

@@ -6,13 +6,11 @@ use Rattle.std.specs.Str.{bytes_eq}
 use Rattle.base.specs.Limits.{most_classes, most_fields}
 use Rattle.base.specs.Bytes.{Identifier}
 use Rattle.base.specs.Options.{some_passes}
+use Rattle.class_rules.specs.declared.rule.ClassRule.{ClassRule}
+use Rattle.class_rules.specs.declared.rule.ClassRule.TheVariants.{NameTaken, BadSuperclass, BadSignature, TooMany}
 use Rattle.class_rules.specs.Class.{Field, Plain, Class, Classes, class_at, class_named}
 use Rattle.class_rules.specs.BuiltIns.{incompatible_class_change_error, object_array_class, has_own_making}
 use Rattle.class_rules.specs.Fields.{type_of_signature}
-
--- why a class or a field is refused
-pub data ClassRule : Type 0 where
-  NameTaken BadSuperclass BadSignature TooMany : ClassRule
 
 -- the number of the fault
 abbrev pub class_rule_number : ClassRule → ℕ

@@ -6,8 +6,10 @@ ghost use Rattle.class_rules.specs.Mangling.{IsInverse};
 
 mod class_id;
 pub mod mangling;
+mod rule;
 
 pub use class_id::{ClassId, NO_CLASS};
+pub use rule::ClassRule;
 
 /// A function name is unmangled to a class and a method exactly where it is the mangled name of the two.
 pub fn unmangling_inverts_mangling()

@@ -9,7 +9,9 @@ use Rattle.std.proofs.lemmas.Slice.Eq.{bytes_eq-Decides}
 use Rattle.base.specs.Bytes.{Identifier}
 use Rattle.class_rules.specs.Class.{ArrayOfObjects, Class, Classes, class_named, array_name}
 use Rattle.class_rules.specs.BuiltIns.{array_class, object_array_class}
-use Rattle.class_rules.specs.Additions.{ClassRule, NameTaken, new_class, with_class}
+use Rattle.class_rules.specs.declared.rule.ClassRule.{ClassRule}
+use Rattle.class_rules.specs.declared.rule.ClassRule.TheVariants.{NameTaken}
+use Rattle.class_rules.specs.Additions.{new_class, with_class}
 use Rattle.class_rules.specs.Mangling.{is_class_name}
 use Rattle.classes.specs.Tables.{ArraysHaveElements}
 use Rattle.classes.proofs.ArrayNames.{is_same, element_name, no_array, cases, either-append, first_of_both, second_of_both}

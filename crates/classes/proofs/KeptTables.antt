@@ -10,7 +10,8 @@ use Rattle.classes.specs.declared.built_ins.BuiltIn.{BuiltIn}
 use Rattle.class_rules.specs.Class.{Field, Class, Classes, class_at, class_named, is_plain, array_name}
 use Rattle.class_rules.specs.BuiltIns.{number_array_classes, object_array_class, has_own_making}
 use Rattle.classes.specs.BuiltInList.{listed_class, array_classes, listed_classes, is_class_list}
-use Rattle.class_rules.specs.Additions.{NameTaken, BadSuperclass, BadSignature, TooMany, class_breaks, field_breaks, declared_fields, new_class, with_class}
+use Rattle.class_rules.specs.declared.rule.ClassRule.TheVariants.{NameTaken, BadSuperclass, BadSignature, TooMany}
+use Rattle.class_rules.specs.Additions.{class_breaks, field_breaks, declared_fields, new_class, with_class}
 use Rattle.classes.specs.FieldViews.{declared_as, with_declared}
 use Rattle.class_rules.specs.Grown.{IsGrown, WithClass, WithField, WithStatic}
 use Rattle.base.specs.Options.{some_passes}

@@ -7,10 +7,10 @@ use Rattle.classes.specs.declared.class.FieldHandle.{FieldHandle}
 use Rattle.classes.specs.declared.fields.FieldId.{FieldId as IdInMemory}
 use Rattle.classes.specs.declared.fault.FieldError.{FieldError}
 use Rattle.classes.specs.declared.fault.FieldError.TheVariants as errors
-use Rattle.class_rules.specs.Additions.{ClassRule, with_field, with_static}
+use Rattle.class_rules.specs.declared.rule.ClassRule.{ClassRule}
+use Rattle.class_rules.specs.Additions.{with_field, with_static}
 use Rattle.class_rules.specs.Class.{NumberField, Field, Class, Classes, class_at}
 use Rattle.class_rules.specs.Fields.{FieldId, same_field, own_fields, own_statics, find_field, find_static, type_of_signature}
-use Rattle.classes.specs.Refusals.{rule_view}
 use Rattle.classes.specs.Views.{field_view}
 
 abbrev pub field_id_view : IdInMemory → FieldId
@@ -37,7 +37,7 @@ abbrev pub AnswersField : Option ClassRule → Option ℕ → Result Unit FieldE
 AnswersField broken class (Ok x) = (broken ≡ None) × ((c : ℕ) × (class ≡ Some c))
 AnswersField broken class (Err errors.Memory) = broken ≡ None
 AnswersField broken class (Err errors.NoClass) = (broken ≡ None) × (class ≡ None)
-AnswersField broken class (Err (errors.Refused rule)) = broken ≡ Some (rule_view rule)
+AnswersField broken class (Err (errors.Refused rule)) = broken ≡ Some rule
 
 -- ---- handles
 

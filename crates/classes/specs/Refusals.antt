@@ -1,16 +1,9 @@
 -- Which additions to a table in memory are refused, and with which fault.
 use Rattle.std.specs.Prelude.{◌≡◌, Bool, [], ◌∷◌, find, Option, Some, None, Result, Ok, Err}
-use Rattle.classes.specs.declared.fault.ClassRule.{ClassRule as RuleInMemory}
-use Rattle.classes.specs.declared.fault.ClassRule.TheVariants as held
 use Rattle.classes.specs.declared.fault.ClassError.{ClassError}
 use Rattle.classes.specs.declared.fault.ClassError.TheVariants as errors
-use Rattle.class_rules.specs.Additions.{ClassRule, NameTaken, BadSuperclass, BadSignature, TooMany}
-
-abbrev pub rule_view : RuleInMemory → ClassRule
-rule_view held.NameTaken = NameTaken
-rule_view held.BadSuperclass = BadSuperclass
-rule_view held.BadSignature = BadSignature
-rule_view held.TooMany = TooMany
+use Rattle.class_rules.specs.declared.rule.ClassRule.{ClassRule}
+use Rattle.class_rules.specs.declared.rule.ClassRule.TheVariants.{NameTaken, BadSuperclass, BadSignature, TooMany}
 
 -- the broken rule of the least number
 abbrev pub first_broken : (ClassRule → Bool) → Option ClassRule
@@ -20,4 +13,4 @@ first_broken breaks = find breaks (NameTaken ∷ BadSuperclass ∷ BadSignature 
 abbrev pub Answers : {A : Type 0} → Option ClassRule → (A → Type 0) → Result A ClassError → Type 0
 Answers broken Made (Ok x) = (broken ≡ None) × Made x
 Answers broken Made (Err errors.Memory) = broken ≡ None
-Answers broken Made (Err (errors.Refused rule)) = broken ≡ Some (rule_view rule)
+Answers broken Made (Err (errors.Refused rule)) = broken ≡ Some rule

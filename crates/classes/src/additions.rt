@@ -2,7 +2,6 @@
 
 ghost use Rattle.std.specs.Prelude.{◌≡◌, ◌+◌, Some, None, length, nat_lt, is_ok, if◌then◌else◌, IsTrue, MatchResult};
 ghost use Rattle.std.specs.List.{list_any};
-ghost use Rattle.std.specs.Option.{option_map};
 ghost use Rattle.std.specs.Str.{bytes_eq};
 ghost use Rattle.base.specs.Limits.{most_fields};
 ghost use Rattle.class_rules.specs.ClassIds.{number_of};
@@ -14,14 +13,14 @@ ghost use Rattle.class_rules.specs.Fields.{type_of_signature};
 ghost use Rattle.classes.specs.Views.{field_type_view};
 ghost use Rattle.class_rules.specs.Grown.{IsGrown};
 ghost use Rattle.class_rules.specs.Mangling.{is_class_name};
-ghost use Rattle.classes.specs.Refusals.{rule_view, first_broken, Answers};
+ghost use Rattle.classes.specs.Refusals.{first_broken, Answers};
 
 use crate::built_ins::{CLASS, STRING};
 use crate::class::FieldType;
-use crate::fault::{ClassError, ClassRule, FieldError};
+use crate::fault::{ClassError, FieldError};
 use crate::table::ClassTable;
 use base::limits::{MOST_CLASSES, MOST_FIELDS};
-use class_rules::{ClassId, NO_CLASS};
+use class_rules::{ClassId, ClassRule, NO_CLASS};
 use std::alloc::AllocError;
 
 impl ClassTable {
@@ -37,7 +36,7 @@ impl ClassTable {
         ensures { MatchResult result
             (λ above. (first_broken (λ rule. class_breaks rule self.now name.now superclass.now) ≡ None)
             × (class_named self.now superclass.now ≡ Some above.number))
-            (λ rule. first_broken (λ rule. class_breaks rule self.now name.now superclass.now) ≡ Some (rule_view rule)) }
+            (λ rule. first_broken (λ rule. class_breaks rule self.now name.now superclass.now) ≡ Some rule) }
     {
         if self.find(name).is_some() {
             return Err(ClassRule::NameTaken);
@@ -56,7 +55,7 @@ impl ClassTable {
 
     /// The rule of the least number that a new class breaks.
     pub fn class_rule(&self, name: &[u8], superclass: &[u8]) -> Option<ClassRule>
-        ensures { option_map rule_view result ≡ first_broken (λ rule. class_breaks rule self.now name.now superclass.now) }
+        ensures { result ≡ first_broken (λ rule. class_breaks rule self.now name.now superclass.now) }
     {
         match self.superclass_for(name, superclass) {
             Ok(_) => None,
@@ -111,7 +110,7 @@ impl ClassTable {
         ensures { MatchResult result
             (λ field_type. (first_broken (λ rule. field_breaks rule self.now (number_of class) name.now signature.now) ≡ None)
             × (type_of_signature self.now signature.now ≡ Some (field_type_view field_type)))
-            (λ rule. first_broken (λ rule. field_breaks rule self.now (number_of class) name.now signature.now) ≡ Some (rule_view rule)) }
+            (λ rule. first_broken (λ rule. field_breaks rule self.now (number_of class) name.now signature.now) ≡ Some rule) }
     {
         if self.declares(class, name) {
             return Err(ClassRule::NameTaken);
@@ -125,7 +124,7 @@ impl ClassTable {
 
     /// The rule of the least number that a new field or static of the class of this name breaks.
     pub fn field_rule(&self, class_name: &[u8], name: &[u8], signature: &[u8]) -> Option<ClassRule>
-        ensures { option_map rule_view result ≡ first_broken (λ rule. field_breaks rule self.now (class_named self.now class_name.now) name.now signature.now) }
+        ensures { result ≡ first_broken (λ rule. field_breaks rule self.now (class_named self.now class_name.now) name.now signature.now) }
     {
         match self.type_for(self.find(class_name), name, signature) {
             Ok(_) => None,

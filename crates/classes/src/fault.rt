@@ -4,33 +4,9 @@ ghost use Rattle.std.specs.Prelude.{◌≡◌};
 ghost use Rattle.classes.specs.declared.fault.ClassError.TheVariants.{Memory, Refused};
 ghost use Rattle.classes.specs.declared.fault.FieldError.TheVariants as field;
 
+use class_rules::ClassRule;
 use std::alloc::AllocError;
 use thiserror::Error;
-
-/// A rule that a new class or field breaks.
-#[derive(Clone, Copy, Debug, PartialEq, Eq)]
-pub enum ClassRule {
-    /// There is a class of this name already, or the class declares a field of this name already.
-    NameTaken = 61,
-    /// There is no such superclass, or it has no subclasses.
-    BadSuperclass = 62,
-    /// No type of a field has this signature.
-    BadSignature = 63,
-    /// There are as many as there may be.
-    TooMany = 64,
-}
-
-impl ClassRule {
-    ghost use Rattle.class_rules.specs.Additions.{class_rule_number};
-    ghost use Rattle.classes.specs.Refusals.{rule_view};
-
-    /// The number under which the rule is reported.
-    pub fn number(self) -> u32
-        ensures { result ≡ class_rule_number (rule_view self) }
-    {
-        self as u32
-    }
-}
 
 /// A class or a field is not added.
 #[derive(Clone, Copy, Debug, PartialEq, Eq, Error)]

@@ -10,7 +10,6 @@ ghost use Rattle.region_states.specs.StateEffects.{call_state_effect, made_value
 
 use jni::{Access, JniFunction, StateEffect, function_named};
 use syntax::{Argument, Call, Constant, Form, PlainStmt, Shape};
-use type_rules::{own_call, plain_call};
 
 /// A call: what it does, and its arguments.
 #[derive(Clone, Copy)]
@@ -58,7 +57,7 @@ pub fn called(form: &Form) -> Option<MadeCall<'_>>
     ensures { (line : ℕ) → option_map made_value result
         ≡ option_map call_state_effect (function_called (form_tree line form.now)) }
 {
-    called_by(own_call(form))
+    called_by(form.own_call())
 }
 
 /// What a plain statement calls.
@@ -66,7 +65,7 @@ pub(crate) fn plain_called(plain: &PlainStmt) -> Option<MadeCall<'_>>
     ensures { (line : ℕ) → option_map made_value result
         ≡ option_map call_state_effect (function_called (Plain line (plain_tree plain.now))) }
 {
-    called_by(plain_call(plain))
+    called_by(plain.own_call())
 }
 
 /// The bare name that an argument is.

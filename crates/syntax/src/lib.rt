@@ -9,6 +9,7 @@ mod expr_stack;
 mod name;
 mod node;
 mod null_test;
+mod own_call;
 mod stmt;
 mod unit;
 

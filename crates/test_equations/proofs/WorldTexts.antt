@@ -7,7 +7,7 @@ use Rattle.class_rules.specs.Class.{assignable}
 use Rattle.class_rules.specs.BuiltIns.{built_ins}
 use Rattle.class_rules.specs.Fields.{layout, type_of_signature}
 use Rattle.class_rules.specs.Mangling.{unmangle}
-use Rattle.class_rules.specs.Additions.{NameTaken, BadSuperclass, BadSignature}
+use Rattle.class_rules.specs.declared.rule.ClassRule.TheVariants.{NameTaken, BadSuperclass, BadSignature}
 use Rattle.world.specs.ReadingWorlds.{world_of_text}
 use Rattle.world_values.specs.WorldLines.{ClassLine, FieldLine, ObjectLine, ArrayLine, StringLine, ThreadLine, CallLine, NumberValue, NullValue, NamedObject, NamedClass, Lines}
 use Rattle.world_values.specs.WorldMeaning.{world_of, cells_of}

@@ -1,9 +1,9 @@
 //! Class tables: each public call once with success.
 
-use class_rules::{ClassId, NO_CLASS};
+use class_rules::{ClassId, ClassRule, NO_CLASS};
 use classes::built_ins::{is_after_built_ins, number_array};
 use classes::class::{ClassKind, ElementType, FieldType};
-use classes::fault::{ClassError, ClassRule, FieldError};
+use classes::fault::{ClassError, FieldError};
 use classes::table::ClassTable;
 use std::alloc::Global;
 use std::test::Fail;

@@ -1,14 +1,12 @@
 //! Which units are well-typed: the rules on names and types, names that are known, and units that keep the rules.
 #![tactic(auto)]
 
-mod calls;
 mod known;
 mod names;
 mod rule;
 mod ty;
 mod typed;
 
-pub use calls::{own_call, plain_call};
 pub use known::Known;
 pub use names::{Question, first_name};
 pub use rule::TypeRule;

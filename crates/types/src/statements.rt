@@ -39,13 +39,13 @@ use std::alloc::AllocError;
 use syntax::{
     Call, DeclaredType, ExprRef, Form, Name, PlainStmt, ResultType, RightSide, Stmt, Test,
 };
-use type_rules::{ExprType, Known, TypeRule, declared_type, own_call, variable_type};
+use type_rules::{ExprType, Known, TypeRule, declared_type, variable_type};
 
 /// The function that a statement calls, if it is known.
 pub(crate) fn function_called(form: &Form) -> Option<JniFunction>
     ensures { (line : ℕ) → result ≡ function_in (own_call (form_tree line form.now)) }
 {
-    match own_call(form) {
+    match form.own_call() {
         Some(call) => function_named(call.function.as_bytes()),
         None => None,
     }
@@ -118,7 +118,7 @@ fn names_unknown(known: &Known<'_, ExprType>, form: &Form, misfits: bool) -> boo
     ensures { (line : ℕ) → result ≡ breaks_type_rule UnknownName known.now [] Void
         (form_tree line form.now) }
 {
-    if !misfits && own_call(form).is_none() {
+    if !misfits && form.own_call().is_none() {
         return false;
     }
     uses_unknown(known, form) || assigns_unknown(known, form)
@@ -288,7 +288,7 @@ fn call_misfits(known: &Known<'_, ExprType>, form: &Form, function: Option<JniFu
         (call_expressions c)) || not (call_arguments_fit known.now c (function_named c.function)))
         (own_call (form_tree line form.now)) }
 {
-    match own_call(form) {
+    match form.own_call() {
         Some(call) => !call_formed(known, call) || !call_arguments_fit(known, function, call),
         None => false,
     }
@@ -314,7 +314,7 @@ fn calls_unknown(form: &Form, function: Option<JniFunction>) -> bool
     requires { (line : ℕ) → function ≡ function_in (own_call (form_tree line form.now)) }
     ensures { (line : ℕ) → result ≡ breaks_type_rule UnknownFunction [] [] Void (form_tree line form.now) }
 {
-    match own_call(form) {
+    match form.own_call() {
         Some(_) => function.is_none(),
         None => false,
     }
@@ -325,7 +325,7 @@ fn miscounts(form: &Form, function: Option<JniFunction>) -> bool
     requires { (line : ℕ) → function ≡ function_in (own_call (form_tree line form.now)) }
     ensures { (line : ℕ) → result ≡ breaks_type_rule ArgumentCount [] [] Void (form_tree line form.now) }
 {
-    match own_call(form) {
+    match form.own_call() {
         Some(call) => has_wrong_count(function, call),
         None => false,
     }
@@ -336,7 +336,7 @@ fn has_bad_mode(form: &Form, function: Option<JniFunction>) -> bool
     requires { (line : ℕ) → function ≡ function_in (own_call (form_tree line form.now)) }
     ensures { (line : ℕ) → result ≡ breaks_type_rule BadMode [] [] Void (form_tree line form.now) }
 {
-    match own_call(form) {
+    match form.own_call() {
         Some(call) => has_wrong_mode(function, call),
         None => false,
     }

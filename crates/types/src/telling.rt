@@ -12,7 +12,7 @@ use syntax::{
     Argument, BinaryOp, Call, Constant, DeclaredType, ElementType, ExprRef, Form, Function, Name,
     PlainStmt, PrefixOp, ResultType, RightSide, Shape, Test,
 };
-use type_rules::{ExprType, Known, Question, TypeRule, declared_type, first_name, own_call};
+use type_rules::{ExprType, Known, Question, TypeRule, declared_type, first_name};
 
 /// An element type in C's words.
 fn element_words(element: ElementType) -> &'static [u8] {
@@ -461,7 +461,7 @@ fn misfit_form(known: &Known<'_, ExprType>, returns: ResultType, form: &Form) ->
     if !statement_fits(known, returns, form, function) {
         return misfit_statement(known, returns, form, function);
     }
-    match own_call(form) {
+    match form.own_call() {
         None => Detail::none(),
         Some(call) => misfit_call(known, call, function),
     }
@@ -562,7 +562,7 @@ pub(crate) fn statement_detail(
             _ => Detail::none(),
         },
         TypeRule::UnknownFunction | TypeRule::ArgumentCount | TypeRule::BadMode => {
-            match own_call(form) {
+            match form.own_call() {
                 Some(call) => call_detail(call, rule),
                 None => Detail::none(),
             }

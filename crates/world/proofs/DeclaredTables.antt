@@ -13,7 +13,9 @@ use Rattle.base.specs.declared.element.ElementType.TheVariants.{Int as JInt}
 use Rattle.base.specs.Options.{some_passes}
 use Rattle.base.proofs.Lists.{all_at}
 use Rattle.base.proofs.Options.{none_there}
-use Rattle.class_rules.specs.Additions.{ClassRule, NameTaken, new_class, with_class, with_changed_class, declared_fields, built_in_count}
+use Rattle.class_rules.specs.declared.rule.ClassRule.{ClassRule}
+use Rattle.class_rules.specs.declared.rule.ClassRule.TheVariants.{NameTaken}
+use Rattle.class_rules.specs.Additions.{new_class, with_class, with_changed_class, declared_fields, built_in_count}
 use Rattle.class_rules.specs.BuiltIns.{built_ins, class_class, string_class, throwable_class, object_array_class, has_own_making}
 use Rattle.class_rules.specs.Class.{Field, FieldType, NumberField, ReferenceField, Plain, ArrayOfObjects, Class, Classes, class_at, class_named, class_kind, is_plain, superclass, above, ancestry_within, array_name, array_class_of}
 use Rattle.class_rules.specs.Fields.{FieldId, own_fields, own_statics, signature, field_types, type_of_signature}

@@ -6,7 +6,8 @@ use Rattle.std.proofs.lemmas.Bool.{and_parts, not-false}
 use Rattle.std.proofs.lemmas.List.{length-map}
 use Rattle.base.specs.Bytes.{Identifier, ByName}
 use Rattle.base.specs.Options.{some_passes}
-use Rattle.class_rules.specs.Additions.{BadSuperclass, class_breaks, new_class, with_class}
+use Rattle.class_rules.specs.declared.rule.ClassRule.TheVariants.{BadSuperclass}
+use Rattle.class_rules.specs.Additions.{class_breaks, new_class, with_class}
 use Rattle.class_rules.specs.BuiltIns.{built_ins, has_own_making, string_class, number_array, root_class}
 use Rattle.class_rules.specs.Class.{Class, Classes, class_at, class_named, array_name}
 use Rattle.semantics.specs.Object.{ObjectValue, Number}

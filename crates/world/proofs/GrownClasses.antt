@@ -5,7 +5,9 @@ use Rattle.std.proofs.lemmas.Bool.{not-true, not-false}
 use Rattle.base.specs.Bytes.{Identifier}
 use Rattle.base.specs.Options.{some_passes}
 use Rattle.base.proofs.Options.{none_there}
-use Rattle.class_rules.specs.Additions.{ClassRule, NameTaken, BadSuperclass, class_breaks}
+use Rattle.class_rules.specs.declared.rule.ClassRule.{ClassRule}
+use Rattle.class_rules.specs.declared.rule.ClassRule.TheVariants.{NameTaken, BadSuperclass}
+use Rattle.class_rules.specs.Additions.{class_breaks}
 use Rattle.class_rules.specs.BuiltIns.{built_ins, has_own_making}
 use Rattle.class_rules.specs.Class.{Classes, class_kind, class_named, is_plain}
 use Rattle.class_rules.specs.Grown.{IsGrown, BuiltIns, WithClass, WithField, WithStatic}

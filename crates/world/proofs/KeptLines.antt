@@ -3,7 +3,8 @@ use Rattle.std.proofs.Common.{◌≡◌, ℕ, ◌≤◌, Bool, true, false, cond
 use Rattle.std.specs.Prelude.{not, ◌&&◌, ◌||◌, nat_lt, nat_le, filter}
 use Rattle.std.specs.List.{list_all}
 use Rattle.std.proofs.lemmas.Bool.{and_parts, or_parts, not-false, leb-true, ltb-false}
-use Rattle.class_rules.specs.Additions.{ClassRule, NameTaken, BadSuperclass, BadSignature, TooMany}
+use Rattle.class_rules.specs.declared.rule.ClassRule.{ClassRule}
+use Rattle.class_rules.specs.declared.rule.ClassRule.TheVariants.{NameTaken, BadSuperclass, BadSignature, TooMany}
 use Rattle.world_schedules.specs.LineRules.{LineRule, OfClass, LineForm, WrongName, OutOfLimit, HeapFull, line_rules}
 use Rattle.world_values.specs.declared.part.Part.TheVariants as parts
 use Rattle.world_values.specs.WorldLines.{WorldLine, Lines}

@@ -6,7 +6,7 @@ use Rattle.std.proofs.lemmas.Bool.{and_from, and_parts, not-true, leb-true}
 use Rattle.base.specs.Bytes.{ByName, lookup}
 use Rattle.base.specs.declared.element.ElementType.TheVariants.{Int as JInt}
 use Rattle.base.specs.Options.{some_passes}
-use Rattle.class_rules.specs.Additions.{ClassRule}
+use Rattle.class_rules.specs.declared.rule.ClassRule.{ClassRule}
 use Rattle.class_rules.specs.Class.{FieldType, NumberField, ReferenceField, Classes}
 use Rattle.world_schedules.specs.LineRules.{LineRule, LineForm}
 use Rattle.world.specs.Gathered.{Gathered, comes_in_order, is_named, has_place, is_known, each_can_hold, can_hold, least_broken, least_rule}

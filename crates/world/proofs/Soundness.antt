@@ -8,7 +8,9 @@ use Rattle.std.proofs.lemmas.List.Folds.{list_all-append, list_any-append}
 use Rattle.std.proofs.lemmas.List.{length-map}
 use Rattle.base.specs.Bytes.{Identifier}
 use Rattle.base.specs.declared.element.ElementType.TheVariants.{Int as JInt}
-use Rattle.class_rules.specs.Additions.{ClassRule, NameTaken, BadSuperclass, BadSignature, TooMany, new_class, with_methods}
+use Rattle.class_rules.specs.declared.rule.ClassRule.{ClassRule}
+use Rattle.class_rules.specs.declared.rule.ClassRule.TheVariants.{NameTaken, BadSuperclass, BadSignature, TooMany}
+use Rattle.class_rules.specs.Additions.{new_class, with_methods}
 use Rattle.class_rules.specs.BuiltIns.{built_ins, incompatible_class_change_error, no_such_method_error, out_of_memory_error}
 use Rattle.class_rules.specs.Class.{Classes, class_at}
 use Rattle.class_rules.specs.Grown.{HasMethodError}

@@ -5,7 +5,8 @@ use Rattle.std.specs.List.{list_all}
 use Rattle.base.specs.Limits.{most_calls}
 use Rattle.base.specs.Bytes.{Identifier, ByName, lookup}
 use Rattle.base.specs.Options.{some_passes}
-use Rattle.class_rules.specs.Additions.{ClassRule, new_class, with_class, with_field, with_static, with_methods}
+use Rattle.class_rules.specs.declared.rule.ClassRule.{ClassRule}
+use Rattle.class_rules.specs.Additions.{new_class, with_class, with_field, with_static, with_methods}
 use Rattle.class_rules.specs.BuiltIns.{class_class, string_class, number_array}
 use Rattle.class_rules.specs.Class.{FieldType, NumberField, ReferenceField, Classes, class_named, array_name, assignable}
 use Rattle.semantics.specs.Object.{ObjectValue, Number, Refers, Object, object_size}

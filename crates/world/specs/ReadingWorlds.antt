@@ -2,7 +2,7 @@
 use Rattle.std.specs.Prelude.{ℕ, ◌&&◌, List, [], ◌∷◌, ◌++◌, Option, Some, None, Result, Ok, nat_le, if◌then◌else◌}
 use Rattle.std.specs.List.{list_any}
 use Rattle.base.specs.Limits.{least_cells, most_cells}
-use Rattle.class_rules.specs.Additions.{NameTaken, BadSuperclass, BadSignature, TooMany}
+use Rattle.class_rules.specs.declared.rule.ClassRule.TheVariants.{NameTaken, BadSuperclass, BadSignature, TooMany}
 use Rattle.world_schedules.specs.LineRules.{LineRule, OfClass, LineForm, WrongName, OutOfLimit, HeapFull}
 use Rattle.world_schedules.specs.Reading.{◌>>=◌, refused}
 use Rattle.world_schedules.specs.declared.fault.Rule.{Rule}

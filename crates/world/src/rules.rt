@@ -6,7 +6,6 @@ ghost use Rattle.std.specs.List.{list_all};
 ghost use Rattle.base.specs.Limits.{most_calls};
 ghost use Rattle.base.specs.Bytes.{lookup};
 ghost use Rattle.base.specs.Options.{some_passes};
-ghost use Rattle.classes.specs.Refusals.{rule_view};
 ghost use Rattle.classes.specs.Views.{field_type_view};
 ghost use Rattle.world_schedules.specs.LineRules.{OfClass};
 ghost use Rattle.world_schedules.specs.Rule.{rule_of};
@@ -21,11 +20,10 @@ ghost use Rattle.world_values.specs.WorldRules.{part_of, is_class_allowed, layou
 use crate::builder::WorldBuilder;
 use crate::names::ObjectNames;
 use base::limits::{MOST_CALLS, MOST_OBJECTS, MOST_THREADS};
-use class_rules::{ClassId, NO_CLASS};
+use class_rules::{ClassId, ClassRule, NO_CLASS};
 use classes::LayoutFields;
 use classes::built_ins::CLASS;
 use classes::class::FieldType;
-use classes::fault::ClassRule;
 use classes::table::ClassTable;
 use world_lines::{
     Line, Value, broken_class_rule, cells_added, class_number, each_in_range, is_call,
@@ -165,7 +163,7 @@ fn is_named(methods: bool, classes: &ClassTable, names: &ObjectNames, line: &Lin
 }
 
 fn held_rule(rule: ClassRule) -> Rule
-    ensures { rule_of result ≡ OfClass (rule_view rule) }
+    ensures { rule_of result ≡ OfClass rule }
 {
     match rule {
         ClassRule::NameTaken => Rule::NameTaken,

@@ -2,7 +2,7 @@
 use Rattle.std.specs.Prelude.{Bool, true, ◌&&◌, Option, Some, None}
 use Rattle.std.specs.List.{list_all}
 use Rattle.base.specs.declared.element.ElementType.TheVariants.{Int as JInt}
-use Rattle.class_rules.specs.Additions.{ClassRule}
+use Rattle.class_rules.specs.declared.rule.ClassRule.{ClassRule}
 use Rattle.class_rules.specs.Class.{FieldType, NumberField, ReferenceField, Classes}
 use Rattle.classes.specs.Refusals.{first_broken}
 use Rattle.world_values.specs.WorldLines.{WorldValue, WorldLine}

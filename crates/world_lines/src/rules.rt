@@ -5,7 +5,7 @@ ghost use Rattle.std.specs.Option.{option_map};
 ghost use Rattle.base.specs.Options.{some_passes};
 ghost use Rattle.class_rules.specs.Additions.{class_breaks};
 ghost use Rattle.class_rules.specs.Class.{class_named, class_kind, is_plain};
-ghost use Rattle.classes.specs.Refusals.{rule_view, first_broken};
+ghost use Rattle.classes.specs.Refusals.{first_broken};
 ghost use Rattle.classes.specs.Views.{field_type_view};
 ghost use Rattle.world_lines.specs.ClassRules.{broken_class_rule, is_formed, is_place_in_range};
 ghost use Rattle.world_lines.specs.LineContents.{written_values};
@@ -19,15 +19,14 @@ use crate::line::{Line, ObjectWords};
 use crate::ranges::{are_in_range, is_value_in_range};
 use crate::value::Value;
 use crate::words::{is_class_name, is_simple_name};
-use class_rules::{ClassId, NO_CLASS};
+use class_rules::{ClassId, ClassRule, NO_CLASS};
 use classes::LayoutFields;
 use classes::built_ins::is_after_built_ins;
 use classes::class::{ElementType, FieldType};
-use classes::fault::ClassRule;
 use classes::table::ClassTable;
 
 fn class_rule(classes: &ClassTable, name: &[u8], superclass: Option<&[u8]>) -> Option<ClassRule>
-    ensures { option_map rule_view result ≡ first_broken (λ rule. class_breaks rule classes.now name.now
+    ensures { result ≡ first_broken (λ rule. class_breaks rule classes.now name.now
         (unwrap_or (option_map (λ s. s.now) superclass.entry) (codes "java/lang/Object"))) }
 {
     match superclass {
@@ -38,7 +37,7 @@ fn class_rule(classes: &ClassTable, name: &[u8], superclass: Option<&[u8]>) -> O
 
 /// The least rule on classes and fields that a line breaks.
 pub fn broken_class_rule(classes: &ClassTable, line: &Line) -> Option<ClassRule>
-    ensures { option_map rule_view result ≡ broken_class_rule classes.now (line_view line.now) }
+    ensures { result ≡ broken_class_rule classes.now (line_view line.now) }
 {
     match line {
         Line::Class(name, superclass) => class_rule(classes, *name, *superclass),

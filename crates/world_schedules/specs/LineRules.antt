@@ -1,6 +1,8 @@
 -- Why a line of a text is refused.
 use Rattle.std.specs.Prelude.{ℕ, List, ◌∷◌, []}
-use Rattle.class_rules.specs.Additions.{ClassRule, NameTaken, BadSuperclass, BadSignature, TooMany, class_rule_number}
+use Rattle.class_rules.specs.declared.rule.ClassRule.{ClassRule}
+use Rattle.class_rules.specs.declared.rule.ClassRule.TheVariants.{NameTaken, BadSuperclass, BadSignature, TooMany}
+use Rattle.class_rules.specs.Additions.{class_rule_number}
 
 -- why a line is refused
 pub data LineRule : Type 0 where

@@ -1,6 +1,6 @@
 -- The rules that a line breaks, as they are held in memory.
 use Rattle.std.specs.Prelude.{ℕ}
-use Rattle.class_rules.specs.Additions.{NameTaken, BadSuperclass, BadSignature, TooMany}
+use Rattle.class_rules.specs.declared.rule.ClassRule.TheVariants.{NameTaken, BadSuperclass, BadSignature, TooMany}
 use Rattle.world_schedules.specs.declared.fault.Rule.{Rule}
 use Rattle.world_schedules.specs.declared.fault.Rule.TheVariants as held
 use Rattle.world_schedules.specs.LineRules.{LineRule, OfClass, LineForm, WrongName, OutOfLimit, HeapFull, line_rule_number}

@@ -9,7 +9,8 @@ use Rattle.base.specs.Options.{some_passes}
 use Rattle.class_rules.specs.Class.{FieldType, NumberField, ReferenceField, Classes, class_named, class_kind, is_plain, assignable}
 use Rattle.class_rules.specs.BuiltIns.{class_class, has_own_making}
 use Rattle.class_rules.specs.Fields.{FieldId, layout}
-use Rattle.class_rules.specs.Additions.{ClassRule, class_breaks, field_breaks, built_in_count}
+use Rattle.class_rules.specs.declared.rule.ClassRule.{ClassRule}
+use Rattle.class_rules.specs.Additions.{class_breaks, field_breaks, built_in_count}
 use Rattle.world_schedules.specs.LineRules.{LineRule, OfClass, LineForm, WrongName, OutOfLimit, HeapFull, line_rules}
 use Rattle.class_rules.specs.Mangling.{is_simple_name, is_class_name}
 use Rattle.semantics.specs.World.{World}

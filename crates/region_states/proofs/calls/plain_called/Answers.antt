@@ -6,4 +6,4 @@ use Rattle.region_states.specs.StateEffects.{call_state_effect}
 use Rattle.region_states.proofs.calls.plain_called.Goals as goal
 
 pub returns : goal.returns
-returns c = λ line. c.called_by.ensures ∙ ap (λ (o : Option Call). option_map call_state_effect (call_of o)) (c.plain_call.ensures line)
+returns c = λ line. c.called_by.ensures ∙ ap (λ (o : Option Call). option_map call_state_effect (call_of o)) (c.own_call.ensures line)
