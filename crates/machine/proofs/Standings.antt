@@ -22,7 +22,7 @@ use Rattle.code_meaning.specs.Lowered.{Lowered}
 use Rattle.machine_scenes.specs.declared.store.Store.{Store}
 use Rattle.machine_threads.specs.declared.thread.Thread.{Thread}
 use Rattle.machine_threads.proofs.ThreadLoads.{agree_length}
-use Rattle.semantics.specs.EventViews.{ending_view, stop_view}
+use Rattle.semantics.specs.EventViews.{stop_view}
 use Rattle.semantics.specs.declared.event.Stop.{Stop}
 use Rattle.machine.specs.Run.{Run, Corresponds, InState, Waits, AllRest, ShowsStandings, all_rest, is_resting, standings_in, slices_of}
 use Rattle.machine.proofs.OwnerSteps.{Found, found}
@@ -120,24 +120,24 @@ module _ (p : Lowered) (world : World) (store : Store) (ts : List Thread) (print
     placed : slice_get (enumerate_from 1 c.state.threads) i ≡ Some (k, the_thread.source)
     placed = let number : 1 + i ≡ k = omega (arith, counted) in numbered_at c.state.threads 1 i the_thread.source the_thread.is ∙ ap (λ (n : ℕ). Some (n, the_thread.source)) number
 
-    standing_same : standing_of world.classes c.state k the_thread.source c.state.stop ≡ standing_at world.classes waits (option_map stop_view stop) k (ending_view t.ending)
+    standing_same : standing_of world.classes c.state k the_thread.source c.state.stop ≡ standing_at world.classes waits (option_map stop_view stop) k t.ending
     standing_same = λ j. standing_at world.classes (sym blocked j) (c.same_stop j) k (the_thread.agrees.ending j)
 
     -- one standing more
-    pub standing_more : (standings : List ThreadStanding) → standings_told standings i → standings_told (standings ++ standing_at world.classes waits (option_map stop_view stop) k (ending_view t.ending) ∷ []) (i + 1)
+    pub standing_more : (standings : List ThreadStanding) → standings_told standings i → standings_told (standings ++ standing_at world.classes waits (option_map stop_view stop) k t.ending ∷ []) (i + 1)
     standing_more standings h =
         let before : standings ≡ take i (standings_in world.classes c.state) = known (λ r s. standings ≡ take i (standings_in r.world.classes s)) h in
         let f : ℕ × source.Thread → ThreadStanding = λ x. standing_of world.classes c.state x.0 x.1 c.state.stop in
-        told (λ r s. (standings ++ standing_at world.classes waits (option_map stop_view stop) k (ending_view t.ending) ∷ []) ≡ take (i + 1) (standings_in r.world.classes s))
-        (ap (λ (l : List ThreadStanding). l ++ standing_at world.classes waits (option_map stop_view stop) k (ending_view t.ending) ∷ []) before
+        told (λ r s. (standings ++ standing_at world.classes waits (option_map stop_view stop) k t.ending ∷ []) ≡ take (i + 1) (standings_in r.world.classes s))
+        (ap (λ (l : List ThreadStanding). l ++ standing_at world.classes waits (option_map stop_view stop) k t.ending ∷ []) before
         ∙ ap (λ (x : ThreadStanding). take i (standings_in world.classes c.state) ++ x ∷ []) (sym standing_same)
         ∙ sym (take_next (standings_in world.classes c.state) i (f (k, the_thread.source)) (slice_get-map f (enumerate_from 1 c.state.threads) i ∙ ap (option_map f) placed)))
 
-    resting_same : is_resting world.classes c.state (k, the_thread.source) ≡ (not (is_unfinished (ending_view t.ending)) || waits)
+    resting_same : is_resting world.classes c.state (k, the_thread.source) ≡ (not (is_unfinished t.ending) || waits)
     resting_same = λ j. not (is_unfinished (the_thread.agrees.ending j)) || sym blocked j
 
     -- one more that rests
-    pub rest_more : (not (is_unfinished (ending_view t.ending)) || waits) ≡ true → rest_told i → rest_told (i + 1)
+    pub rest_more : (not (is_unfinished t.ending) || waits) ≡ true → rest_told i → rest_told (i + 1)
     rest_more rests h =
         let before = known (λ r s. list_all (is_resting r.world.classes s) (take i (enumerate_from 1 s.threads)) ≡ true) h in
         let next : suc i ≡ i + 1 = omega arith in
@@ -146,11 +146,11 @@ module _ (p : Lowered) (world : World) (store : Store) (ts : List Thread) (print
         (all_more (is_resting world.classes c.state) (enumerate_from 1 c.state.threads) i (k, the_thread.source) placed (resting_same ∙ rests) before))
 
     -- one that doesn't
-    pub goes_on : (not (is_unfinished (ending_view t.ending)) || waits) ≡ false → AllRest now false
+    pub goes_on : (not (is_unfinished t.ending) || waits) ≡ false → AllRest now false
     goes_on moves = told (λ r s. false ≡ all_rest r.world.classes s) (sym (one_fails (is_resting world.classes c.state) (enumerate_from 1 c.state.threads) i (k, the_thread.source) placed (resting_same ∙ moves)))
 
   -- one more that has ended, whether it waits or not
-  pub ended_more : (k i : ℕ) (t : Thread) → k ≡ suc i → slice_get ts i ≡ Some t → is_unfinished (ending_view t.ending) ≡ false → rest_told i → rest_told (i + 1)
+  pub ended_more : (k i : ℕ) (t : Thread) → k ≡ suc i → slice_get ts i ≡ Some t → is_unfinished t.ending ≡ false → rest_told i → rest_told (i + 1)
   ended_more k i t counted at over =
       let waits : Bool = is_blocked world.classes c.state k in
       rest_more k i t counted at waits (told (λ r s. waits ≡ is_blocked r.world.classes s k) refl) (ap (λ b. not b || waits) over)

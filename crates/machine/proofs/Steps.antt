@@ -39,7 +39,7 @@ use Rattle.semantics.specs.declared.event.Event.{Event}
 use Rattle.semantics.specs.declared.event.Event.TheVariants as event
 use Rattle.machine_threads.specs.declared.thread.Thread.{Thread}
 use Rattle.semantics.specs.declared.event.Stop.{Stop}
-use Rattle.semantics.specs.EventViews.{ending_view, event_view, printed_after, stop_after, stop_view}
+use Rattle.semantics.specs.EventViews.{printed_after, stop_after, stop_view}
 use Rattle.machine_scenes.specs.declared.store.Store.{Store}
 use Rattle.machine_steps.specs.Executes.{IsSteady, cells_made, in_use_with}
 use Rattle.machine_scenes.specs.Buffers.{Acquired, SameAcquired, acquired_by, beside}
@@ -65,26 +65,26 @@ use Rattle.semantics_safety.specs.Owners.{AllOwners, ThreadOwners, after_advance
 
 -- the state after a step of thread k
 abbrev pub next_state : State → ℕ → Shared → source.Thread → Event → State
-next_state s k shared t e = with_event (record s { shared = shared; threads = set_thread s.threads k t }) k (event_view e)
+next_state s k shared t e = with_event (record s { shared = shared; threads = set_thread s.threads k t }) k e
 
 printed_next : (s : State) (k : ℕ) (shared : Shared) (t : source.Thread) (e : Event) → (next_state s k shared t e).printed ≡ printed_after s.printed k e
 printed_next s k shared t event.Quiet = refl
-printed_next s k shared t (event.Printed z) = refl
+printed_next s k shared t (event.PrintedNumber z) = refl
 printed_next s k shared t (event.Trapped trap line) = refl
 
 stop_next : (s : State) (k : ℕ) (shared : Shared) (t : source.Thread) (e : Event) (stop : Option Stop) → s.stop ≡ option_map stop_view stop → (next_state s k shared t e).stop ≡ option_map stop_view (stop_after stop k e)
 stop_next s k shared t event.Quiet stop h = h
-stop_next s k shared t (event.Printed z) stop h = h
+stop_next s k shared t (event.PrintedNumber z) stop h = h
 stop_next s k shared t (event.Trapped trap line) stop h = refl
 
 shared_next : (s : State) (k : ℕ) (shared : Shared) (t : source.Thread) (e : Event) → (next_state s k shared t e).shared ≡ shared
 shared_next s k shared t event.Quiet = refl
-shared_next s k shared t (event.Printed z) = refl
+shared_next s k shared t (event.PrintedNumber z) = refl
 shared_next s k shared t (event.Trapped trap line) = refl
 
 threads_next : (s : State) (k : ℕ) (shared : Shared) (t : source.Thread) (e : Event) → (next_state s k shared t e).threads ≡ set_thread s.threads k t
 threads_next s k shared t event.Quiet = refl
-threads_next s k shared t (event.Printed z) = refl
+threads_next s k shared t (event.PrintedNumber z) = refl
 threads_next s k shared t (event.Trapped trap line) = refl
 
 -- thread k took this step, whatever state it stands for
@@ -94,7 +94,7 @@ StepsAlways p w k store store' t after refused e = HoldsAlways p w k store t (λ
 -- what prints nothing
 pub none_printed : (printed : List Printed) (k : ℕ) (e : Event) → IsSilent e → printed_after printed k e ≡ printed
 none_printed printed k event.Quiet h = refl
-none_printed printed k (event.Printed z) h = absurd h
+none_printed printed k (event.PrintedNumber z) h = absurd h
 none_printed printed k (event.Trapped trap line) h = refl
 
 -- ---- where a step is taken
@@ -104,7 +104,7 @@ pub not_stopped : (o : Option Stop) → is_some o ≡ false → o ≡ None
 not_stopped None h = refl
 not_stopped (Some x) h = absurd (cc)
 
-pub is_live : (e : Ending) → is_unfinished (ending_view e) ≡ true → e ≡ Unfinished
+pub is_live : (e : Ending) → is_unfinished e ≡ true → e ≡ Unfinished
 is_live Unfinished h = refl
 is_live Ended h = absurd (cc)
 is_live (Uncaught class) h = absurd (cc)
@@ -153,9 +153,9 @@ has_room p w store s next k shares named room step some =
 
 -- the cells of what a step makes
 made_cells : (s : State) (k : ℕ) (a : source.Advance) → sizes (made_between s (advanced_to s k a)) ≡ cells_made s.shared a
-made_cells s k (source.Advances shared t source.Quiet) = refl
-made_cells s k (source.Advances shared t (source.PrintedNumber z)) = refl
-made_cells s k (source.Advances shared t (source.Trapped trap line)) = refl
+made_cells s k (source.Advances shared t event.Quiet) = refl
+made_cells s k (source.Advances shared t (event.PrintedNumber z)) = refl
+made_cells s k (source.Advances shared t (event.Trapped trap line)) = refl
 made_cells s k source.NoAdvance = refl
 
 -- ---- thread k is the one at k - 1
@@ -243,7 +243,7 @@ module _ (p : Lowered) (world : World) (store : Store) (ts : List Thread) (print
   ready free = sym waits_here ∙ free
 
   steps_here : stop ≡ None → t.ending ≡ Unfinished → Free → Steps classes c.state k the_thread.source
-  steps_here goes live free = steps classes c.state k the_thread.source (running goes) there (the_thread.agrees.ending ∙ ap ending_view live) (ready free)
+  steps_here goes live free = steps classes c.state k the_thread.source (running goes) there (the_thread.agrees.ending ∙ live) (ready free)
 
   pub can_turn_here : stop ≡ None → t.ending ≡ Unfinished → Free → can_step classes c.state k ≡ true
   can_turn_here goes live free = (steps_here goes live free).can
@@ -258,7 +258,7 @@ module _ (p : Lowered) (world : World) (store : Store) (ts : List Thread) (print
         parts.2,
       )
 
-  is_over : (e : Ending) → (e ≡ Unfinished → ⊥) → is_unfinished (ending_view e) ≡ false
+  is_over : (e : Ending) → (e ≡ Unfinished → ⊥) → is_unfinished e ≡ false
   is_over Unfinished h = absurd (h refl)
   is_over Ended h = refl
   is_over (Uncaught class) h = refl
@@ -268,7 +268,7 @@ module _ (p : Lowered) (world : World) (store : Store) (ts : List Thread) (print
 
   -- that it isn't at rest, by the state
   pub awake_here : stop ≡ None → t.ending ≡ Unfinished → (c.state.stop ≡ None) × (is_live_thread (thread_at c.state k) ≡ true)
-  awake_here goes live = (running goes, ap is_live_thread there ∙ ap is_unfinished (the_thread.agrees.ending ∙ ap ending_view live))
+  awake_here goes live = (running goes, ap is_live_thread there ∙ ap is_unfinished (the_thread.agrees.ending ∙ live))
 
   -- what is asked of the entry
   fits_entry : (refused : Bool) (next : State) → sizes (drop (length c.state.shared.heap) next.shared.heap) ≤ left_of store.heap → turn_step (unit_tree p.unit) classes c.state k refused ≡ Some next → FitsUnmarked (unit_tree p.unit) world c.state (Step k refused)
@@ -353,14 +353,14 @@ module _ (p : Lowered) (world : World) (store : Store) (ts : List Thread) (print
         replays = replayed;
         store_agrees = shares;
         threads_agree =
-            let own = after_advance (unit_tree p.unit) classes k c.state.shared f.source (owners k) (source.Advances a.next_shared a.next (event_view e)) in
+            let own = after_advance (unit_tree p.unit) classes k c.state.shared f.source (owners k) (source.Advances a.next_shared a.next e) in
             let now : AllOwners = with_owners owners k own in
             let less = slice_get_within ts i t at in
             let few = c.few in
             let numbered : (0 < k) × (k ≤ 8) = (omega (arith, counted), omega (arith, counted, less, few)) in
             let numbers : (0 < 1) × (1 + length ts ≤ 9) = (omega arith, omega (arith, few)) in
             subst (λ (o : AllOwners). ThreadsAgree p classes store'.heap store'.elements count_made o 1 next.shared (slice_set ts i after) next.threads)
-            (sym (owners_stepped (unit_tree p.unit) world journal c.state k refused f.source (source.Advances a.next_shared a.next (event_view e)) c.replays there
+            (sym (owners_stepped (unit_tree p.unit) world journal c.state k refused f.source (source.Advances a.next_shared a.next e) c.replays there
             (ap (λ (u : BuffersInUse). thread_step (unit_tree p.unit) classes u k c.state.shared f.source refused) used ∙ a.steps)))
             (subst (λ (x : Shared). ThreadsAgree p classes store'.heap store'.elements count_made now 1 x (slice_set ts i after) next.threads) (sym shared_is)
             (subst (ThreadsAgree p classes store'.heap store'.elements count_made now 1 a.next_shared (slice_set ts i after)) (sym threads_is)

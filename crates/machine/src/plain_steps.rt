@@ -267,7 +267,7 @@ fn take_in_code(
                     next: Next::Stop,
                 };
             }
-            AtOnce::Did(Event::Printed(_)) => unreachable!(),
+            AtOnce::Did(Event::PrintedNumber(_)) => unreachable!(),
         }
     }
     Taken {

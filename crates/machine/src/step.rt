@@ -1,7 +1,7 @@
 //! A step of the machine, and what it is made of.
 
 ghost use Rattle.std.specs.Prelude.{◌≡◌, ◌+◌, ◌<◌, ◌≤◌, ◌^◌, [], ◌∷◌, ◌++◌, length, slice_get, IfOk, OnOk, OnErr, IsSome, is_some, vec_len, vec_capacity};
-ghost use Rattle.semantics.specs.EventViews.{ending_view, printed_after, stop_after};
+ghost use Rattle.semantics.specs.EventViews.{printed_after, stop_after};
 ghost use Rattle.semantics.specs.Step.{is_unfinished};
 ghost use Rattle.semantics.specs.Journal.{Step};
 ghost use Rattle.machine.specs.Run.{replay_of, AdvancesAndNotes, CanAdvance, IsReady, CouldStep, TurnHolds, LacksRoom, event_of, is_refused, turn_after, turn_at_rest};
@@ -71,7 +71,7 @@ impl Machine<'_> {
 /// The turn of a thread that has no step to take: a trap has stopped the machine, or the thread has ended.
 #[inline(always)]
 pub(crate) fn turn_at_rest(stop: &Option<Stop>, thread: &Thread) -> Option<Turn>
-    ensures { result ≡ turn_at_rest (is_some stop.now) (is_unfinished (ending_view thread.now.ending)) }
+    ensures { result ≡ turn_at_rest (is_some stop.now) (is_unfinished thread.now.ending) }
 {
     if stop.is_some() {
         Some(Turn::Stopped)
@@ -196,7 +196,7 @@ fn note(printed: &mut Vec<Printed>, stop: &mut Option<Stop>, k: u8, event: Event
 {
     match event {
         Event::Quiet => {}
-        Event::Printed(number) => printed.push_reserved(Printed { thread: k, number }),
+        Event::PrintedNumber(number) => printed.push_reserved(Printed { thread: k, number }),
         Event::Trapped { trap, line } => {
             *stop = Some(Stop {
                 thread: k,

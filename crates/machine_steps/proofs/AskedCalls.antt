@@ -431,7 +431,7 @@ module _ (p : Lowered) (w : World) (store : Store) (pending : Option ℕ) (call 
         next = s;
         steps =
             ap (after_call (unit_tree p.unit) w.classes in_use k shared s called.line called.target called.f called.args rest) found
-            ∙ ap (λ (n : ℕ). source.Advances shared s (source.Trapped trap n)) (sym (same ∙ called.same_line));
+            ∙ ap (λ (n : ℕ). source.Advances shared s (event.Trapped trap n)) (sym (same ∙ called.same_line));
         store_agrees = h.shares;
         keeps = keeps_same store.heap shared;
         keeps_copies = λ key c there other. there;

@@ -341,8 +341,8 @@ module _ (p : Lowered) (w : World) (store : Store) (pending : Option ℕ) (call 
         by_answer (inr (inr it)) = absurd (let clash : GivesNothing ≡ GivesBuffer b.0 = sym it.nothing ∙ b.1 in cc)
 
     -- a step of the call is one of the first task
-    stepped : (refused : Bool) (t : source.Thread) (next : Shared) → call_step (unit_tree p.unit) w.classes in_use k shared s called.line called.target called.f called.args rest refused ≡ source.Advances next t source.Quiet
-        → after_any (unit_tree p.unit) w.classes in_use k shared s rest refused (Calls called.line called.target called.f called.args) ≡ source.Advances next t source.Quiet
+    stepped : (refused : Bool) (t : source.Thread) (next : Shared) → call_step (unit_tree p.unit) w.classes in_use k shared s called.line called.target called.f called.args rest refused ≡ source.Advances next t event.Quiet
+        → after_any (unit_tree p.unit) w.classes in_use k shared s rest refused (Calls called.line called.target called.f called.args) ≡ source.Advances next t event.Quiet
     stepped false t next h = h
     stepped true t next h = h
 
@@ -414,7 +414,7 @@ module _ (p : Lowered) (w : World) (store : Store) (pending : Option ℕ) (call 
           subst (λ (e : Effect). GoesOn p w store (record store' { statics = statics }) others k owner own shared s rest after pending' e refused event.Quiet) (sym called.is) (record {
             next_shared = ends.now;
             next = going called.line called.f called.args ends.tasks s left q gave ends.variables;
-            steps = stepped refused (going called.line called.f called.args ends.tasks s left q gave ends.variables) ends.now (◌∙◌ {c = source.Advances ends.now (going called.line called.f called.args ends.tasks s left q gave ends.variables) source.Quiet} steps ends.steps);
+            steps = stepped refused (going called.line called.f called.args ends.tasks s left q gave ends.variables) ends.now (◌∙◌ {c = source.Advances ends.now (going called.line called.f called.args ends.tasks s left q gave ends.variables) event.Quiet} steps ends.steps);
             store_agrees = ends.store_agrees;
             keeps = ends.keeps;
             keeps_copies = keeps_others store'.elements does copies;

@@ -55,7 +55,6 @@ use Rattle.machine_scenes.specs.StoreAgrees.{StoreAgrees}
 use Rattle.machine_scenes.specs.Buffers.{Acquired, AreViewed, acquired_by, beside, viewed_in}
 use Rattle.machine_steps.specs.Executes.{Executes, IsSteady, in_use_with}
 use Rattle.machine_threads.specs.InProgress.{CallStands, WorkAgrees}
-use Rattle.semantics.specs.EventViews.{event_view}
 use Rattle.machine_answers.specs.Asked.{references_of}
 use Rattle.machine_scenes.specs.Statics.{StaticReference}
 use Rattle.machine_steps.specs.Moved.{HasMoved, end_of_path, PathIsSeen}
@@ -275,7 +274,7 @@ module _ (p : Lowered) (w : World) (store : Store) (others : Acquired) (k owner 
         let next : source.Thread = with_tasks s (tasks ++ rest) in
         record {
           next = next;
-          steps = ap (λ (v : Event). source.Advances shared next (event_view v)) (sym (quiet_at_end call.place path (λ q. StandsFor code h.names q stack (tasks ++ rest)) e end path_seen));
+          steps = ap (λ (v : Event). source.Advances shared next v) (sym (quiet_at_end call.place path (λ q. StandsFor code h.names q stack (tasks ++ rest)) e end path_seen));
           work = stands_at p classes space store.elements owner call code seen s.frames task rest r after (end_of_path call.place path) stack (record (values_in call) { numbers = numbers }) r.meant h.names (visible_to own shared next) (tasks ++ rest)
               (depth_at_end code call.place path (length stack) (λ q. StandsFor code h.names q stack (tasks ++ rest)) (leads p classes space store.elements owner call code seen s.frames task rest r i at path stack numbers is) end) m (holds_with p classes space store.elements owner call code seen s.frames task rest r numbers)
               (at_end call.place path (λ q. StandsFor code h.names q stack (tasks ++ rest)) end)
@@ -292,8 +291,8 @@ module _ (p : Lowered) (w : World) (store : Store) (others : Acquired) (k owner 
           short = λ e. absurd (cc);
         }
 
-    writes : (did : Effect) (changed : Visible → Type 0) → Writes code r.known call.place call.stack held seen changed rest → (vs : _) → after_effect (unit_tree p.unit) classes (in_use_with others s) k shared s rest did ≡ source.Advances shared (record s { tasks = Some rest; variables = vs }) source.Quiet
-        → changed (visible_to own shared (record s { tasks = Some rest; variables = vs })) → taken_by vs ≡ taken_by s.variables → owners_left (unit_tree p.unit) classes k shared s did own (event_view e) vs ≡ own → agrees.GoesOn p w store store others k owner own shared s rest after pending did false e
+    writes : (did : Effect) (changed : Visible → Type 0) → Writes code r.known call.place call.stack held seen changed rest → (vs : _) → after_effect (unit_tree p.unit) classes (in_use_with others s) k shared s rest did ≡ source.Advances shared (record s { tasks = Some rest; variables = vs }) event.Quiet
+        → changed (visible_to own shared (record s { tasks = Some rest; variables = vs })) → taken_by vs ≡ taken_by s.variables → owners_left (unit_tree p.unit) classes k shared s did own e vs ≡ own → agrees.GoesOn p w store store others k owner own shared s rest after pending did false e
     writes did changed h vs steps shown taken left =
         let same : h.here ≡ i = cc (h.at, at) in
         let plain_is : plain_of i call.stack call.slots.numbers.items ≡ Some (plain.Next, [], h.numbers) = subst (λ (j : Instr). plain_of j call.stack call.slots.numbers.items ≡ Some (plain.Next, [], h.numbers)) same h.plain in
@@ -305,7 +304,7 @@ module _ (p : Lowered) (w : World) (store : Store) (others : Acquired) (k owner 
         let end : LeadsInside code.instrs call.place plain.Next (length stack) = subst (λ (w : Plain). LeadsInside code.instrs call.place w (length stack)) path_is (leads p classes space store.elements owner call code seen s.frames task rest r i at path stack numbers is) in
         record {
           next = next;
-          steps = steps ∙ ap (λ (v : Event). source.Advances shared next (event_view v)) (sym quiet);
+          steps = steps ∙ ap (λ (v : Event). source.Advances shared next v) (sym quiet);
           work = subst (λ (o : Owners). CallStands p classes space store.elements owner after (visible_to o shared next) s.frames rest) (sym left)
               (stands_at p classes space store.elements owner call code seen s.frames task rest r after (call.place + 1) stack (record (values_in call) { numbers = numbers }) r.meant h.names (visible_to own shared next) rest end.words
               (subst (λ (w : Plain). HasMoved call after (end_of_path call.place w) stack (record (values_in call) { numbers = numbers })) path_is m) (holds_with p classes space store.elements owner call code seen s.frames task rest r numbers)
@@ -340,7 +339,7 @@ module _ (p : Lowered) (w : World) (store : Store) (others : Acquired) (k owner 
         (subst (λ (ns : List ℕ). Shows code r.known seen (record { numbers = ns; references = r.meant.references; owners = r.meant.owners; fields = r.meant.fields; buffers = r.meant.buffers })) numbers_are r.shows) in
         record {
           next = s;
-          steps = ap (λ (t : Trap). source.Advances shared s (source.Trapped t line)) trap_is ∙ ap (λ (v : Event). source.Advances shared s (event_view v)) (sym seen_trap.2);
+          steps = ap (λ (t : Trap). source.Advances shared s (event.Trapped t line)) trap_is ∙ ap (λ (v : Event). source.Advances shared s v) (sym seen_trap.2);
           work = subst (λ (o : Option (List Task)). WorkAgrees p classes space store.elements owner seen (Some after) s.frames o) (sym tasks_are) stands;
           next_shared = shared;
           store_agrees = shares;
@@ -465,9 +464,9 @@ module _ (p : Lowered) (w : World) (store : Store) (others : Acquired) (k owner 
 
   -- a print
   pub put_executes : (word : ℕ) (after : Activation) (stack : List ℕ) → i ≡ instr.PutJint → call.stack ≡ word ∷ stack → HasMoved call after (call.place + 1) stack (values_in call)
-      → Executes p w store store others k owner own shared s rest after pending (effect_of (sight_of shared s) task) (Did (event.Printed (cast_signed w32 word)))
+      → Executes p w store store others k owner own shared s rest after pending (effect_of (sight_of shared s) task) (Did (event.PrintedNumber (cast_signed w32 word)))
   put_executes word after stack put top m =
-      other_cases p classes space store.elements owner call code seen s.frames task rest r possible_here i at (λ effect. Executes p w store store others k owner own shared s rest after pending effect (Did (event.Printed (cast_signed w32 word)))) (λ plain. subst IsPlain put plain)
+      other_cases p classes space store.elements owner call code seen s.frames task rest r possible_here i at (λ effect. Executes p w store store others k owner own shared s rest after pending effect (Did (event.PrintedNumber (cast_signed w32 word)))) (λ plain. subst IsPlain put plain)
       (λ test tasks h. absurd (subst LooksAtSlots put test))
       (λ target h same. absurd (let both : instr.StoreNull h.variable ≡ instr.PutJint = sym same ∙ put in cc))
       (λ x n z h same. absurd (let both : instr.StoreBuffer (element_of h.type) h.slot h.line ≡ instr.PutJint = sym same ∙ put in cc))
@@ -476,14 +475,14 @@ module _ (p : Lowered) (w : World) (store : Store) (others : Acquired) (k owner 
       (λ returns. absurd (subst IsReturn put returns))
       (λ test reason line h works. absurd (subst LooksAtSlots put test))
     where
-      prints : (z : ℤ) → PrintsTop code r.known call.place call.stack held seen z rest → agrees.GoesOn p w store store others k owner own shared s rest after pending (Prints z) false (event.Printed (cast_signed w32 word))
+      prints : (z : ℤ) → PrintsTop code r.known call.place call.stack held seen z rest → agrees.GoesOn p w store store others k owner own shared s rest after pending (Prints z) false (event.PrintedNumber (cast_signed w32 word))
       prints z h =
           let words : word ≡ h.word = cc (top, h.top) in
           let nothing : [] ≡ stack = cc (top, h.top) in
           let number : z ≡ cast_signed w32 word = sym h.is ∙ ap (λ (w : ℕ). cast_signed w32 w) (sym words) in
           record {
             next = with_tasks s rest;
-            steps = ap (λ (n : ℤ). source.Advances shared (with_tasks s rest) (source.PrintedNumber n)) number;
+            steps = ap (λ (n : ℤ). source.Advances shared (with_tasks s rest) (event.PrintedNumber n)) number;
             work = stands_at p classes space store.elements owner call code seen s.frames task rest r after (call.place + 1) stack (values_in call) r.meant r.known seen rest
                 (depth_behind p classes space store.elements owner call code seen s.frames task rest r i at (length stack) (λ leaves. subst Leaves put leaves) (ap (λ (j : Instr). depth_after j (length call.stack)) put ∙ ap (λ (st : List ℕ). depth_after instr.PutJint (length st)) top)) m r.holds
                 (subst (λ (st : List ℕ). StandsFor code r.known (call.place + 1) st rest) nothing h.stands) r.shows;

@@ -64,7 +64,6 @@ use Rattle.machine_steps.specs.BufferElements.{LoadsElement, StoresElement, with
 use Rattle.machine_steps.specs.Executes as agrees
 use Rattle.machine_threads.specs.InProgress.{WorkAgrees}
 use Rattle.machine_steps.specs.Executes.{Executes, IsSteady}
-use Rattle.semantics.specs.EventViews.{event_view}
 use Rattle.machine_threads.specs.SlotsHold.{IsSmallCopy, slots_of, values_in}
 use Rattle.machine_steps.specs.Moved.{HasMoved}
 use Rattle.semantics.specs.declared.event.Event.{Event}
@@ -186,7 +185,7 @@ module _ (p : Lowered) (w : World) (store : Store) (others : Acquired) (k owner 
   past reason line after e same trapped is = record {
     next_shared = shared;
     next = s;
-    steps = ap (λ (t : Trap). source.Advances shared s (source.Trapped t line)) is ∙ ap (λ (v : Event). source.Advances shared s (event_view v)) (sym trapped);
+    steps = ap (λ (t : Trap). source.Advances shared s (event.Trapped t line)) is ∙ ap (λ (v : Event). source.Advances shared s v) (sym trapped);
     store_agrees = shares;
     keeps = keeps_same space shared;
     keeps_copies = λ key c there other. there;
@@ -228,7 +227,7 @@ module _ (p : Lowered) (w : World) (store : Store) (others : Acquired) (k owner 
             record {
               next_shared = shared;
               next = next;
-              steps = ap (λ (v : Event). source.Advances shared next (event_view v)) (sym m.1);
+              steps = ap (λ (v : Event). source.Advances shared next v) (sym m.1);
               store_agrees = shares;
               keeps = keeps_same space shared;
               keeps_copies = λ key c there other. there;
@@ -363,7 +362,7 @@ module _ (p : Lowered) (w : World) (store : Store) (others : Acquired) (k owner 
           subst (λ (st : Store). agrees.GoesOn p w store st others k owner own shared s rest after pending (SetsElement x j z) false e) (sym store_is) (record {
             next_shared = shared;
             next = next;
-            steps = ap (set_element shared (with_tasks s rest) x j z) was ∙ ap (λ (v : Event). source.Advances shared next (event_view v)) (sym wrote.1.1);
+            steps = ap (set_element shared (with_tasks s rest) x j z) was ∙ ap (λ (v : Event). source.Advances shared next v) (sym wrote.1.1);
             store_agrees = store_same p w (record store { elements = copies }) shared others s.variables vs
                 (assigned_same x (Elements h.type new) s.variables (length-set zs j number ∙ sym (ap copied_there was)) (sym (ap viewed_there was)))
                 (written_store p w store shared all owner key zs j number list shares);
@@ -406,7 +405,7 @@ module _ (p : Lowered) (w : World) (store : Store) (others : Acquired) (k owner 
           subst (λ (st : Store). agrees.GoesOn p w store st others k owner own shared s rest after pending (SetsElement x j z) false e) (sym store_is) (record {
             next_shared = now;
             next = next;
-            steps = ap (set_element shared (with_tasks s rest) x j z) was ∙ ap (λ (v : Event). source.Advances now next (event_view v)) (sym wrote.1.1);
+            steps = ap (set_element shared (with_tasks s rest) x j z) was ∙ ap (λ (v : Event). source.Advances now next v) (sym wrote.1.1);
             store_agrees = written_agrees p w store shared a j n (Word (cast_unsigned w32 number)) (Number number) all shares writes;
             keeps = keeps;
             keeps_copies = λ key c found other. found;

@@ -45,7 +45,6 @@ use Rattle.code_meaning.specs.Slots as meant
 use Rattle.machine_scenes.specs.declared.handle.Handle.{Handle}
 use Rattle.machine_threads.specs.Callers.{CallersAgree, beside_callers, owner_at}
 use Rattle.machine_threads.specs.ThreadAgrees.{CallAgrees, CallsAgree, CallsToComeAgree, EnteringAgrees, ThreadAgrees, buffers_of}
-use Rattle.semantics.specs.EventViews.{ending_view}
 use Rattle.machine_steps.specs.Advances.{Advances}
 use Rattle.machine_scenes.specs.Buffers.{Acquired, AreViewed, BuffersAgree, acquired_by, beside}
 use Rattle.machine_scenes.specs.HeapAgrees.{times}
@@ -430,14 +429,14 @@ enters p w store others k own shared t after s lowered shares h none next no_ent
       store_agrees = store_same p w store shared (beside_callers others s) s.variables next_thread.variables (entered_nothing f.function.class_name 1 n.class.number (zip f.function.parameters c.call.arguments) ∙ sym (ap taken_by (h.idle rests))) shares;
       keeps = keeps_same space shared;
       keeps_copies = λ key c there other. there;
-      agrees = subst (λ (o : ThreadOwners). ThreadAgrees p classes space store.elements made k o shared after next_thread) (sym (ap (λ (o : Option (List Task)). after_tasks (unit_tree p.unit) classes k shared s o own source.Quiet next_thread.variables) rests)) (record {
+      agrees = subst (λ (o : ThreadOwners). ThreadAgrees p classes space store.elements made k o shared after next_thread) (sym (ap (λ (o : Option (List Task)). after_tasks (unit_tree p.unit) classes k shared s o own event.Quiet next_thread.variables) rests)) (record {
         calls = calls_to_come p classes space made after.entering after.calls.items c.rest no_entry c.agrees;
         due = still_due after.entering next_thread.tasks next_thread.callers no_entry (λ b. cc);
         work = subst (λ a. WorkAgrees p classes space store.elements owner (visible_to now shared next_thread) a next_thread.frames (Some (tasks_of f.function.body))) (sym next.active) (begun p classes space store.elements owner store.loaded.items made shared s c.rest n c.call next.activation lowered shares.table shares.named f next.begins);
         callers = subst (λ (v : Vec Activation). CallersAgree p classes space store.elements k shared (reverse v.items) own.callers s.callers) (sym callers) h.callers;
         few = subst (λ (v : Vec Activation). length v.items < most_activations) (sym callers) h.few;
         pending = subst (λ (a : Option ℕ). ReferenceAgrees space a s.pending) (sym pending) h.pending;
-        ending = h.ending ∙ ap ending_view (sym ending);
+        ending = h.ending ∙ sym ending;
         busy = λ a b d. cc;
         caught = λ b. absurd (cc);
         idle = λ b. absurd (cc);

@@ -28,6 +28,7 @@ use Rattle.semantics.specs.Object.{Reference}
 use Rattle.semantics.specs.Term.{Done}
 use Rattle.semantics.specs.Task.{Task, Branch, Target, VariableKind, ScalarKind, ReferenceKind, FieldKind, BufferKind, Declared, Assigned, Tested, Dropped, MethodKind}
 use Rattle.semantics.specs.Thread as source
+use Rattle.semantics.specs.declared.event.Event.TheVariants.{Quiet}
 use Rattle.semantics.specs.Thread.{Shared}
 use Rattle.semantics.specs.Value.{Value, Int, Truth}
 use Rattle.semantics.specs.Variable.{Buffer, NoBuffer, StaticReference, Variable, Variables, Scalar, LocalRef, FieldHandle, MethodHandle, Elements, LocalArray, assign}
@@ -104,19 +105,19 @@ module _ (line : ℕ) (f : JniFunction) (args : List Actual) (rest : List Task) 
         ∙ ap (λ (vs : Variables). let r : source.Thread = record (going vs) { tasks = Some (tasks_after line target (is_zero c) ++ rest) } in r) told
 
     module _ (next : Shared) where
-      dropped_is : put Dropped c next (resumption untold Dropped) ≡ source.Advances next (going s.variables) source.Quiet
+      dropped_is : put Dropped c next (resumption untold Dropped) ≡ source.Advances next (going s.variables) Quiet
       dropped_is = ap (put Dropped c next) (resumed_is Dropped)
 
       declared_is : (kind : VariableKind) (x : Identifier) (v : Variable) → filled (blank kind (length (frames_received (prototype f).result c left))) c ≡ v
-          → put (Declared kind x) c next (resumption untold (Declared kind x)) ≡ source.Advances next (going (assign x v s.variables)) source.Quiet
-      declared_is kind x v is = ap (put (Declared kind x) c next) (resumed_is (Declared kind x)) ∙ ap (λ (w : Variable). source.Advances next (going (assign x w s.variables)) source.Quiet) is
+          → put (Declared kind x) c next (resumption untold (Declared kind x)) ≡ source.Advances next (going (assign x v s.variables)) Quiet
+      declared_is kind x v is = ap (put (Declared kind x) c next) (resumed_is (Declared kind x)) ∙ ap (λ (w : Variable). source.Advances next (going (assign x w s.variables)) Quiet) is
 
       assigned_is : (x : Identifier) (old v : Variable) → lookup x s.variables ≡ Some old → filled old c ≡ v
-          → put (Assigned x) c next (resumption untold (Assigned x)) ≡ source.Advances next (going (assign x v s.variables)) source.Quiet
+          → put (Assigned x) c next (resumption untold (Assigned x)) ≡ source.Advances next (going (assign x v s.variables)) Quiet
       assigned_is x old v at is =
           ap (put (Assigned x) c next) (resumed_is (Assigned x))
           ∙ ap (put_assigned x c next (going s.variables)) at
-          ∙ ap (λ (w : Variable). source.Advances next (going (assign x w s.variables)) source.Quiet) is
+          ∙ ap (λ (w : Variable). source.Advances next (going (assign x w s.variables)) Quiet) is
 
 -- ---- owners
 
@@ -203,7 +204,7 @@ pub record Finishes (p : Lowered) (w : World) (old : Space) (shared : Shared) (s
   pub now : Shared
   pub variables : Variables
   pub tasks : List Task
-  pub steps : put target c next (resumption line f args rest s left q c untold target) ≡ source.Advances now (going line f args tasks s left q c variables) source.Quiet
+  pub steps : put target c next (resumption line f args rest s left q c untold target) ≡ source.Advances now (going line f args tasks s left q c variables) Quiet
   pub store_agrees : StoreAgrees p w (record store { statics = statics }) now (beside others (taken_by variables))
   pub keeps : Keeps old shared store.heap now
   pub views : AreViewed store.heap after.slots.buffers.items (going line f args tasks s left q c variables)

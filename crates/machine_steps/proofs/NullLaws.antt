@@ -15,6 +15,7 @@ use Rattle.semantics.specs.Sight.{holds_null, static_is_null, held_reference, he
 use Rattle.semantics.specs.Task.{VariableKind, Task, Target, ScalarKind, ReferenceKind, FieldKind, BufferKind, Declared, Assigned, Tested, Dropped, MethodKind}
 use Rattle.semantics.specs.Thread as source
 use Rattle.semantics.specs.Thread.{Shared}
+use Rattle.semantics.specs.declared.event.Event.TheVariants.{Quiet}
 use Rattle.semantics.specs.ThreadStep.{with_tasks}
 use Rattle.semantics.specs.Value.{Gives, Stuck}
 use Rattle.semantics.specs.Variable.{Buffer, Variable, Scalar, LocalRef, FieldHandle, MethodHandle, Elements, LocalArray, NoBuffer, StaticReference, Empty, Live, Weakly, Cleared, Deleted, Statics, Variables, assign, copied_length, viewed}
@@ -54,7 +55,7 @@ use Rattle.machine_steps.proofs.SlotBuffers.{all_put, buffers_nulled, null_buffe
 -- NULL went to a variable, or to a static, which shows it
 pub record PutsNull (own : Owners) (shared : Shared) (s : source.Thread) (rest : List Task) (target : Target) (x : Identifier) (kind : Option VariableKind) : Type 0 where
   pub variables : Variables
-  pub steps : put target NullResult shared (with_tasks s rest) ≡ source.Advances (record shared { statics = nulled_statics kind x shared.statics }) (record s { tasks = Some rest; variables = variables }) source.Quiet
+  pub steps : put target NullResult shared (with_tasks s rest) ≡ source.Advances (record shared { statics = nulled_statics kind x shared.statics }) (record s { tasks = Some rest; variables = variables }) Quiet
   pub nulled : IsNulled (visible_to own shared s) kind x (visible_to own (record shared { statics = nulled_statics kind x shared.statics }) (record s { tasks = Some rest; variables = variables }))
   pub taken : taken_by variables ≡ taken_by s.variables
 
@@ -62,7 +63,7 @@ module _ (own : Owners) (shared : Shared) (s : source.Thread) (rest : List Task)
   abbrev after : Variables → source.Thread
   after vs = record s { tasks = Some rest; variables = vs }
 
-  declared_null : (target : Target) (x y : Identifier) (kind : VariableKind) (v : Variable) → put target NullResult shared (with_tasks s rest) ≡ source.Advances shared (after (assign y v s.variables)) source.Quiet → y ≡ x
+  declared_null : (target : Target) (x y : Identifier) (kind : VariableKind) (v : Variable) → put target NullResult shared (with_tasks s rest) ≡ source.Advances shared (after (assign y v s.variables)) Quiet → y ≡ x
       → scalar (Some v) ≡ Stuck → ((o : Option StaticReference) → holds_null (Some v) o ≡ Gives true) → ((o : Option StaticReference) → held_reference (Some v) o ≡ Empty) → held_field (Some v) ≡ None → held_method (Some v) ≡ None → held_buffer (Some v) ≡ NoBuffer → type_of_array (Some v) ≡ None → kind_of_variable (Some v) ≡ Some kind → copied_length v ≡ 0 → viewed v ≡ [] → HoldsNoBuffer (lookup y s.variables) → PutsNull own shared s rest target x (Some kind)
   declared_null target x y kind v steps same number null reference field method no_buffer no_array same_kind no_copy no_view free = record {
     variables = assign y v s.variables;
@@ -78,7 +79,7 @@ module _ (own : Owners) (shared : Shared) (s : source.Thread) (rest : List Task)
       → PutsNull own shared s rest (Assigned y) x (kind_of_variable (lookup y s.variables))
   nulled_variable x y old new kind found same was fills number null reference field method no_buffer no_array same_kind no_copy no_view free =
       subst (PutsNull own shared s rest (Assigned y) x) (sym (ap kind_of_variable found ∙ was))
-      (declared_null (Assigned y) x y kind new (ap (put_assigned y NullResult shared (with_tasks s rest)) found ∙ ap (λ (v : Variable). source.Advances shared (after (assign y v s.variables)) source.Quiet) fills) same number null reference field method no_buffer no_array same_kind no_copy no_view free)
+      (declared_null (Assigned y) x y kind new (ap (put_assigned y NullResult shared (with_tasks s rest)) found ∙ ap (λ (v : Variable). source.Advances shared (after (assign y v s.variables)) Quiet) fills) same number null reference field method no_buffer no_array same_kind no_copy no_view free)
 
   -- a static
   nulled_static : (y : Identifier) → lookup y s.variables ≡ None → PutsNull own shared s rest (Assigned y) y None

@@ -183,7 +183,7 @@ module _ (p : Lowered) (w : World) (store : Store) (others : Acquired) (k : ℕ)
       ∙ ap (λ (o : Option MethodId). answer.effect_of w.classes in_use k shared s c.args (method_called o)) method.1
       ∙ enters w.classes in_use k shared s c.args method.0
 
-  steps : step_within (unit_tree p.unit) w.classes in_use k shared s false s.tasks ≡ source.Advances shared next source.Quiet
+  steps : step_within (unit_tree p.unit) w.classes in_use k shared s false s.tasks ≡ source.Advances shared next event.Quiet
   steps =
       ap (step_within (unit_tree p.unit) w.classes in_use k shared s false) e.tasks
       ∙ ap (after_effect (unit_tree p.unit) w.classes in_use k shared s rest) c.is
@@ -192,11 +192,11 @@ module _ (p : Lowered) (w : World) (store : Store) (others : Acquired) (k : ℕ)
   abbrev now : ThreadOwners
   now = record { current = no_owner; callers = own.current ∷ own.callers }
 
-  owners_now : after_tasks (unit_tree p.unit) w.classes k shared s s.tasks own source.Quiet [] ≡ now
+  owners_now : after_tasks (unit_tree p.unit) w.classes k shared s s.tasks own event.Quiet [] ≡ now
   owners_now =
-      ap (λ (ts : Option (List Task)). after_tasks (unit_tree p.unit) w.classes k shared s ts own source.Quiet []) e.tasks
-      ∙ ap (λ (x : Effect). after_step (unit_tree p.unit) w.classes k shared s own source.Quiet x []) c.is
-      ∙ ap (λ (m : Bool). after_invoked m source.Quiet own (owners_left (unit_tree p.unit) w.classes k shared s (Calls c.line c.target c.f c.args) own.current source.Quiet [])) c.method
+      ap (λ (ts : Option (List Task)). after_tasks (unit_tree p.unit) w.classes k shared s ts own event.Quiet []) e.tasks
+      ∙ ap (λ (x : Effect). after_step (unit_tree p.unit) w.classes k shared s own event.Quiet x []) c.is
+      ∙ ap (λ (m : Bool). after_invoked m event.Quiet own (owners_left (unit_tree p.unit) w.classes k shared s (Calls c.line c.target c.f c.args) own.current event.Quiet [])) c.method
 
   invoke : IsInvoke (sight_of shared s) task c.line c.target c.f c.args
   invoke = called (sight_of shared s) task c.line c.target c.f c.args c.is

@@ -312,7 +312,7 @@ module _ (p : Lowered) (w : World) (old : Store) (others : Acquired) (k : ℕ) (
           ∙ ap (λ (n : ResultKind). let x : source.Thread = record within { tasks = Some c.tasks; frames = frames_received n back c.frames } in x) first.agrees.result
           ∙ sym (received_is c.result back (resumed_in s c first.below))
 
-      steps : step_within (unit_tree p.unit) w.classes (in_use_with (beside_callers others s) s) k shared s false s.tasks ≡ source.Advances ends.now next source.Quiet
+      steps : step_within (unit_tree p.unit) w.classes (in_use_with (beside_callers others s) s) k shared s false s.tasks ≡ source.Advances ends.now next event.Quiet
       steps =
           ap (step_within (unit_tree p.unit) w.classes (in_use_with (beside_callers others s) s) k shared s false) tasks
           ∙ ap (after_effect (unit_tree p.unit) w.classes (in_use_with (beside_callers others s) s) k shared s rest) returns
@@ -323,10 +323,10 @@ module _ (p : Lowered) (w : World) (old : Store) (others : Acquired) (k : ℕ) (
       abbrev now : ThreadOwners
       now = record { current = with_result c.target first.own ends.variables; callers = first.owners }
 
-      owners_now : after_tasks (unit_tree p.unit) w.classes k shared s s.tasks own source.Quiet ends.variables ≡ now
+      owners_now : after_tasks (unit_tree p.unit) w.classes k shared s s.tasks own event.Quiet ends.variables ≡ now
       owners_now =
-          ap (λ (ts : Option (List Task)). after_tasks (unit_tree p.unit) w.classes k shared s ts own source.Quiet ends.variables) tasks
-          ∙ ap (λ (e : Effect). after_step (unit_tree p.unit) w.classes k shared s own source.Quiet e ends.variables) returns
+          ap (λ (ts : Option (List Task)). after_tasks (unit_tree p.unit) w.classes k shared s ts own event.Quiet ends.variables) tasks
+          ∙ ap (λ (e : Effect). after_step (unit_tree p.unit) w.classes k shared s own event.Quiet e ends.variables) returns
           ∙ ap (λ (cs : List source.Caller). after_return cs own.callers own ends.variables) first.is
           ∙ ap (λ (os : List Owners). after_return (c ∷ first.below) os own ends.variables) first.are
 

@@ -5,6 +5,7 @@ use Rattle.std.specs.Option.{option_map, option_map_or, option_and_then}
 use Rattle.syntax.specs.Tree.{SourceUnit}
 use Rattle.syntax.specs.Views.{unit_tree}
 use Rattle.class_rules.specs.Class.{Classes}
+use Rattle.class_rules.specs.ClassIds.{class_id}
 use Rattle.heap.specs.Heap.{Block, Space, class_at}
 use Rattle.jni.specs.declared.function.JniFunction.{JniFunction}
 use Rattle.jni.specs.declared.function.JniFunction.TheVariants.{CallStaticVoidMethod, CallStaticIntMethod, CallStaticObjectMethod}
@@ -38,9 +39,9 @@ use Rattle.machine_scenes.specs.Buffers.{Acquired, AreViewed, acquired_by, besid
 use Rattle.semantics_safety.specs.StepSafe.{MayReturn}
 use Rattle.semantics_safety.proofs.KeptCalls.{Held, KeepsCalls, put_keeps, received_calls}
 use Rattle.semantics.specs.declared.event.Ending.{Ending}
-use Rattle.semantics.specs.declared.event.Ending.TheVariants.{Unfinished}
+use Rattle.semantics.specs.declared.event.Ending.TheVariants.{Unfinished, Ended, Uncaught}
 use Rattle.semantics.specs.declared.event.Event.{Event}
-use Rattle.semantics.specs.declared.event.Event.TheVariants as event
+use Rattle.semantics.specs.declared.event.Event.TheVariants as events
 use Rattle.machine_threads.specs.declared.thread.Thread.{Thread}
 use Rattle.machine_threads.specs.declared.thread.Entering.{Entering}
 use Rattle.machine_threads.specs.declared.thread.PendingCall.{PendingCall}
@@ -49,7 +50,6 @@ use Rattle.semantics_safety.specs.Owners.{Owners, ThreadOwners, after_effect as 
 use Rattle.machine_scenes.specs.declared.store.Store.{Store}
 use Rattle.machine_scenes.specs.StoreAgrees.{StoreAgrees, Keeps}
 use Rattle.machine_threads.specs.ThreadAgrees.{CallsAgree, CallsToComeAgree, IsDue, ThreadAgrees, buffers_of}
-use Rattle.semantics.specs.EventViews.{ending_view, event_view}
 use Rattle.machine_steps.specs.Advances.{Advances, GivesUp, LeavesMonitors, calls_after, ending_after, ends_with}
 use Rattle.machine_steps.specs.Executes.{GoesOn, after_any, cells_made, in_use_with}
 use Rattle.machine_threads.specs.Callers.{CallersAgree, acquired_by_callers, beside_callers, owner_at}
@@ -85,31 +85,31 @@ resting p classes space copies k visible frames (Some x) tasks w e = absurd (cc)
 -- ---- an instruction
 
 -- An effect with this event leaves the call in progress where it is: it is no return, and no call of a method but one that a trap stops.
-abbrev StaysWithin : Effect → source.Event → Type 0
-StaysWithin (Calls line target f args) source.Quiet = calls_method f ≡ false
+abbrev StaysWithin : Effect → Event → Type 0
+StaysWithin (Calls line target f args) events.Quiet = calls_method f ≡ false
 StaysWithin (Returns given) event = ⊥
 StaysWithin other event = Unit {0}
 
 -- the owners after a call that prints or stops
-printed_owners : (method : Bool) (z : ℤ) (own : ThreadOwners) (left : Owners) → after_invoked method (source.PrintedNumber z) own left ≡ record own { current = left }
+printed_owners : (method : Bool) (z : ℤ) (own : ThreadOwners) (left : Owners) → after_invoked method (events.PrintedNumber z) own left ≡ record own { current = left }
 printed_owners true z own left = refl
 printed_owners false z own left = refl
 
-trapped_owners : (method : Bool) (trap : Trap) (at : ℕ) (own : ThreadOwners) (left : Owners) → after_invoked method (source.Trapped trap at) own left ≡ record own { current = left }
+trapped_owners : (method : Bool) (trap : Trap) (at : ℕ) (own : ThreadOwners) (left : Owners) → after_invoked method (events.Trapped trap at) own left ≡ record own { current = left }
 trapped_owners true trap at own left = refl
 trapped_owners false trap at own left = refl
 
 module _ (unit : SourceUnit) (classes : Classes) (k : ℕ) (shared : Shared) (s : source.Thread) (own : ThreadOwners) where
   -- those after an effect within the call
-  left_owners : (effect : Effect) (event : source.Event) → StaysWithin effect event → (vs : Variables) → after_step unit classes k shared s own event effect vs ≡ record own { current = owners_left unit classes k shared s effect own.current event vs }
-  left_owners (Calls line target f args) source.Quiet away vs = ap (λ (m : Bool). after_invoked m source.Quiet own (owners_left unit classes k shared s (Calls line target f args) own.current source.Quiet vs)) away
-  left_owners (Calls line target f args) (source.PrintedNumber z) away vs = printed_owners (calls_method f) z own (owners_left unit classes k shared s (Calls line target f args) own.current (source.PrintedNumber z) vs)
-  left_owners (Calls line target f args) (source.Trapped trap at) away vs = trapped_owners (calls_method f) trap at own own.current
+  left_owners : (effect : Effect) (event : Event) → StaysWithin effect event → (vs : Variables) → after_step unit classes k shared s own event effect vs ≡ record own { current = owners_left unit classes k shared s effect own.current event vs }
+  left_owners (Calls line target f args) events.Quiet away vs = ap (λ (m : Bool). after_invoked m events.Quiet own (owners_left unit classes k shared s (Calls line target f args) own.current events.Quiet vs)) away
+  left_owners (Calls line target f args) (events.PrintedNumber z) away vs = printed_owners (calls_method f) z own (owners_left unit classes k shared s (Calls line target f args) own.current (events.PrintedNumber z) vs)
+  left_owners (Calls line target f args) (events.Trapped trap at) away vs = trapped_owners (calls_method f) trap at own own.current
   left_owners (Returns given) event away vs = absurd away
   left_owners other event away vs = refl
 
   -- those after a step within a call
-  advanced_owners : (task : Task) (rest : List Task) → s.tasks ≡ Some (task ∷ rest) → (event : source.Event) → StaysWithin (effect_of (sight_of shared s) task) event → (vs : Variables)
+  advanced_owners : (task : Task) (rest : List Task) → s.tasks ≡ Some (task ∷ rest) → (event : Event) → StaysWithin (effect_of (sight_of shared s) task) event → (vs : Variables)
       → after_tasks unit classes k shared s s.tasks own event vs ≡ record own { current = owners_left unit classes k shared s (effect_of (sight_of shared s) task) own.current event vs }
   advanced_owners task rest is event away vs = ap (λ (o : Option (List Task)). after_tasks unit classes k shared s o own event vs) is ∙ left_owners (effect_of (sight_of shared s) task) event away vs
 
@@ -118,9 +118,9 @@ abbrev tasks_left : source.Advance → Option (List Task)
 tasks_left (source.Advances shared t event) = t.tasks
 tasks_left source.NoAdvance = None
 
-abbrev event_left : source.Advance → source.Event
+abbrev event_left : source.Advance → Event
 event_left (source.Advances shared t event) = event
-event_left source.NoAdvance = source.Quiet
+event_left source.NoAdvance = events.Quiet
 
 -- a call of a method traps, or enters a function
 abbrev IsOfMethod : CallEffect → Type 0
@@ -144,11 +144,11 @@ checked_method : (o : Option Trap) (e : CallEffect) → IsOfMethod e → IsOfMet
 checked_method None e h = h
 checked_method (Some trap) e h = tt
 
-stays_within : (unit : SourceUnit) (classes : Classes) (in_use : BuffersInUse) (k : ℕ) (shared next_shared : Shared) (s next : source.Thread) (rest : List Task) (refused : Bool) (effect : Effect) (event : source.Event) → after_any unit classes in_use k shared s rest refused effect ≡ source.Advances next_shared next event
+stays_within : (unit : SourceUnit) (classes : Classes) (in_use : BuffersInUse) (k : ℕ) (shared next_shared : Shared) (s next : source.Thread) (rest : List Task) (refused : Bool) (effect : Effect) (event : Event) → after_any unit classes in_use k shared s rest refused effect ≡ source.Advances next_shared next event
     → next.callers ≡ s.callers → (next.tasks ≡ None → ⊥) → StaysWithin effect event
 stays_within unit classes in_use k shared next_shared s next rest refused effect event steps same goes = by_effect effect event steps
   where
-    by_callers : (given : CallResult) (event : source.Event) (callers : List source.Caller) → s.callers ≡ callers → return_by k shared s given callers ≡ source.Advances next_shared next event → ⊥
+    by_callers : (given : CallResult) (event : Event) (callers : List source.Caller) → s.callers ≡ callers → return_by k shared s given callers ≡ source.Advances next_shared next event → ⊥
     by_callers given event [] is ends = goes (ap tasks_left (sym ends))
     by_callers given event (c ∷ callers) is into =
         let back = given_back s.pending c.result given in
@@ -157,32 +157,32 @@ stays_within unit classes in_use k shared next_shared s next rest refused effect
         let longer : length callers ≡ length (c ∷ callers) = ap length (sym fewer ∙ same ∙ is) in
         omega (arith, longer)
 
-    by_refusal : (refused : Bool) (given : CallResult) (event : source.Event) → after_any unit classes in_use k shared s rest refused (Returns given) ≡ source.Advances next_shared next event → ⊥
+    by_refusal : (refused : Bool) (given : CallResult) (event : Event) → after_any unit classes in_use k shared s rest refused (Returns given) ≡ source.Advances next_shared next event → ⊥
     by_refusal true given event e = cc
     by_refusal false given event e = by_callers given event s.callers refl e
 
-    entered : (line : ℕ) (target : Target) (f : JniFunction) (args : List Actual) (e : CallEffect) → IsOfMethod e → after_effect_of_call unit classes in_use k shared s line target f args rest e ≡ source.Advances next_shared next source.Quiet → ⊥
-    entered line target f args (Halts trap) h ends = let clash : source.Trapped trap line ≡ source.Quiet = ap event_left ends in cc
+    entered : (line : ℕ) (target : Target) (f : JniFunction) (args : List Actual) (e : CallEffect) → IsOfMethod e → after_effect_of_call unit classes in_use k shared s line target f args rest e ≡ source.Advances next_shared next events.Quiet → ⊥
+    entered line target f args (Halts trap) h ends = let clash : events.Trapped trap line ≡ events.Quiet = ap event_left ends in cc
     entered line target f args (Enters function arguments) h ends = goes (ap tasks_left (sym ends))
     entered line target f args (Throws class) h ends = h
     entered line target f args (Leaves made s' t' given) h ends = h
 
-    refused_entry : (line : ℕ) (target : Target) (f : JniFunction) (args : List Actual) (e : CallEffect) → IsOfMethod e → after_refusal unit classes in_use k shared s line target f args rest (makes_objects e) ≡ source.Advances next_shared next source.Quiet → ⊥
+    refused_entry : (line : ℕ) (target : Target) (f : JniFunction) (args : List Actual) (e : CallEffect) → IsOfMethod e → after_refusal unit classes in_use k shared s line target f args rest (makes_objects e) ≡ source.Advances next_shared next events.Quiet → ⊥
     refused_entry line target f args (Halts trap) h ends = cc
     refused_entry line target f args (Enters function arguments) h ends = cc
     refused_entry line target f args (Throws class) h ends = h
     refused_entry line target f args (Leaves made s' t' given) h ends = h
 
-    by_method : (line : ℕ) (target : Target) (f : JniFunction) (args : List Actual) (refused method : Bool) → calls_method f ≡ method → after_any unit classes in_use k shared s rest refused (Calls line target f args) ≡ source.Advances next_shared next source.Quiet → calls_method f ≡ false
+    by_method : (line : ℕ) (target : Target) (f : JniFunction) (args : List Actual) (refused method : Bool) → calls_method f ≡ method → after_any unit classes in_use k shared s rest refused (Calls line target f args) ≡ source.Advances next_shared next events.Quiet → calls_method f ≡ false
     by_method line target f args refused false is e = is
     by_method line target f args false true is e = absurd (entered line target f args (effect_of_call unit classes in_use k shared s line target f args rest) (checked_method (trap_of_call classes shared s target f args) _ (of_method unit classes in_use k shared s args f is)) e)
     by_method line target f args true true is e = absurd (refused_entry line target f args (effect_of_call unit classes in_use k shared s line target f args rest) (checked_method (trap_of_call classes shared s target f args) _ (of_method unit classes in_use k shared s args f is)) e)
 
-    by_effect : (effect : Effect) (event : source.Event) → after_any unit classes in_use k shared s rest refused effect ≡ source.Advances next_shared next event → StaysWithin effect event
+    by_effect : (effect : Effect) (event : Event) → after_any unit classes in_use k shared s rest refused effect ≡ source.Advances next_shared next event → StaysWithin effect event
     by_effect (Returns given) event e = absurd (by_refusal refused given event e)
-    by_effect (Calls line target f args) source.Quiet e = by_method line target f args refused (calls_method f) refl e
-    by_effect (Calls line target f args) (source.PrintedNumber z) e = tt
-    by_effect (Calls line target f args) (source.Trapped trap at) e = tt
+    by_effect (Calls line target f args) events.Quiet e = by_method line target f args refused (calls_method f) refl e
+    by_effect (Calls line target f args) (events.PrintedNumber z) e = tt
+    by_effect (Calls line target f args) (events.Trapped trap at) e = tt
     by_effect other event e = tt
 
 -- ---- calls to come
@@ -226,9 +226,9 @@ module _ (p : Lowered) (w : World) (old : Store) (others : Acquired) (k : ℕ) (
       → Advances p w old store others k own shared s (record t { call = Some after; pending = pending }) refused e
   did store refused e task rest is after pending g =
       let effect = effect_of (sight_of shared s) task in
-      let now : Owners = owners_left (unit_tree p.unit) w.classes k shared s effect own.current (event_view e) g.next.variables in
+      let now : Owners = owners_left (unit_tree p.unit) w.classes k shared s effect own.current e g.next.variables in
       let Works : Option (List Task) → Type 0 = λ o. WorkAgrees p w.classes store.heap store.elements copier (visible_to now g.next_shared g.next) (Some after) g.next.frames o in
-      let away = stays_within (unit_tree p.unit) w.classes (in_use_with rest_of s) k shared g.next_shared s g.next rest refused effect (event_view e) g.steps g.callers (λ b. subst Works b g.work) in
+      let away = stays_within (unit_tree p.unit) w.classes (in_use_with rest_of s) k shared g.next_shared s g.next rest refused effect e g.steps g.callers (λ b. subst Works b g.work) in
       let none = none_due t.entering s.tasks s.callers (task ∷ rest) h.due is in
       record {
         next_shared = g.next_shared;
@@ -239,7 +239,7 @@ module _ (p : Lowered) (w : World) (old : Store) (others : Acquired) (k : ℕ) (
         keeps_copies = g.keeps_copies;
         agrees =
             subst (λ (now : ThreadOwners). ThreadAgrees p w.classes store.heap store.elements (length (loaded_objects w)) k now g.next_shared (record t { call = Some after; pending = pending }) g.next)
-            (sym (advanced_owners (unit_tree p.unit) w.classes k shared s own task rest is (event_view e) away g.next.variables)) (record {
+            (sym (advanced_owners (unit_tree p.unit) w.classes k shared s own task rest is e away g.next.variables)) (record {
               calls = subst (CallsToComeAgree p w.classes store.heap (length (loaded_objects w)) t.entering t.calls.items) (sym g.calls)
                   (calls_to_come p w.classes store.heap (length (loaded_objects w)) t.entering t.calls.items s.calls none (calls_of_world p w.classes old.heap (length (loaded_objects w)) t.entering t.calls.items s.calls none h.calls));
               due = still_due t.entering g.next.tasks g.next.callers none (λ b. subst Works b g.work);
@@ -260,10 +260,10 @@ module _ (p : Lowered) (w : World) (old : Store) (others : Acquired) (k : ℕ) (
 -- ---- a return
 
 -- the ending of a thread that has these calls to come, with an exception of this class pending or none
-pub ending_of : Option ℕ → List Invocation → source.Ending
-ending_of (Some class) calls = source.Uncaught class
-ending_of None [] = source.Ended
-ending_of None (c ∷ calls) = source.Unfinished
+pub ending_of : Option ℕ → List Invocation → Ending
+ending_of (Some class) calls = Uncaught (class_id class)
+ending_of None [] = Ended
+ending_of None (c ∷ calls) = Unfinished
 
 -- a thread after its call
 abbrev pub idle : Option ℕ → List Invocation → source.Thread
@@ -275,12 +275,12 @@ source_ending heap (Some n) calls = refl
 source_ending heap None [] = refl
 source_ending heap None (c ∷ calls) = refl
 
-returns_by : (k : ℕ) (shared : Shared) (s : source.Thread) (class : Option ℕ) (given : CallResult) → s.callers ≡ [] → option_map (class_of shared.heap) s.pending ≡ class → return_step k shared s given ≡ source.Advances (record shared { monitors = monitors_after (ending_of class s.calls) k shared.monitors }) (idle class s.calls) source.Quiet
+returns_by : (k : ℕ) (shared : Shared) (s : source.Thread) (class : Option ℕ) (given : CallResult) → s.callers ≡ [] → option_map (class_of shared.heap) s.pending ≡ class → return_step k shared s given ≡ source.Advances (record shared { monitors = monitors_after (ending_of class s.calls) k shared.monitors }) (idle class s.calls) events.Quiet
 returns_by k shared s class given alone pending =
     let ends : activation.ending_after shared.heap s.pending s.calls ≡ ending_of class s.calls = source_ending shared.heap s.pending s.calls ∙ ap (λ (o : Option ℕ). ending_of o s.calls) pending in
     ap (return_by k shared s given) alone
-    ∙ ap (λ (ending : source.Ending). source.Advances (record shared { monitors = monitors_after ending k shared.monitors })
-    (record { calls = activation.calls_after ending s.calls; callers = []; tasks = None; variables = []; frames = []; pending = None; ending = ending }) source.Quiet) ends
+    ∙ ap (λ (ending : Ending). source.Advances (record shared { monitors = monitors_after ending k shared.monitors })
+    (record { calls = activation.calls_after ending s.calls; callers = []; tasks = None; variables = []; frames = []; pending = None; ending = ending }) events.Quiet) ends
 
 calls_left : (p : Lowered) (classes : Classes) (made : ℕ) (class : Option ℕ) (nexts : List PendingCall) (calls : List Invocation) → CallsAgree p classes made nexts calls → CallsAgree p classes made (calls_after class nexts) (activation.calls_after (ending_of class calls) calls)
 unfolding ending_of
@@ -290,13 +290,13 @@ calls_left p classes made None [] (c ∷ calls) h = absurd h
 calls_left p classes made None (n ∷ nexts) [] h = absurd h
 calls_left p classes made None (n ∷ nexts) (c ∷ calls) h = h
 
-ending_agrees : (p : Lowered) (classes : Classes) (made : ℕ) (class : Option ℕ) (nexts : List PendingCall) (calls : List Invocation) (ending : Ending) → CallsAgree p classes made nexts calls → ending ≡ Unfinished → ending_of class calls ≡ ending_view (ending_after class nexts ending)
+ending_agrees : (p : Lowered) (classes : Classes) (made : ℕ) (class : Option ℕ) (nexts : List PendingCall) (calls : List Invocation) (ending : Ending) → CallsAgree p classes made nexts calls → ending ≡ Unfinished → ending_of class calls ≡ (ending_after class nexts ending)
 unfolding ending_of
 ending_agrees p classes made (Some c) nexts calls ending h o = refl
 ending_agrees p classes made None [] [] ending h o = refl
 ending_agrees p classes made None [] (c ∷ calls) ending h o = absurd h
 ending_agrees p classes made None (n ∷ nexts) [] ending h o = absurd h
-ending_agrees p classes made None (n ∷ nexts) (c ∷ calls) ending h o = ap ending_view (sym o)
+ending_agrees p classes made None (n ∷ nexts) (c ∷ calls) ending h o = sym o
 
 something_to_do : (p : Lowered) (classes : Classes) (made : ℕ) (class : Option ℕ) (nexts : List PendingCall) (calls : List Invocation) (ending : Ending) → CallsAgree p classes made nexts calls → ending_after class nexts ending ≡ Unfinished → activation.calls_after (ending_of class calls) calls ≡ [] → ⊥
 unfolding ending_of
@@ -359,7 +359,7 @@ module _ (p : Lowered) (w : World) (old : Store) (others : Acquired) (k : ℕ) (
       → ((given : CallResult) × (effect_of (sight_of shared s) task ≡ Returns given)) → after.call ≡ None → after.entering ≡ t.entering → after.callers.items ≡ [] → after.pending ≡ None → after.calls.items ≡ calls_after (option_and_then (class_at store.heap) pending) t.calls.items
       → after.ending ≡ ending_after (option_and_then (class_at store.heap) pending) t.calls.items t.ending
       → LeavesMonitors (ends_with (option_and_then (class_at store.heap) pending) t.calls.items) k store left
-      → Advances p w old left others k own shared s after false event.Quiet
+      → Advances p w old left others k own shared s after false events.Quiet
   returned store left pending after task rest alone tasks shares same may pends o is no_call no_entry callers no_pending calls ending monitors =
       let class : Option ℕ = option_and_then (class_at store.heap) pending in
       let made : ℕ = length (loaded_objects w) in
@@ -369,9 +369,9 @@ module _ (p : Lowered) (w : World) (old : Store) (others : Acquired) (k : ℕ) (
       let next : Shared = record shared { monitors = monitors_after (ending_of class s.calls) k shared.monitors } in
       let parts = rest_left (ends_with class t.calls.items) k store left monitors in
       let below = none_there p w.classes old.heap old.elements k shared (reverse t.callers.items) own.callers s.callers h.callers alone in
-      let owners_now : after_tasks (unit_tree p.unit) w.classes k shared s s.tasks own source.Quiet [] ≡ own =
-      ap (λ (ts : Option (List Task)). after_tasks (unit_tree p.unit) w.classes k shared s ts own source.Quiet []) tasks
-      ∙ ap (λ (e : Effect). after_step (unit_tree p.unit) w.classes k shared s own source.Quiet e []) is.1
+      let owners_now : after_tasks (unit_tree p.unit) w.classes k shared s s.tasks own events.Quiet [] ≡ own =
+      ap (λ (ts : Option (List Task)). after_tasks (unit_tree p.unit) w.classes k shared s ts own events.Quiet []) tasks
+      ∙ ap (λ (e : Effect). after_step (unit_tree p.unit) w.classes k shared s own events.Quiet e []) is.1
       ∙ ap (λ (cs : List source.Caller). after_return cs own.callers own []) alone in
       record {
         next_shared = next;
@@ -390,7 +390,7 @@ module _ (p : Lowered) (w : World) (old : Store) (others : Acquired) (k : ℕ) (
               (subst (λ (os : List Owners). CallersAgree p w.classes left.heap left.elements k next [] os []) (sym below.1) tt);
           few = let less : length after.callers.items < 64 = omega (arith, ap length callers) in less;
           pending = subst (λ (a : Option ℕ). ReferenceAgrees left.heap a None) (sym no_pending) tt;
-          ending = ending_agrees p w.classes made class t.calls.items s.calls t.ending of_world o ∙ ap ending_view (sym ending);
+          ending = ending_agrees p w.classes made class t.calls.items s.calls t.ending of_world o ∙ sym ending;
           busy = λ a b c. something_to_do p w.classes made class t.calls.items s.calls t.ending of_world (sym ending ∙ a) c;
           caught = λ b. refl;
           idle = λ b. refl;

@@ -28,7 +28,6 @@ use Rattle.machine_calls.specs.CarriedOut.{IsShortOf}
 use Rattle.machine_scenes.specs.StoreAgrees.{StoreAgrees, Keeps}
 use Rattle.machine_steps.specs.Executes.{IsHindered, IsSteady, cells_made, in_use_with}
 use Rattle.machine_steps.specs.declared.fault.StepFault.{StepFault}
-use Rattle.semantics.specs.EventViews.{event_view}
 use Rattle.machine_threads.specs.Callers.{beside_callers, owner_at}
 use Rattle.machine_threads.specs.ThreadAgrees.{ThreadAgrees}
 
@@ -71,12 +70,12 @@ pub record Advances (p : Lowered) (w : World) (old store : Store) (others : Acqu
   pub next_shared : Shared
   pub next : source.Thread
   pub steps : thread_step (unit_tree p.unit) w.classes (in_use_with (beside_callers others s) s) k shared s refused
-      ≡ source.Advances next_shared next (event_view event)
+      ≡ source.Advances next_shared next event
   pub store_agrees : StoreAgrees p w store next_shared (beside (beside_callers others next) (acquired_by next))
   pub keeps : Keeps old.heap shared store.heap next_shared
   pub keeps_copies : KeepsCopies (owner_at k (length s.callers)) old.elements store.elements
   pub agrees : ThreadAgrees p w.classes store.heap store.elements (length (loaded_objects w)) k
-      (after_advance (unit_tree p.unit) w.classes k shared s own (source.Advances next_shared next (event_view event))) next_shared t next
+      (after_advance (unit_tree p.unit) w.classes k shared s own (source.Advances next_shared next event)) next_shared t next
   pub short : refused ≡ true → IsShortOf (cells_made shared (thread_step (unit_tree p.unit) w.classes
       (in_use_with (beside_callers others s) s) k shared s false)) old.heap store.heap
 

@@ -49,7 +49,6 @@ use Rattle.machine_calls.specs.CarriedOut.{IsShortOf}
 use Rattle.machine_scenes.specs.HeapAgrees.{ReferenceAgrees}
 use Rattle.machine_threads.specs.Callers.{owner_at}
 use Rattle.machine_threads.specs.InProgress.{CallStands, WorkAgrees}
-use Rattle.semantics.specs.EventViews.{event_view}
 use Rattle.machine_scenes.specs.StoreAgrees.{StoreAgrees, Keeps}
 
 -- What no step of an accepted unit breaks, as `StepSafe` has it of the thread alone, and what its objects and variables are made of.
@@ -118,12 +117,12 @@ pub record GoesOn (p : Lowered) (w : World) (old store : Store) (others : Acquir
   pub next_shared : Shared
   pub next : source.Thread
   pub steps : after_any (unit_tree p.unit) w.classes (in_use_with others s) k shared s rest refused effect
-      ≡ source.Advances next_shared next (event_view event)
+      ≡ source.Advances next_shared next event
   pub store_agrees : StoreAgrees p w store next_shared (beside others (acquired_by next))
   pub keeps : Keeps old.heap shared store.heap next_shared
   pub keeps_copies : KeepsCopies owner old.elements store.elements
   pub work : WorkAgrees p w.classes store.heap store.elements owner (visible_to
-      (owners_left (unit_tree p.unit) w.classes k shared s effect own (event_view event) next.variables) next_shared next)
+      (owners_left (unit_tree p.unit) w.classes k shared s effect own event next.variables) next_shared next)
       (Some activation) next.frames next.tasks
   pub pending_agrees : ReferenceAgrees store.heap pending next.pending
   pub views : AreViewed store.heap activation.slots.buffers.items next

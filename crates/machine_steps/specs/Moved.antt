@@ -36,7 +36,7 @@ PathIsSeen path e = e ≡ event.Quiet
 
 -- it prints nothing
 abbrev pub IsSilent : Event → Type 0
-IsSilent (event.Printed z) = ⊥
+IsSilent (event.PrintedNumber z) = ⊥
 IsSilent e = Unit {0}
 
 -- a path leads to a place that a word can hold

@@ -95,7 +95,7 @@ pub fn execute(
         Instr::PutJint => {
             let word = activation.stack.pop();
             activation.place += 1;
-            Ok(Executed::Did(Event::Printed(word.cast_signed())))
+            Ok(Executed::Did(Event::PrintedNumber(word.cast_signed())))
         }
         Instr::Call(boxed) => {
             let call = boxed.call();

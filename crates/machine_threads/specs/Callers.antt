@@ -9,6 +9,7 @@ use Rattle.semantics.specs.Effect.{is_ready}
 use Rattle.semantics.specs.Sight.{scalar}
 use Rattle.semantics.specs.Task.{Invoke, Operand}
 use Rattle.semantics.specs.Thread as source
+use Rattle.semantics.specs.declared.event.Ending.TheVariants.{Unfinished}
 use Rattle.semantics.specs.Thread.{Caller, Shared, lengths_copied, objects_viewed}
 use Rattle.semantics_safety.specs.Owners.{Owners}
 use Rattle.code_meaning.specs.Lowered.{Lowered}
@@ -27,7 +28,7 @@ thread_of caller = record {
   variables = caller.variables;
   frames = caller.frames;
   pending = None;
-  ending = source.Unfinished;
+  ending = Unfinished;
 }
 
 -- what a caller can see, whose variables have these references of their own

@@ -27,7 +27,6 @@ use Rattle.machine_scenes.specs.HeapAgrees.{ReferenceAgrees, ValuesAgree}
 use Rattle.machine_threads.specs.Callers.{CallersAgree, owner_at}
 use Rattle.machine_threads.specs.InProgress.{WorkAgrees}
 use Rattle.semantics.specs.declared.event.Ending.TheVariants.{Unfinished}
-use Rattle.semantics.specs.EventViews.{ending_view}
 use Rattle.tables.specs.Elements.{OwnedNumbers}
 
 -- ---- calls
@@ -92,7 +91,7 @@ pub record ThreadAgrees (p : Lowered) (classes : Classes) (space : Space) (copie
   pub callers : CallersAgree p classes space copies k shared (reverse t.callers.items) own.callers s.callers
   pub few : length t.callers.items < most_activations
   pub pending : ReferenceAgrees space t.pending s.pending
-  pub ending : s.ending ≡ ending_view t.ending
+  pub ending : s.ending ≡ t.ending
   -- a thread with nothing to do has ended
   pub busy : t.ending ≡ Unfinished → s.tasks ≡ None → s.calls ≡ [] → ⊥
   -- no exception is pending between two calls

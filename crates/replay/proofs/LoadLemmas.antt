@@ -15,7 +15,6 @@ use Rattle.replay.specs.Loading.{first_line, IsWaiting, AddsWaiting, AreWaiting}
 use Rattle.replay_threads.specs.States.{AreInRange, EachInRange, ThreadsStand}
 use Rattle.replay_threads.specs.Threads.{AreCalling, CallersStand, IsDue, ThreadInRange, ThreadStands, WorkInRange, WorkStands, calls_to_come, last_first, tasks_in}
 use Rattle.replay_steps.specs.declared.callers.Entering.{Entering}
-use Rattle.semantics.specs.EventViews.{ending_view}
 use Rattle.replay_steps.specs.declared.activation.Activation.{Activation}
 
 -- the calls of each thread
@@ -93,7 +92,7 @@ module _ (unit : SourceUnit) (classes : Classes) where
     tasks = ap tasks_in (sym h.idle);
     work = subst (λ (o : Option Activation). WorkStands o (waiting_thread calls)) (sym h.idle) (refl, refl);
     pending = sym (ap name_of h.calm);
-    ending = ap ending_view (sym h.unended);
+    ending = sym h.unended;
   }
 
   -- all of them

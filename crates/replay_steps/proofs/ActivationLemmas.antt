@@ -11,8 +11,10 @@ use Rattle.semantics.specs.Return.{return_step}
 use Rattle.semantics.specs.Heap.{Heap}
 use Rattle.semantics.specs.Task.{Task, Loop, tasks_of}
 use Rattle.semantics.specs.Term.{term_of}
-use Rattle.semantics.specs.Thread.{Thread, Shared, BuffersInUse, Event, Quiet, PrintedNumber, Trapped, Advance, NoAdvance}
+use Rattle.semantics.specs.Thread.{Thread, Shared, BuffersInUse, Advance, NoAdvance}
 use Rattle.semantics.specs.Thread as thread
+use Rattle.semantics.specs.declared.event.Event.{Event}
+use Rattle.semantics.specs.declared.event.Event.TheVariants.{Quiet, PrintedNumber, Trapped}
 use Rattle.semantics.specs.ThreadStep.{step_within, with_tasks}
 use Rattle.replay_steps.specs.declared.activation.Outer.{Outer}
 use Rattle.replay_steps.specs.declared.activation.Work.{Work}

@@ -11,7 +11,8 @@ use Rattle.semantics.specs.Arguments.{Actual, actuals, look_up}
 use Rattle.semantics.specs.Effect.{is_given, is_ready}
 use Rattle.semantics.specs.Sight.{Sight}
 use Rattle.semantics.specs.Task.{Operand, Task}
-use Rattle.semantics.specs.Thread.{Advances, Quiet, Shared}
+use Rattle.semantics.specs.Thread.{Advances, Shared}
+use Rattle.semantics.specs.declared.event.Event.TheVariants.{Quiet}
 use Rattle.semantics.specs.ThreadStep.{after_effect, step_within}
 use Rattle.semantics.specs.declared.object_id.ObjectId.{ObjectId}
 use Rattle.replay_arguments.specs.Actuals.{IsReadyAt}

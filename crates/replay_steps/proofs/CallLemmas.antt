@@ -26,7 +26,8 @@ use Rattle.semantics.specs.Heap.{Heap}
 use Rattle.semantics.specs.Method.{MethodId}
 use Rattle.semantics.specs.Object.{ObjectValue, Reference}
 use Rattle.semantics.specs.Task.{Target, Task}
-use Rattle.semantics.specs.Thread.{BuffersInUse, Frame, Thread, Shared, Quiet, Trapped, Advance, Advances, capacities}
+use Rattle.semantics.specs.Thread.{BuffersInUse, Frame, Thread, Shared, Advance, Advances, capacities}
+use Rattle.semantics.specs.declared.event.Event.TheVariants.{Quiet, Trapped}
 use Rattle.semantics.specs.ThreadStep.{with_tasks}
 use Rattle.semantics.specs.declared.trap.Trap.{Trap}
 use Rattle.semantics.specs.declared.trap.Trap.TheVariants.{CallsTooDeep, DeletedReference, ExceptionPending, NoCapacity, NullReference, WrongObject}

@@ -13,7 +13,8 @@ use Rattle.semantics.specs.Object.{ObjectValue, Reference}
 use Rattle.semantics.specs.Return.{given_back, return_into, resumed_in}
 use Rattle.semantics.specs.Sight.{seen}
 use Rattle.semantics.specs.Task.{Target, Task, SetScalar, SetElement, SetNull, MakeArray, Invoke, Print, Branch, EndIf, Loop, EndTurn, Return, ReturnValue, Impossible}
-use Rattle.semantics.specs.Thread.{Advance, Advances, Caller, Frame, NoAdvance, Quiet, Shared, Thread, Trapped}
+use Rattle.semantics.specs.declared.event.Event.TheVariants.{Quiet, Trapped}
+use Rattle.semantics.specs.Thread.{Advance, Advances, Caller, Frame, NoAdvance, Shared, Thread}
 use Rattle.semantics.specs.declared.trap.Trap.TheVariants.{CallsTooDeep}
 use Rattle.semantics.specs.Variable.{Statics, Variables}
 use Rattle.replay_calls.specs.Answers.{frames_with}

@@ -20,7 +20,8 @@ use Rattle.semantics.specs.Heap.{Heap, class_of, field_place, number_in, value_a
 use Rattle.semantics.specs.Object.{Number}
 use Rattle.semantics.specs.Task.{Invoke, NumberOperand, Operand, Target, Task}
 use Rattle.semantics.specs.Term.{Done}
-use Rattle.semantics.specs.Thread.{Advance, Advances, BuffersInUse, Frame, Quiet, Shared, Thread, sight_of}
+use Rattle.semantics.specs.Thread.{Advance, Advances, BuffersInUse, Frame, Shared, Thread, sight_of}
+use Rattle.semantics.specs.declared.event.Event.TheVariants.{Quiet}
 use Rattle.semantics.specs.ThreadStep.{step_within}
 use Rattle.semantics.specs.declared.trap.Trap.{Trap}
 use Rattle.semantics.specs.Value.{Int, convert}

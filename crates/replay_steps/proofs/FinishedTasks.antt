@@ -6,7 +6,8 @@ use Rattle.semantics.specs.Effect.{effect_of}
 use Rattle.semantics.specs.Sight.{Sight}
 use Rattle.semantics.specs.Heap.{Heap}
 use Rattle.semantics.specs.Task.{EndIf, EndTurn}
-use Rattle.semantics.specs.Thread.{Advance, Advances as Advances', Quiet, Shared, Thread}
+use Rattle.semantics.specs.declared.event.Event.TheVariants.{Quiet}
+use Rattle.semantics.specs.Thread.{Advance, Advances as Advances', Shared, Thread}
 use Rattle.semantics.specs.Variable.{Statics, Variables}
 use Rattle.replay_arguments.specs.Shares.{sight_in}
 use Rattle.replay_steps.specs.declared.activation.Work.{Work}

@@ -5,7 +5,8 @@ use Rattle.semantics.specs.Effect.{effect_of}
 use Rattle.semantics.specs.Sight.{Sight}
 use Rattle.semantics.specs.Task.{Task}
 use Rattle.semantics.specs.Object.{Reference}
-use Rattle.semantics.specs.Thread.{Frame, Thread, Shared, BuffersInUse, sight_of, Trapped, Advances, NoAdvance}
+use Rattle.semantics.specs.Thread.{Frame, Thread, Shared, BuffersInUse, sight_of, Advances, NoAdvance}
+use Rattle.semantics.specs.declared.event.Event.TheVariants.{Trapped}
 use Rattle.semantics.specs.ThreadStep.{after_effect, after_refused_effect, with_tasks}
 use Rattle.semantics.specs.Variable.{Variables}
 use Rattle.replay_tasks.specs.declared.outcome.Outcome.{Outcome}

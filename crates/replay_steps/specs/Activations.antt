@@ -9,8 +9,9 @@ use Rattle.semantics.specs.Heap.{Heap}
 use Rattle.semantics.specs.Sight.{Sight}
 use Rattle.semantics.specs.Task.{Task, Loop, task_of}
 use Rattle.semantics.specs.Term.{term_of}
-use Rattle.semantics.specs.Thread.{Thread, Shared, Quiet, PrintedNumber, Trapped, Advance, NoAdvance}
+use Rattle.semantics.specs.Thread.{Thread, Shared, Advance, NoAdvance}
 use Rattle.semantics.specs.Thread as thread
+use Rattle.semantics.specs.declared.event.Event.TheVariants.{Quiet, PrintedNumber, Trapped}
 use Rattle.semantics.specs.ThreadStep.{step_within, with_tasks}
 use Rattle.semantics.specs.Variable.{Statics}
 use Rattle.replay_arguments.specs.declared.scene.Turn.{Turn}

@@ -3,8 +3,9 @@ use Rattle.std.specs.Prelude.{◌≡◌, Bool, true, false, List, ◌∷◌, Opt
 use Rattle.semantics.specs.Arguments.{Actual, actuals}
 use Rattle.semantics.specs.CallStep.{call_step}
 use Rattle.semantics.specs.Task.{Task}
-use Rattle.semantics.specs.Thread.{BuffersInUse, Quiet, Shared, Thread}
+use Rattle.semantics.specs.Thread.{BuffersInUse, Shared, Thread}
 use Rattle.semantics.specs.Thread as thread
+use Rattle.semantics.specs.declared.event.Event.TheVariants.{Quiet}
 use Rattle.semantics.specs.ThreadStep.{step_within}
 use Rattle.semantics.specs.Views.{name_of}
 use Rattle.semantics.specs.declared.object_id.ObjectId.{ObjectId}

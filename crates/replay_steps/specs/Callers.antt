@@ -6,7 +6,8 @@ use Rattle.jni.specs.JniFunction.{prototype}
 use Rattle.semantics.specs.CallEffects.{CallResult}
 use Rattle.semantics.specs.Object.{Reference}
 use Rattle.semantics.specs.Return.{given_back, return_into}
-use Rattle.semantics.specs.Thread.{Advance, Advances, Caller, NoAdvance, Quiet, Shared, Thread, Trapped}
+use Rattle.semantics.specs.declared.event.Event.TheVariants.{Quiet, Trapped}
+use Rattle.semantics.specs.Thread.{Advance, Advances, Caller, NoAdvance, Shared, Thread}
 use Rattle.semantics.specs.declared.trap.Trap.TheVariants.{CallsTooDeep}
 use Rattle.semantics.specs.Views.{object_value_view}
 use Rattle.semantics.specs.World.{Invocation}

@@ -9,8 +9,9 @@ use Rattle.semantics.specs.CallEffects.{ScalarResult}
 use Rattle.semantics.specs.CallStep.{put}
 use Rattle.semantics.specs.Heap.{class_of, field_place, holds_number}
 use Rattle.semantics.specs.Task.{Task, Operand, Given}
-use Rattle.semantics.specs.Thread.{BuffersInUse, Frame, Quiet, Shared, Thread}
+use Rattle.semantics.specs.Thread.{BuffersInUse, Frame, Shared, Thread}
 use Rattle.semantics.specs.Thread as thread
+use Rattle.semantics.specs.declared.event.Event.TheVariants.{Quiet}
 use Rattle.semantics.specs.ThreadStep.{step_within}
 use Rattle.semantics.specs.Value.{Int}
 use Rattle.semantics.specs.Variable.{Live}

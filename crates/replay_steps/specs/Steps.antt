@@ -16,7 +16,8 @@ use Rattle.semantics.specs.Term.{Done}
 use Rattle.semantics.specs.declared.trap.Trap.TheVariants.{CallsTooDeep}
 use Rattle.semantics.specs.Value.{Truth}
 use Rattle.semantics.specs.World.{Invocation}
-use Rattle.semantics.specs.Thread.{Caller, Frame, Thread, Shared, BuffersInUse, Quiet, PrintedNumber, Trapped, Advance, Advances, NoAdvance, sight_of}
+use Rattle.semantics.specs.Thread.{Caller, Frame, Thread, Shared, BuffersInUse, Advance, Advances, NoAdvance, sight_of}
+use Rattle.semantics.specs.declared.event.Event.TheVariants.{Quiet, PrintedNumber, Trapped}
 use Rattle.semantics.specs.ThreadStep.{step_within, with_tasks}
 use Rattle.replay_arguments.specs.Shares.{shared_view}
 use Rattle.replay_arguments.specs.declared.scene.Locals.{Locals}

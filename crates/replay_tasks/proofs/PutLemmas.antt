@@ -8,7 +8,8 @@ use Rattle.semantics.specs.CallStep.{blank, filled, static_result, put_assigned,
 use Rattle.semantics.specs.Heap.{Heap, with_value_at}
 use Rattle.semantics.specs.Object.{Number}
 use Rattle.semantics.specs.Task.{VariableKind, Declared, Assigned}
-use Rattle.semantics.specs.Thread.{Thread, Shared, Quiet, Advance, Advances, NoAdvance}
+use Rattle.semantics.specs.Thread.{Thread, Shared, Advance, Advances, NoAdvance}
+use Rattle.semantics.specs.declared.event.Event.TheVariants.{Quiet}
 use Rattle.semantics.specs.ThreadStep.{set_variable, set_element}
 use Rattle.semantics.specs.Value.{convert}
 use Rattle.semantics.specs.Variable.{Variable, Scalar, LocalRef, FieldHandle, MethodHandle, Elements, NoBuffer, Copy, View, LocalArray, Variables, Statics, assign}

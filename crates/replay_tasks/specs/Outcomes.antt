@@ -10,7 +10,8 @@ use Rattle.semantics.specs.CallEffects.{CallResult, NoResult, BufferResult, Null
 use Rattle.semantics.specs.CallStep.{put, is_zero}
 use Rattle.semantics.specs.Heap.{Heap}
 use Rattle.semantics.specs.Task.{VariableKind, ScalarKind, ReferenceKind, FieldKind, MethodKind, BufferKind, Target, Declared, Assigned, Tested, Dropped}
-use Rattle.semantics.specs.Thread.{Thread, Shared, Quiet, Advance, Advances, NoAdvance}
+use Rattle.semantics.specs.Thread.{Thread, Shared, Advance, Advances, NoAdvance}
+use Rattle.semantics.specs.declared.event.Event.TheVariants.{Quiet}
 use Rattle.semantics.specs.ThreadStep.{set_variable, set_element}
 use Rattle.semantics.specs.Views.{name_of}
 use Rattle.semantics.specs.Variable.{Variable, Scalar, Elements, LocalArray, Statics}

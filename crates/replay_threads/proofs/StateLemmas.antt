@@ -29,7 +29,10 @@ use Rattle.semantics.specs.Step.{turn_step, can_step, step_of, is_blocked, is_li
 use Rattle.jni.specs.declared.function.JniFunction.TheVariants.{MonitorEnter}
 use Rattle.semantics.specs.CallStep.{trap_of_call, waits_with}
 use Rattle.semantics.specs.Effect.{Effect, Calls}
-use Rattle.semantics.specs.Thread.{BuffersInUse, copied_by, lengths_copied, viewed_by, objects_viewed, Caller, Ending, Monitor, Thread, Shared, Unfinished, Ended, Uncaught, Quiet, PrintedNumber, Trapped}
+use Rattle.semantics.specs.Thread.{BuffersInUse, copied_by, lengths_copied, viewed_by, objects_viewed, Caller, Monitor, Thread, Shared}
+use Rattle.semantics.specs.declared.event.Ending.{Ending}
+use Rattle.semantics.specs.declared.event.Ending.TheVariants.{Unfinished, Ended, Uncaught}
+use Rattle.semantics.specs.declared.event.Event.TheVariants.{Quiet, PrintedNumber, Trapped}
 use Rattle.semantics.specs.ThreadStep.{next_effect, thread_step, waits}
 use Rattle.semantics.proofs.StepLaws.{Steps, steps, step-thread}
 use Rattle.replay_threads.specs.declared.state.State.{State as StateInMemory}
@@ -37,7 +40,7 @@ use Rattle.replay_threads.specs.declared.thread.Thread.{Thread as ThreadInMemory
 use Rattle.semantics.specs.declared.event.Event.{Event}
 use Rattle.semantics.specs.declared.event.Event.TheVariants as event
 use Rattle.semantics.specs.declared.event.Stop.{Stop as StopInMemory}
-use Rattle.semantics.specs.EventViews.{ending_view, printed_after, stop_after, stop_view}
+use Rattle.semantics.specs.EventViews.{printed_after, stop_after, stop_view}
 use Rattle.replay_threads.specs.States.{ThreadsStand, AreInRange, Stands, call_copies, call_views, variables_of, copied_in, viewed_in, in_use_by, Leads, standing_in, standings_of, EachInRange}
 use Rattle.replay_threads.specs.Threads.{ThreadInRange, ThreadStands, ThreadWaits, WorkStands, StepIs, TakesStep, last_first}
 use Rattle.replay_steps.specs.Callers.{CallerStands}
@@ -216,7 +219,7 @@ module _ (unit : SourceUnit) (w : World) (m : StateInMemory) (s : State) (h : St
   past_the_end (suc i) refused past = not_there (suc i) refused (missing unit w.classes m.threads.items s.threads i h.threads (omega (arith, past)))
 
   -- a thread that has ended
-  pub ended : (k : ℕ) (refused : Bool) (i : ℕ) (t : ThreadInMemory) → k ≡ suc i → slice_get m.threads.items i ≡ Some t → is_unfinished (ending_view t.ending) ≡ false → turn_step unit w.classes s k refused ≡ None
+  pub ended : (k : ℕ) (refused : Bool) (i : ℕ) (t : ThreadInMemory) → k ≡ suc i → slice_get m.threads.items i ≡ Some t → is_unfinished t.ending ≡ false → turn_step unit w.classes s k refused ≡ None
   unfolding turn_step
   ended k refused i t counted at over =
       let f = found unit w.classes m.threads.items s.threads i t h.threads at in
@@ -258,13 +261,13 @@ module _ (unit : SourceUnit) (w : World) (m : StateInMemory) (s : State) (h : St
       ∙ ap (λ (x : Shared). waits w.classes k x f.source) (sym h.shared)
       ∙ sym (ap (is_waiting w.classes k s.shared) (ap (thread_at s) counted ∙ f.is))
 
-  module _ (i : ℕ) (t after : ThreadInMemory) (at : slice_get m.threads.items i ≡ Some t) (live : is_unfinished (ending_view t.ending) ≡ true) (runs : is_some m.stop ≡ false) (free : is_blocked w.classes s (suc i) ≡ false)
+  module _ (i : ℕ) (t after : ThreadInMemory) (at : slice_get m.threads.items i ≡ Some t) (live : is_unfinished t.ending ≡ true) (runs : is_some m.stop ≡ false) (free : is_blocked w.classes s (suc i) ≡ false)
       (new : StateInMemory) (world : new.world ≡ m.world) (threads : new.threads.items ≡ slice_set m.threads.items i after) (refused : Bool) where
     the_thread : Found unit w.classes t s.threads i
     the_thread = found unit w.classes m.threads.items s.threads i t h.threads at
 
     unended : the_thread.source.ending ≡ Unfinished
-    unended = the_thread.stands.ending ∙ is_live_so (ending_view t.ending) live
+    unended = the_thread.stands.ending ∙ is_live_so t.ending live
 
     steps_here : Steps w.classes s (suc i) the_thread.source
     steps_here = steps w.classes s (suc i) the_thread.source (h.stop ∙ not_stopped m.stop runs) the_thread.is unended (sym (ap (is_waiting w.classes (suc i) s.shared) the_thread.is) ∙ free)
@@ -293,7 +296,7 @@ module _ (unit : SourceUnit) (w : World) (m : StateInMemory) (s : State) (h : St
       step_is ∙ ap (advanced s (suc i)) l.advances,
       record { world = same_world; shared = refl; threads = all_stand l.next l.stands; printed = h.printed ∙ sym printed; stop = same_stop m.stop stop refl },
     )
-    by_step (Some (event.Printed z)) l printed stop = (
+    by_step (Some (event.PrintedNumber z)) l printed stop = (
       with_event (record s { shared = after_it; threads = set_thread s.threads (suc i) l.next }) (suc i) (PrintedNumber z),
       step_is ∙ ap (advanced s (suc i)) l.advances,
       record {
@@ -316,7 +319,7 @@ module _ (unit : SourceUnit) (w : World) (m : StateInMemory) (s : State) (h : St
     takes_at took step printed stop = by_step took (step the_thread.source the_thread.stands unended) printed stop
 
   -- an entry is possible as far as its thread's step is
-  pub takes : (k : ℕ) (refused : Bool) (i : ℕ) (t after : ThreadInMemory) (took : Option Event) (new : StateInMemory) → k ≡ suc i → slice_get m.threads.items i ≡ Some t → is_unfinished (ending_view t.ending) ≡ true
+  pub takes : (k : ℕ) (refused : Bool) (i : ℕ) (t after : ThreadInMemory) (took : Option Event) (new : StateInMemory) → k ≡ suc i → slice_get m.threads.items i ≡ Some t → is_unfinished t.ending ≡ true
       → is_some m.stop ≡ false → is_blocked w.classes s k ≡ false → TakesStep unit w.classes (in_use s) k refused (shared_view m.shared) t took (shared_view new.shared) after → new.world ≡ m.world → new.threads.items ≡ slice_set m.threads.items i after
       → new.printed.items ≡ option_map_or (printed_after m.printed.items k) took m.printed.items → new.stop ≡ option_map_or (stop_after m.stop k) took m.stop
       → Leads unit w s (entry.Step k refused) new (is_some took)

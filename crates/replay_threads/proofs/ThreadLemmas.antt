@@ -20,13 +20,16 @@ use Rattle.std.specs.Borrow.{Bor}
 use Rattle.std.specs.Global.{Vec}
 use Rattle.syntax.specs.Tree.{Function, SourceUnit}
 use Rattle.class_rules.specs.Class.{Classes}
-use Rattle.semantics.specs.Thread.{Caller, Thread, Shared, BuffersInUse, Event, Quiet, PrintedNumber, Trapped, Advances as AdvancesTo, NoAdvance, Ending, Unfinished, Ended, Uncaught}
+use Rattle.semantics.specs.Thread.{Caller, Thread, Shared, BuffersInUse, Advances as AdvancesTo, NoAdvance}
 use Rattle.semantics.specs.Object.{Reference}
 use Rattle.semantics.specs.Views.{name_of}
 use Rattle.semantics.specs.declared.object_id.ObjectId.{ObjectId}
 use Rattle.semantics.specs.Activation.{enter, entered, entry_advance, entered_function}
 use Rattle.semantics.specs.CallEffects.{CallResult}
 use Rattle.semantics.specs.Return.{ending_after, monitors_after, calls_after, return_by, return_step}
+use Rattle.semantics.specs.declared.event.Event.TheVariants.{Quiet, PrintedNumber, Trapped}
+use Rattle.semantics.specs.declared.event.Ending.{Ending}
+use Rattle.semantics.specs.declared.event.Ending.TheVariants.{Unfinished, Ended, Uncaught}
 use Rattle.semantics.specs.ThreadStep.{next_effect, thread_step, step_within}
 use Rattle.replay_steps.specs.declared.activation.Activation.{Activation}
 use Rattle.replay_threads.specs.declared.thread.Thread.{Thread as ThreadInMemory}
@@ -38,9 +41,8 @@ use Rattle.replay_steps.specs.Callers.{CallerStands, MakesCaller, entering_view,
 use Rattle.replay_steps.specs.declared.callers.Entering.{Entering}
 use Rattle.replay_steps.specs.Steps.{Scene, Sees, calling_by, scene_with, waiting}
 use Rattle.replay_steps.specs.Waits.{WaitsIn}
-use Rattle.semantics.specs.EventViews.{ending_view}
 use Rattle.replay_tasks.specs.declared.outcome.Outcome.{Outcome}
-use Rattle.semantics.specs.declared.event.Event.{Event as EventInMemory}
+use Rattle.semantics.specs.declared.event.Event.{Event}
 use Rattle.replay_threads.proofs.CallerLists.{last_is_first}
 use Rattle.replay_threads.specs.Threads.{AreCalling, CallersStand, HasCalled, HasPushed, HasWaited, IsDue, IsEntered, IsStopped, HasNoEntry, HasResumed, HasReturned, ReturnsBy, calls_to_come, ThreadInRange, ThreadStands, ThreadWaits, WorkInRange, WorkStands, EndsStep, HasLeft, Leaves, StepIs, event_of, last_first, tasks_in}
 
@@ -79,7 +81,7 @@ none_taken k shared last t rest given left is none e =
     })
 
 -- a call that didn't return goes on
-pub goes_on : (k : ℕ) (shared : Shared) (t : ThreadInMemory) (o : Outcome) (took : Option EventInMemory) → ((given : ResultInMemory) → o ≡ outcome.Returned given → ⊥) → ((line : ℕ) (x : Bor Identifier) → o ≡ outcome.Calls line x → ⊥) → took ≡ event_of o → EndsStep k shared t o took shared t
+pub goes_on : (k : ℕ) (shared : Shared) (t : ThreadInMemory) (o : Outcome) (took : Option Event) → ((given : ResultInMemory) → o ≡ outcome.Returned given → ⊥) → ((line : ℕ) (x : Bor Identifier) → o ≡ outcome.Calls line x → ⊥) → took ≡ event_of o → EndsStep k shared t o took shared t
 goes_on k shared t (outcome.Returned given) took none uncalled is = absurd (none given refl)
 goes_on k shared t (outcome.Calls line x) took none uncalled is = absurd (uncalled line x refl)
 goes_on k shared t o took none uncalled is = (is, refl, refl)
@@ -136,15 +138,15 @@ pushed_range shared t a line x left e known =
     }
 
 -- it calls another, or would
-called_range : (shared : Shared) (t : ThreadInMemory) (o : Option Activation) (line : ℕ) (x : Identifier) (took : Option EventInMemory) (left : ThreadInMemory) → HasCalled shared t o line x took left → ThreadInRange t → ThreadInRange left
+called_range : (shared : Shared) (t : ThreadInMemory) (o : Option Activation) (line : ℕ) (x : Identifier) (took : Option Event) (left : ThreadInMemory) → HasCalled shared t o line x took left → ThreadInRange t → ThreadInRange left
 called_range shared t None line x took left e known = subst ThreadInRange (sym e.1) known
 called_range shared t (Some a) line x None left e known = subst ThreadInRange (sym e.1) known
 called_range shared t (Some a) line x (Some event.Quiet) left e known = pushed_range shared t a line x left e known
 called_range shared t (Some a) line x (Some (event.Trapped trap at)) left e known = subst ThreadInRange (sym e.0.same) known
-called_range shared t (Some a) line x (Some (event.Printed z)) left e known = absurd e
+called_range shared t (Some a) line x (Some (event.PrintedNumber z)) left e known = absurd e
 
 -- what is known of it after its step
-pub ended_range : (k : ℕ) (shared last : Shared) (t : ThreadInMemory) (o : Outcome) (took : Option EventInMemory) (left : ThreadInMemory) → EndsStep k shared t o took last left → ThreadInRange t → ThreadInRange left
+pub ended_range : (k : ℕ) (shared last : Shared) (t : ThreadInMemory) (o : Outcome) (took : Option Event) (left : ThreadInMemory) → EndsStep k shared t o took last left → ThreadInRange t → ThreadInRange left
 ended_range k shared last t (outcome.Returned given) took left e known = range_returned k shared last t left (result_view given) known (last_first t.callers.items) refl e.1
 ended_range k shared last t (outcome.Calls line x) took left e known = called_range shared t t.activation line x.now took left e.0 known
 ended_range k shared last t o took left e known = subst ThreadInRange (sym e.1) known
@@ -256,7 +258,7 @@ module _ (unit : SourceUnit) (classes : Classes) (in_use : BuffersInUse) (k : �
     ends : (given : ResultInMemory) (last : Shared) (left : ThreadInMemory) → s.callers ≡ [] → left.callers.items ≡ [] → Advances refused before a.work (outcome.Returned given) end' new.work → HasLeft k after stepped last left
         → Leaves unit classes last left Quiet (thread_step unit classes in_use k shared s refused)
     ends given last left alone none does over =
-        let e : Ending = ending_view left.ending in
+        let e : Ending = left.ending in
         record {
           next = thread_after e t.calls.now;
           advances = advances_so (outcome.Returned given) does ∙ left_by after last next (result_view given) e t.calls.now (name_of pending) alone calls_are refl over.ending over.shared;
@@ -290,7 +292,7 @@ module _ (unit : SourceUnit) (classes : Classes) (in_use : BuffersInUse) (k : �
         tasks = ap tasks_in (sym goes.is);
         work = subst (λ (o : Option Activation). WorkStands o (thread_at next cs goes.activation)) (sym goes.is) (refl, refl);
         pending = ap name_of (sym goes.pending);
-        ending = h.ending ∙ ap ending_view (sym goes.ending);
+        ending = h.ending ∙ sym goes.ending;
       };
     }
 
@@ -325,7 +327,7 @@ module _ (unit : SourceUnit) (classes : Classes) (in_use : BuffersInUse) (k : �
             tasks = ap tasks_in (sym pushed.activation);
             work = subst (λ (o : Option Activation). WorkStands o (waiting next caller call)) (sym pushed.activation) (refl, refl);
             pending = ap name_of (sym pushed.pending);
-            ending = h.ending ∙ ap ending_view (sym pushed.ending);
+            ending = h.ending ∙ sym pushed.ending;
           };
         }
 
@@ -341,17 +343,17 @@ module _ (unit : SourceUnit) (classes : Classes) (in_use : BuffersInUse) (k : �
         ∙ ap (λ b. if b then AdvancesTo after next (Trapped CallsTooDeep line) else AdvancesTo after (waiting next caller call) Quiet) deep))
 
     -- whichever
-    calls_so : (line : ℕ) (x : Identifier) (took : Option EventInMemory) (left : ThreadInMemory) → HasCalled after stepped (Some new) line x took left → thread_step unit classes in_use k shared s refused ≡ calling_by after next line x (Some (tasks_left new.work))
+    calls_so : (line : ℕ) (x : Identifier) (took : Option Event) (left : ThreadInMemory) → HasCalled after stepped (Some new) line x took left → thread_step unit classes in_use k shared s refused ≡ calling_by after next line x (Some (tasks_left new.work))
         → StepIs unit classes after left took (thread_step unit classes in_use k shared s refused)
     calls_so line x None left e does = does ∙ e.0 next
     calls_so line x (Some event.Quiet) left e does = waits_for line x left e does
     calls_so line x (Some (event.Trapped trap at)) left e does =
         subst (λ (l : ℕ). Leaves unit classes after left (Trapped trap l) (thread_step unit classes in_use k shared s refused)) (sym e.2)
         (subst (λ (found : Trap). Leaves unit classes after left (Trapped found line) (thread_step unit classes in_use k shared s refused)) (sym e.1) (stops_at line x left e.0 does))
-    calls_so line x (Some (event.Printed z)) left e does = absurd e
+    calls_so line x (Some (event.PrintedNumber z)) left e does = absurd e
 
     -- what a step of the call did is the thread's step
-    pub ended_step : (o : Outcome) (took : Option EventInMemory) (last : Shared) (left : ThreadInMemory) → EndsStep k after stepped o took last left → Advances refused before a.work o end' new.work
+    pub ended_step : (o : Outcome) (took : Option Event) (last : Shared) (left : ThreadInMemory) → EndsStep k after stepped o took last left → Advances refused before a.work o end' new.work
         → StepIs unit classes last left took (thread_step unit classes in_use k shared s refused)
     ended_step (outcome.Returned given) took last left e does = rw e.0 (returns given last left (last_first t.callers.items) s.callers refl refl h.callers does e.1)
     ended_step (outcome.Calls line x) took last left e does =
@@ -360,7 +362,7 @@ module _ (unit : SourceUnit) (classes : Classes) (in_use : BuffersInUse) (k : �
     ended_step o took last left e does =
         let taken = thread_step unit classes in_use k shared s refused in
         subst (λ (x : Shared). StepIs unit classes x left took taken) (sym e.2)
-        (subst (λ (w : Option EventInMemory). StepIs unit classes after left w taken) (sym e.0) (subst (λ (u : ThreadInMemory). StepIs unit classes after u (event_of o) taken) (sym e.1) (goes o (λ g r. absurd (cc)) (λ line x r. absurd (cc)) does)))
+        (subst (λ (w : Option Event). StepIs unit classes after left w taken) (sym e.0) (subst (λ (u : ThreadInMemory). StepIs unit classes after u (event_of o) taken) (sym e.1) (goes o (λ g r. absurd (cc)) (λ line x r. absurd (cc)) does)))
 
   -- the entry into the next call
   pub enters : (shared : Shared) (t : ThreadInMemory) (call : Invocation) (rest : List Invocation) (o : Option Activation) (s : Thread) → IsEntered unit classes call o → t.activation ≡ None → calls_to_come t.entering t.calls.now ≡ call ∷ rest → ThreadStands unit classes t s

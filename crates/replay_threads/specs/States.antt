@@ -21,7 +21,7 @@ use Rattle.semantics.specs.Step.{world_step, is_blocked, is_unfinished}
 use Rattle.semantics.specs.ReportOf.{standing_at, standing_of}
 use Rattle.replay_threads.specs.declared.thread.Thread.{Thread as ThreadInMemory}
 use Rattle.replay_threads.specs.declared.state.State.{State as StateInMemory}
-use Rattle.semantics.specs.EventViews.{ending_view, printed_after, stop_after, stop_view}
+use Rattle.semantics.specs.EventViews.{printed_after, stop_after, stop_view}
 use Rattle.replay_terms.specs.Views.{variables_view}
 use Rattle.replay_threads.specs.Threads.{ThreadInRange, ThreadStands, last_first}
 use Rattle.replay_arguments.specs.Shares.{shared_view}
@@ -105,7 +105,7 @@ Waits m k answer = OfEach m (λ w s. answer ≡ is_blocked w.classes s k)
 pub record IsLiveAt (m : StateInMemory) (k place : ℕ) : Type 0 where
   pub counted : k ≡ place + 1
   pub there : place < length m.threads.items
-  pub live : (t : ThreadInMemory) → slice_get m.threads.items place ≡ Some t → is_unfinished (ending_view t.ending) ≡ true
+  pub live : (t : ThreadInMemory) → slice_get m.threads.items place ≡ Some t → is_unfinished t.ending ≡ true
   pub runs : is_some m.stop ≡ false
   pub free : Waits m k false
 
@@ -148,7 +148,7 @@ in_use_by ts = record { copied = sum_by copied_in ts; views = length (flat_map v
 
 -- the standing of thread k, which waits or doesn't
 abbrev pub standing_in : Classes → (waits : Bool) → Option StopInMemory → (k : ℕ) → ThreadInMemory → ThreadStanding
-standing_in classes waits stop k t = standing_at classes waits (option_map stop_view stop) k (ending_view t.ending)
+standing_in classes waits stop k t = standing_at classes waits (option_map stop_view stop) k t.ending
 
 -- the standings of the threads of a state
 abbrev pub standings_of : Classes → State → List ThreadStanding

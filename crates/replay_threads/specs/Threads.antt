@@ -14,7 +14,8 @@ use Rattle.semantics.specs.Load.{call_loads}
 use Rattle.semantics.specs.World.{Invocation}
 use Rattle.semantics.specs.Task.{Task, tasks_of}
 use Rattle.semantics.specs.CallEffects.{CallResult}
-use Rattle.semantics.specs.Thread.{Unfinished, Caller, Thread, Shared, BuffersInUse, Event, Advance, Advances, NoAdvance}
+use Rattle.semantics.specs.Thread.{Caller, Thread, Shared, BuffersInUse, Advance, Advances, NoAdvance}
+use Rattle.semantics.specs.declared.event.Ending.TheVariants.{Unfinished}
 use Rattle.semantics.specs.ThreadStep.{thread_step, waits}
 use Rattle.semantics.specs.declared.trap.Trap.TheVariants.{CallsTooDeep}
 use Rattle.semantics.specs.Value.{Int}
@@ -32,9 +33,8 @@ use Rattle.replay_steps.specs.declared.callers.Entering.{Entering}
 use Rattle.replay_tasks.specs.Outcomes.{result_view}
 use Rattle.replay_arguments.specs.declared.scene.Turn.{Turn}
 use Rattle.replay_terms.specs.Views.{in_use_view}
-use Rattle.semantics.specs.declared.event.Event.{Event as EventInMemory}
+use Rattle.semantics.specs.declared.event.Event.{Event}
 use Rattle.semantics.specs.declared.event.Event.TheVariants as event
-use Rattle.semantics.specs.EventViews.{ending_view, event_view}
 use Rattle.replay_terms.specs.Views.{assign_all, variables_view}
 use Rattle.semantics.specs.declared.object_value.ObjectValue.{ObjectValue as ObjectValueInMemory}
 use Rattle.world_values.specs.Views.{object_value_view}
@@ -129,8 +129,8 @@ BeginsNext unit classes call true old new = IsEntered unit classes call new
 BeginsNext unit classes call false old new = (new ≡ old) × HasNoEntry unit classes call
 
 -- what others see of what a call in progress did; none where it did nothing that is possible
-abbrev pub event_of : Outcome → Option EventInMemory
-event_of (outcome.Printed z) = Some (event.Printed z)
+abbrev pub event_of : Outcome → Option Event
+event_of (outcome.Printed z) = Some (event.PrintedNumber z)
 event_of (outcome.Trapped trap line) = Some (event.Trapped trap line)
 event_of outcome.Impossible = None
 event_of took = Some event.Quiet
@@ -139,11 +139,11 @@ event_of took = Some event.Quiet
 pub record HasLeft (k : ℕ) (s : Shared) (old : ThreadInMemory) (after : Shared) (new : ThreadInMemory) : Type 0 where
   pub activation : new.activation ≡ None
   pub pending : new.pending ≡ None
-  pub ending : ending_view new.ending ≡ ending_after s.heap (name_of old.pending) old.calls.now
-  pub calls : new.calls.now ≡ calls_after (ending_view new.ending) old.calls.now
+  pub ending : new.ending ≡ ending_after s.heap (name_of old.pending) old.calls.now
+  pub calls : new.calls.now ≡ calls_after new.ending old.calls.now
   pub callers : new.callers.items ≡ old.callers.items
   pub entering : new.entering ≡ old.entering
-  pub shared : after ≡ record s { monitors = monitors_after (ending_view new.ending) k s.monitors }
+  pub shared : after ≡ record s { monitors = monitors_after new.ending k s.monitors }
 
 -- the last of a thread's callers goes on with what the call in progress returned, and these are those that are left
 pub record HasResumed (s : Shared) (old : ThreadInMemory) (given : CallResult) (caller : Activation) (left : List Activation)
@@ -191,15 +191,15 @@ pub record IsStopped (s : Shared) (old : ThreadInMemory) (a : Activation) (line 
   pub same : new ≡ old
 
 -- what others see of a call of the function of this name by a call in progress, and what that did to its thread
-abbrev pub HasCalled : Shared → ThreadInMemory → Option Activation → (line : ℕ) → Identifier → Option EventInMemory → ThreadInMemory → Type 0
+abbrev pub HasCalled : Shared → ThreadInMemory → Option Activation → (line : ℕ) → Identifier → Option Event → ThreadInMemory → Type 0
 HasCalled s old None line x took new = (took ≡ None) × (new ≡ old)
 HasCalled s old (Some a) line x None new = MakesCaller s a line x None × (new ≡ old)
 HasCalled s old (Some a) line x (Some event.Quiet) new = HasWaited s old a line x new
 HasCalled s old (Some a) line x (Some (event.Trapped trap at)) new = IsStopped s old a line x new × (trap ≡ CallsTooDeep) × (at ≡ line)
-HasCalled s old (Some a) line x (Some (event.Printed z)) new = ⊥
+HasCalled s old (Some a) line x (Some (event.PrintedNumber z)) new = ⊥
 
 -- what others see of what a call in progress did, which was left if it returned, and waits if it called a method
-abbrev pub EndsStep : (k : ℕ) → Shared → ThreadInMemory → Outcome → Option EventInMemory → Shared → ThreadInMemory → Type 0
+abbrev pub EndsStep : (k : ℕ) → Shared → ThreadInMemory → Outcome → Option Event → Shared → ThreadInMemory → Type 0
 EndsStep k shared old (outcome.Returned given) took after new = (took ≡ Some event.Quiet) × HasReturned k shared old (result_view given) after new
 EndsStep k shared old (outcome.Calls line x) took after new = HasCalled shared old old.activation line x.now took new × (after ≡ shared)
 EndsStep k shared old o took after new = (took ≡ event_of o) × (new ≡ old) × (after ≡ shared)
@@ -213,7 +213,7 @@ pub record ThreadStands (unit : SourceUnit) (classes : Classes) (t : ThreadInMem
   pub tasks : s.tasks ≡ tasks_in t.activation
   pub work : WorkStands t.activation s
   pub pending : s.pending ≡ name_of t.pending
-  pub ending : s.ending ≡ ending_view t.ending
+  pub ending : s.ending ≡ t.ending
 
 -- whether each thread that it stands for waits for a monitor, as thread k
 abbrev pub ThreadWaits : Classes → (k : ℕ) → Shared → ThreadInMemory → Bool → Type 0
@@ -227,24 +227,24 @@ pub record Leaves (unit : SourceUnit) (classes : Classes) (shared : Shared) (t :
   pub stands : ThreadStands unit classes t next
 
 -- what a step in memory did is the thread's step, or neither is possible
-abbrev pub StepIs : SourceUnit → Classes → Shared → ThreadInMemory → Option EventInMemory → Advance → Type 0
-StepIs unit classes shared t (Some e) advance = Leaves unit classes shared t (event_view e) advance
+abbrev pub StepIs : SourceUnit → Classes → Shared → ThreadInMemory → Option Event → Advance → Type 0
+StepIs unit classes shared t (Some e) advance = Leaves unit classes shared t e advance
 StepIs unit classes shared t None advance = advance ≡ NoAdvance
 
 -- The same for each thread that it stands for, with this to share before and after it, or what the step does with its object
 -- refused. It is thread k, and the buffers of all threads together take what is in use.
 abbrev pub TakesStep : SourceUnit → Classes → BuffersInUse → (k : ℕ) → (refused : Bool) → Shared → ThreadInMemory
-    → Option EventInMemory → Shared → ThreadInMemory → Type 0
+    → Option Event → Shared → ThreadInMemory → Type 0
 TakesStep unit classes in_use k refused shared old took after new =
     (s : Thread) → ThreadStands unit classes old s → s.ending ≡ Unfinished
     → StepIs unit classes after new took (thread_step unit classes in_use k shared s refused)
 
 -- the same at a turn
-abbrev pub TakesTurn : SourceUnit → Turn → Shared → ThreadInMemory → Option EventInMemory → Shared → ThreadInMemory → Type 0
+abbrev pub TakesTurn : SourceUnit → Turn → Shared → ThreadInMemory → Option Event → Shared → ThreadInMemory → Type 0
 TakesTurn unit turn shared old took after new = TakesStep unit turn.classes.now (in_use_view turn.in_use) turn.thread turn.refused shared old took after new
 
 -- the same whose turn ever it is, with nothing refused, and nothing done to what threads share
-abbrev pub StepsAnywhere : Shared → ThreadInMemory → Option EventInMemory → ThreadInMemory → Type 0
+abbrev pub StepsAnywhere : Shared → ThreadInMemory → Option Event → ThreadInMemory → Type 0
 StepsAnywhere shared old took new = (unit : SourceUnit) (classes : Classes) (in_use : BuffersInUse) (k : ℕ) → TakesStep unit classes in_use k false shared old took shared new
 
 -- a term took its step, which was the thread's, can't take it, or is as it was

@@ -57,7 +57,7 @@ fn note(state: &mut State<'_>, k: u8, took: Option<Event>) -> Result<bool, Alloc
 {
     match took {
         Some(Event::Quiet) => Ok(true),
-        Some(Event::Printed(number)) => {
+        Some(Event::PrintedNumber(number)) => {
             state.printed.push(Printed { thread: k, number })?;
             Ok(true)
         }

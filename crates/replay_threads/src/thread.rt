@@ -7,7 +7,6 @@ ghost use Rattle.type_rules.specs.TypeRules.{IsWellTyped};
 ghost use Rattle.world_values.specs.Views.{object_value_view};
 ghost use Rattle.semantics.specs.Activation.{parameter_variables, class_of_function, named_object, entry_frame};
 ghost use Rattle.semantics.specs.Return.{ending_after};
-ghost use Rattle.semantics.specs.EventViews.{ending_view};
 ghost use Rattle.semantics.specs.Thread.{Shared as SharedOfThreads};
 ghost use Rattle.semantics.specs.Variable.{LocalRef};
 ghost use Rattle.semantics.specs.Views.{name_of};
@@ -337,7 +336,7 @@ fn event_of(outcome: Outcome<'_>) -> Option<Event>
         Outcome::Tests { .. } | Outcome::Makes { .. } => Some(Event::Quiet),
         Outcome::Enters(_, _) => Some(Event::Quiet),
         Outcome::Ends | Outcome::Returned(_) | Outcome::Calls { .. } => Some(Event::Quiet),
-        Outcome::Printed(z) => Some(Event::Printed(z)),
+        Outcome::Printed(z) => Some(Event::PrintedNumber(z)),
         Outcome::Trapped { trap, line } => Some(Event::Trapped { trap, line }),
         Outcome::Impossible => None,
     }
@@ -345,7 +344,7 @@ fn event_of(outcome: Outcome<'_>) -> Option<Event>
 
 /// The ending of a thread after its call, with this exception pending and these calls to come.
 fn ending_after(store: &Store, pending: Option<ObjectId>, calls: &[Call]) -> Ending
-    ensures { ending_view result ≡ ending_after store.now (name_of pending) calls.now }
+    ensures { result ≡ ending_after store.now (name_of pending) calls.now }
 {
     match pending {
         Some(exception) => Ending::Uncaught(store.class_of(exception)),

@@ -3,7 +3,7 @@
 ghost use Rattle.std.specs.Prelude.{◌≡◌};
 ghost use Rattle.std.specs.Option.{option_map};
 ghost use Rattle.report.specs.ThreadStatus.{standing_view};
-ghost use Rattle.semantics.specs.EventViews.{ending_view, stop_view};
+ghost use Rattle.semantics.specs.EventViews.{stop_view};
 ghost use Rattle.semantics.specs.ReportOf.{standing_at, standing_by_ending};
 
 use classes::table::ClassTable;
@@ -18,7 +18,7 @@ pub fn standing_of(
     k: usize,
     ending: Ending,
 ) -> ThreadStatus<'_>
-    ensures { standing_view result ≡ standing_at classes.entry.now waits (option_map stop_view stop) k (ending_view ending) }
+    ensures { standing_view result ≡ standing_at classes.entry.now waits (option_map stop_view stop) k ending }
 {
     match stop {
         Some(stop) if usize::from(stop.thread) == k => {
@@ -33,7 +33,7 @@ pub fn standing_of(
 
 /// The status of a thread that didn't trap.
 fn standing_by_ending(classes: &ClassTable, waits: bool, ending: Ending) -> ThreadStatus<'_>
-    ensures { standing_view result ≡ standing_by_ending classes.entry.now waits (ending_view ending) }
+    ensures { standing_view result ≡ standing_by_ending classes.entry.now waits ending }
 {
     match ending {
         Ending::Unfinished => {

@@ -18,7 +18,10 @@ use Rattle.semantics.specs.Run.{replay, replay_from, account_at, entries_of, pri
 use Rattle.semantics.specs.Start.{start}
 use Rattle.semantics.specs.State.{State, Stop, thread_at, set_thread, in_use, advanced, with_event}
 use Rattle.semantics.specs.Step.{is_blocked, is_live, can_step, step_of, turn_step}
-use Rattle.semantics.specs.Thread.{Thread, Shared, Unfinished, Event, Quiet, Trapped, PrintedNumber, Advance, Advances, NoAdvance}
+use Rattle.semantics.specs.Thread.{Thread, Shared, Advance, Advances, NoAdvance}
+use Rattle.semantics.specs.declared.event.Ending.TheVariants.{Unfinished}
+use Rattle.semantics.specs.declared.event.Event.{Event}
+use Rattle.semantics.specs.declared.event.Event.TheVariants.{Quiet, PrintedNumber, Trapped}
 use Rattle.semantics.specs.ThreadStep.{thread_step}
 use Rattle.semantics.proofs.RunLaws.{replay_from-append}
 

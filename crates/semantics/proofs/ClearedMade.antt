@@ -28,7 +28,8 @@ use Rattle.semantics.specs.State.{State, thread_at, in_use, advanced}
 use Rattle.semantics.specs.Step.{turn_step, step_of, can_step, is_blocked, is_live, is_waiting}
 use Rattle.semantics.specs.Task.{Task, Invoke, ReturnValue, Target, Declared, Assigned, Tested, Dropped, Operand}
 use Rattle.semantics.specs.Term.{Term, Read}
-use Rattle.semantics.specs.Thread.{Thread, Caller, Shared, BuffersInUse, Frame, Quiet, Trapped, PrintedNumber, Advance, Advances, NoAdvance, capacities, sight_of}
+use Rattle.semantics.specs.Thread.{Thread, Caller, Shared, BuffersInUse, Frame, Advance, Advances, NoAdvance, capacities, sight_of}
+use Rattle.semantics.specs.declared.event.Event.TheVariants.{Quiet, PrintedNumber, Trapped}
 use Rattle.semantics.specs.ThreadStep.{next_effect, after_effect, set_element, step_within}
 use Rattle.semantics.specs.declared.trap.Trap.{Trap}
 use Rattle.semantics.specs.Value.{Value, Outcome, Gives, Traps, Stuck}

@@ -30,7 +30,8 @@ use Rattle.semantics.specs.State.{State, thread_at, in_use, advanced}
 use Rattle.semantics.specs.Step.{turn_step, step_of, can_step}
 use Rattle.semantics.specs.Task.{Task, Invoke, ReturnValue, Target, Declared, Assigned, Tested, Dropped, Operand, NumberOperand, Given, PassedName}
 use Rattle.semantics.specs.Term.{Term, Done, Read}
-use Rattle.semantics.specs.Thread.{Caller, Thread, Shared, BuffersInUse, Quiet, Trapped, PrintedNumber, Advance, Advances, NoAdvance, sight_of}
+use Rattle.semantics.specs.Thread.{Caller, Thread, Shared, BuffersInUse, Advance, Advances, NoAdvance, sight_of}
+use Rattle.semantics.specs.declared.event.Event.TheVariants.{Quiet, PrintedNumber, Trapped}
 use Rattle.semantics.specs.ThreadStep.{next_effect, after_effect, step_within}
 use Rattle.semantics.specs.declared.trap.Trap.{Trap}
 use Rattle.semantics.specs.Value.{Value, Int, Outcome, Gives, Traps, Stuck}

@@ -24,7 +24,9 @@ use Rattle.semantics.specs.Return.{given_back, resumed_in, return_by}
 use Rattle.semantics.specs.State.{State, thread_at, set_thread, in_use, advanced, with_event}
 use Rattle.semantics.specs.Step.{turn_step, step_of, can_step}
 use Rattle.semantics.specs.Task.{Task, Target, Declared, Assigned, Tested, Dropped}
-use Rattle.semantics.specs.Thread.{Caller, Event, Quiet, Trapped, PrintedNumber, Advance, Advances, NoAdvance, sight_of}
+use Rattle.semantics.specs.Thread.{Caller, Advance, Advances, NoAdvance, sight_of}
+use Rattle.semantics.specs.declared.event.Event.{Event}
+use Rattle.semantics.specs.declared.event.Event.TheVariants.{Quiet, PrintedNumber, Trapped}
 use Rattle.semantics.specs.ThreadStep.{set_element, after_effect, after_refused_effect, step_within, thread_step, with_tasks}
 use Rattle.semantics.specs.declared.trap.Trap.{Trap}
 use Rattle.semantics.specs.Variable.{Variable, Scalar, LocalRef, FieldHandle, MethodHandle, Elements, LocalArray, NoBuffer, Copy, View, StaticReference, Empty, Live, Weakly, Cleared, Deleted, Statics, assign}

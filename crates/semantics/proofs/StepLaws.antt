@@ -4,8 +4,9 @@ use Rattle.std.proofs.Common.{ap, ◌∙◌}
 use Rattle.std.proofs.lemmas.Bool.{and_from}
 use Rattle.syntax.specs.Tree.{SourceUnit}
 use Rattle.class_rules.specs.Class.{Classes}
-use Rattle.semantics.specs.Thread.{Thread, Unfinished}
+use Rattle.semantics.specs.Thread.{Thread}
 use Rattle.semantics.specs.State.{State, thread_at, in_use, advanced}
+use Rattle.semantics.specs.declared.event.Ending.TheVariants.{Unfinished}
 use Rattle.semantics.specs.ThreadStep.{thread_step, waits}
 use Rattle.semantics.specs.Step.{turn_step, can_step, is_live, is_unfinished, is_waiting}
 

@@ -18,7 +18,8 @@ use Rattle.semantics.specs.Start.{start, null_static}
 use Rattle.syntax.specs.Parts.{statics_of}
 use Rattle.semantics.specs.State.{State}
 use Rattle.semantics.specs.Step.{turn_step, clearing_step}
-use Rattle.semantics.specs.Thread.{Thread, Unfinished}
+use Rattle.semantics.specs.declared.event.Ending.TheVariants.{Unfinished}
+use Rattle.semantics.specs.Thread.{Thread}
 use Rattle.semantics.specs.Variable.{StaticReference, Empty, Live, Weakly, Cleared, Deleted, Statics}
 use Rattle.semantics.specs.WeakReferences.{weak_object, weakly_held, are_rising, held_beside, reached_with, may_clear, cleared, cleared_statics, with_cleared, lost}
 use Rattle.semantics.specs.World.{World}

@@ -10,7 +10,8 @@ use Rattle.class_rules.specs.Mangling.{native_class}
 use Rattle.semantics.specs.Object.{ObjectValue, Number, Refers}
 use Rattle.semantics.specs.World.{Invocation}
 use Rattle.semantics.specs.Task.{tasks_of}
-use Rattle.semantics.specs.Thread.{Frame, Thread, Shared, Quiet, Advance, Advances, NoAdvance}
+use Rattle.semantics.specs.declared.event.Event.TheVariants.{Quiet}
+use Rattle.semantics.specs.Thread.{Frame, Thread, Shared, Advance, Advances, NoAdvance}
 use Rattle.semantics.specs.Value.{Int}
 use Rattle.semantics.specs.Variable.{Variable, Scalar, LocalRef, Variables}
 

@@ -21,7 +21,8 @@ use Rattle.semantics.specs.CallEffects.{CallResult, NoResult, NullResult, Scalar
 use Rattle.semantics.specs.Effect.{Effect, Calls, tasks_after}
 use Rattle.semantics.specs.Heap.{next_name}
 use Rattle.semantics.specs.Task.{Task, VariableKind, ScalarKind, ReferenceKind, FieldKind, MethodKind, BufferKind, Target, Declared, Assigned}
-use Rattle.semantics.specs.Thread.{Thread, Monitor, Shared, BuffersInUse, Quiet, Trapped, Advance, Advances, NoAdvance, monitor_of}
+use Rattle.semantics.specs.declared.event.Event.TheVariants.{Quiet, Trapped}
+use Rattle.semantics.specs.Thread.{Thread, Monitor, Shared, BuffersInUse, Advance, Advances, NoAdvance, monitor_of}
 use Rattle.semantics.specs.declared.trap.Trap.{Trap}
 use Rattle.semantics.specs.Value.{Int, Flag}
 use Rattle.semantics.specs.Variable.{Variable, Scalar, LocalRef, FieldHandle, MethodHandle, Elements, NoBuffer, Copy, View, StaticReference, Empty, Variables, as_static, as_weak, assign}

@@ -9,13 +9,15 @@ use Rattle.semantics.specs.Heap.{Heap, class_of, values_of}
 use Rattle.semantics.specs.Reachable.{reachable}
 use Rattle.semantics.specs.State.{Stop, State}
 use Rattle.semantics.specs.Step.{is_blocked}
-use Rattle.semantics.specs.Thread.{Ending, Unfinished, Ended, Uncaught, Thread}
+use Rattle.semantics.specs.declared.event.Ending.{Ending}
+use Rattle.semantics.specs.declared.event.Ending.TheVariants.{Unfinished, Ended, Uncaught}
+use Rattle.semantics.specs.Thread.{Thread}
 use Rattle.semantics.specs.Value.{trap_number}
 
 -- the standing of a thread that didn't trap
 abbrev pub standing_by_ending : Classes → (blocked : Bool) → Ending → ThreadStanding
 standing_by_ending classes blocked Ended = HasEnded
-standing_by_ending classes blocked (Uncaught c) = IsUncaught (class_name classes c)
+standing_by_ending classes blocked (Uncaught c) = IsUncaught (class_name classes c.number)
 standing_by_ending classes true Unfinished = IsBlocked
 standing_by_ending classes false Unfinished = IsRunning
 

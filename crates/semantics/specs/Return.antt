@@ -2,19 +2,23 @@
 use Rattle.std.specs.Prelude.{ℕ, pos, List, [], ◌∷◌, Some, None}
 use Rattle.jni.specs.declared.kinds.ResultKind.{ResultKind}
 use Rattle.jni.specs.declared.kinds.ResultKind.TheVariants.{NewLocal, GivesInt}
+use Rattle.class_rules.specs.ClassIds.{class_id}
 use Rattle.semantics.specs.Object.{Reference}
 use Rattle.semantics.specs.World.{Invocation}
 use Rattle.semantics.specs.CallEffects.{CallResult, NoResult, NullResult, ScalarResult, ReferenceResult}
 use Rattle.semantics.specs.CallStep.{put, received}
 use Rattle.semantics.specs.Heap.{Heap, class_of}
-use Rattle.semantics.specs.Thread.{Ending, Unfinished, Ended, Uncaught, Thread, Caller, Monitor, Shared, Quiet, Advance, Advances, without_owner}
+use Rattle.semantics.specs.declared.event.Ending.{Ending}
+use Rattle.semantics.specs.declared.event.Ending.TheVariants.{Unfinished, Ended, Uncaught}
+use Rattle.semantics.specs.declared.event.Event.TheVariants.{Quiet}
+use Rattle.semantics.specs.Thread.{Thread, Caller, Monitor, Shared, Advance, Advances, without_owner}
 use Rattle.semantics.specs.Value.{Int}
 
 -- ---- without a caller
 
 -- the ending of a thread after its call
 abbrev pub ending_after : Heap → Reference → List Invocation → Ending
-ending_after heap (Some n) calls = Uncaught (class_of heap n)
+ending_after heap (Some n) calls = Uncaught (class_id (class_of heap n))
 ending_after heap None [] = Ended
 ending_after heap None (call ∷ calls) = Unfinished
 

@@ -12,7 +12,9 @@ use Rattle.semantics.specs.Reachable.{live_size}
 use Rattle.semantics.specs.Start.{start}
 use Rattle.semantics.specs.State.{State, thread_at, views}
 use Rattle.semantics.specs.Step.{turn_step, clearing_step, world_step, can_step}
-use Rattle.semantics.specs.Thread.{Thread, Ending, Unfinished}
+use Rattle.semantics.specs.declared.event.Ending.{Ending}
+use Rattle.semantics.specs.declared.event.Ending.TheVariants.{Unfinished}
+use Rattle.semantics.specs.Thread.{Thread}
 use Rattle.semantics.specs.WeakReferences.{lost}
 
 -- ---- replay

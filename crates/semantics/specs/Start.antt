@@ -5,7 +5,8 @@ use Rattle.syntax.specs.Parts.{statics_of}
 use Rattle.syntax.specs.Tree.{Static, SourceUnit}
 use Rattle.semantics.specs.World.{Invocation, World, loaded_objects}
 use Rattle.semantics.specs.State.{State}
-use Rattle.semantics.specs.Thread.{Thread, Unfinished}
+use Rattle.semantics.specs.declared.event.Ending.TheVariants.{Unfinished}
+use Rattle.semantics.specs.Thread.{Thread}
 use Rattle.semantics.specs.Variable.{StaticReference, Empty, Statics}
 
 -- a thread before the entry of its first call

@@ -1,7 +1,9 @@
 -- The state of a run.
 use Rattle.std.specs.Prelude.{ℕ, zero, suc, ◌++◌, ◌∷◌, [], List, length, flat_map, slice_get, slice_set, sum_by, Option, Some, None}
 use Rattle.semantics.specs.declared.printed.Printed.{Printed}
-use Rattle.semantics.specs.Thread.{Thread, Shared, BuffersInUse, Event, Quiet, Trapped, Advance, Advances, NoAdvance, copied_by, viewed_by, PrintedNumber}
+use Rattle.semantics.specs.declared.event.Event.{Event}
+use Rattle.semantics.specs.declared.event.Event.TheVariants.{Quiet, PrintedNumber, Trapped}
+use Rattle.semantics.specs.Thread.{Thread, Shared, BuffersInUse, Advance, Advances, NoAdvance, copied_by, viewed_by}
 use Rattle.semantics.specs.declared.trap.Trap.{Trap}
 
 -- the trap that stopped the machine

@@ -4,7 +4,9 @@ use Rattle.syntax.specs.Tree.{SourceUnit}
 use Rattle.class_rules.specs.Class.{Classes}
 use Rattle.semantics.specs.Journal.{Entry, Step, Clearing}
 use Rattle.semantics.specs.State.{State, thread_at, in_use, advanced}
-use Rattle.semantics.specs.Thread.{Ending, Unfinished, Thread, Shared}
+use Rattle.semantics.specs.Thread.{Thread, Shared}
+use Rattle.semantics.specs.declared.event.Ending.{Ending}
+use Rattle.semantics.specs.declared.event.Ending.TheVariants.{Unfinished}
 use Rattle.semantics.specs.ThreadStep.{waits, thread_step}
 use Rattle.semantics.specs.WeakReferences.{may_clear, with_cleared}
 use Rattle.semantics.specs.World.{World}

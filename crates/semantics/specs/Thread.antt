@@ -8,19 +8,14 @@ use Rattle.semantics.specs.World.{Invocation}
 use Rattle.semantics.specs.Heap.{Heap}
 use Rattle.semantics.specs.Sight.{Sight, seen}
 use Rattle.semantics.specs.Task.{Task, Target}
-use Rattle.semantics.specs.declared.trap.Trap.{Trap}
+use Rattle.semantics.specs.declared.event.Ending.{Ending}
+use Rattle.semantics.specs.declared.event.Event.{Event}
 use Rattle.semantics.specs.Variable.{Variable, Variables, Statics, copied_length, viewed}
 
 -- local references: at most `capacity` of them, in no order
 pub record Frame : Type 0 where
   pub capacity : ℕ
   pub references : List ℕ
-
--- how a thread has ended, if it has
-pub data Ending : Type 0 where
-  Unfinished : Ending
-  Ended : Ending
-  Uncaught : (class : ℕ) → Ending
 
 -- a call from which another was made: what it has still to do once that is over, and where the other's result goes
 pub record Caller : Type 0 where
@@ -68,12 +63,6 @@ pub record BuffersInUse : Type 0 where
   pub views : ℕ
 
 -- ---- a step of one thread
-
--- what is seen of a thread's step by others
-pub data Event : Type 0 where
-  Quiet : Event
-  PrintedNumber : ℤ → Event
-  Trapped : Trap → (line : ℕ) → Event
 
 -- what a step leaves, where it is possible
 pub data Advance : Type 0 where

@@ -11,7 +11,8 @@ use Rattle.semantics.specs.Effect.{Effect, Becomes, Sets, SetsNull, SetsElement,
 use Rattle.semantics.specs.Heap.{with_value_at}
 use Rattle.semantics.specs.Return.{return_step}
 use Rattle.semantics.specs.Task.{Task}
-use Rattle.semantics.specs.Thread.{Thread, Shared, BuffersInUse, Quiet, Trapped, Advance, Advances, NoAdvance, sight_of, PrintedNumber}
+use Rattle.semantics.specs.declared.event.Event.TheVariants.{Quiet, PrintedNumber, Trapped}
+use Rattle.semantics.specs.Thread.{Thread, Shared, BuffersInUse, Advance, Advances, NoAdvance, sight_of}
 use Rattle.semantics.specs.Value.{convert}
 use Rattle.semantics.specs.Variable.{Variable, Scalar, Elements, LocalArray, Copy, View, assign}
 

@@ -1,7 +1,6 @@
 //! What a step of a thread leaves besides objects and variables.
 
 ghost use Rattle.std.specs.Prelude.{◌≡◌};
-ghost use Rattle.semantics.specs.EventViews.{ending_view};
 ghost use Rattle.semantics.specs.Step.{is_unfinished};
 
 use crate::trap::Trap;
@@ -12,7 +11,7 @@ use class_rules::ClassId;
 pub enum Event {
     Quiet,
     /// The thread printed a number.
-    Printed(i32),
+    PrintedNumber(i32),
     /// A statement of this line stopped the run.
     Trapped { trap: Trap, line: usize },
 }
@@ -37,7 +36,7 @@ pub enum Ending {
 impl Ending {
     /// Whether the thread has not ended.
     pub fn is_unfinished(self) -> bool
-        ensures { result ≡ is_unfinished (ending_view self) }
+        ensures { result ≡ is_unfinished self }
     {
         match self {
             Ending::Unfinished => true,

@@ -24,7 +24,8 @@ use Rattle.semantics.specs.CallEffects.{Throws, Leaves, NoResult, without_one, b
 use Rattle.semantics.specs.CallStep.{failure}
 use Rattle.semantics.specs.Heap.{numbers_of}
 use Rattle.semantics.specs.Task.{Task, Target, Declared, Assigned, Tested, Dropped, Operand, Given, Invoke}
-use Rattle.semantics.specs.Thread.{Thread, Shared, BuffersInUse, Advance, Advances, NoAdvance, sight_of, Event}
+use Rattle.semantics.specs.declared.event.Event.{Event}
+use Rattle.semantics.specs.Thread.{Thread, Shared, BuffersInUse, Advance, Advances, NoAdvance, sight_of}
 use Rattle.semantics.specs.Variable.{LocalRef, Elements, LocalArray, Buffer, StaticReference, Weakly, Variables, Statics, Deleted, assign, change}
 use Rattle.semantics.proofs.AnswerKinds.{AnswersAs, EndingGlobal, EndingNoStatic, EndingWeak, EndsStatic, Filling, FillingNone, FillsArray, Halting, answers_of, call_kind, filled_last}
 use Rattle.semantics_safety.proofs.StepLaws.{LandsBy}

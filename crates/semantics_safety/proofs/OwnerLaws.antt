@@ -12,7 +12,9 @@ use Rattle.semantics.specs.CallSight.{CallSight}
 use Rattle.semantics.specs.CallStep.{after_call, blank, call_step, filled, put, put_assigned, static_result}
 use Rattle.semantics.specs.Effect.{Calls}
 use Rattle.semantics.specs.Task.{Task, Target, Declared, Assigned, Tested, Dropped}
-use Rattle.semantics.specs.Thread.{Thread, Shared, BuffersInUse, Frame, Event, Quiet, Advance, Advances, NoAdvance}
+use Rattle.semantics.specs.declared.event.Event.{Event}
+use Rattle.semantics.specs.declared.event.Event.TheVariants.{Quiet}
+use Rattle.semantics.specs.Thread.{Thread, Shared, BuffersInUse, Frame, Advance, Advances, NoAdvance}
 use Rattle.semantics.specs.Variable.{Variable, Variables, Statics, assign}
 use Rattle.semantics.proofs.AnswerKinds.{AnswersAs, CallKind, EndingLocal, EndsLocal, Popping, PopsFrame}
 use Rattle.semantics_safety.specs.Owners.{Owners, after_answer, after_effect, is_target, left_by, level_held, with_result}

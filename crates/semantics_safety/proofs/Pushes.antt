@@ -37,7 +37,8 @@ use Rattle.semantics.specs.Object.{ObjectValue}
 use Rattle.semantics.specs.Sight.{Sight, held_method}
 use Rattle.semantics.specs.Task.{Task, Target, Declared, Assigned, Tested, Dropped, Operand, NumberOperand, PassedName, Given, Invoke}
 use Rattle.semantics.specs.Term.{Term, Done}
-use Rattle.semantics.specs.Thread.{Thread, Caller, Shared, BuffersInUse, Frame, Quiet, Trapped, Advance, Advances, NoAdvance}
+use Rattle.semantics.specs.declared.event.Event.TheVariants.{Quiet, Trapped}
+use Rattle.semantics.specs.Thread.{Thread, Caller, Shared, BuffersInUse, Frame, Advance, Advances, NoAdvance}
 use Rattle.semantics.specs.declared.trap.Trap.{Trap}
 use Rattle.semantics.specs.Value.{Int}
 use Rattle.semantics.specs.Variable.{Variable, MethodHandle, Variables}

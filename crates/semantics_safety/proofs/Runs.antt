@@ -28,7 +28,11 @@ use Rattle.semantics.specs.Method.{MethodId, find_method}
 use Rattle.semantics.specs.declared.trap.Trap.{Trap}
 use Rattle.jni.specs.declared.function.JniFunction.{JniFunction}
 use Rattle.jni.specs.JniFunction.{calls_method}
-use Rattle.semantics.specs.Thread.{Thread, Caller, Ending, Unfinished, Ended, Uncaught, Shared, Frame, BuffersInUse, Event, Quiet, PrintedNumber, Trapped, Advance, Advances, NoAdvance, sight_of}
+use Rattle.semantics.specs.Thread.{Thread, Caller, Shared, Frame, BuffersInUse, Advance, Advances, NoAdvance, sight_of}
+use Rattle.semantics.specs.declared.event.Ending.{Ending}
+use Rattle.semantics.specs.declared.event.Ending.TheVariants.{Unfinished, Ended, Uncaught}
+use Rattle.semantics.specs.declared.event.Event.{Event}
+use Rattle.semantics.specs.declared.event.Event.TheVariants.{Quiet, PrintedNumber, Trapped}
 use Rattle.semantics.specs.ThreadStep.{after_effect, after_refused_effect, step_within, thread_step}
 use Rattle.semantics.specs.Reachable.{is_in}
 use Rattle.semantics.specs.Variable.{Variable, StaticReference, Empty, Live, Weakly, Cleared, Deleted, Variables, Statics}

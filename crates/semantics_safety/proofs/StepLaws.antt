@@ -10,7 +10,8 @@ use Rattle.type_rules.specs.declared.ty.ExprType.TheVariants as types
 use Rattle.type_rules.specs.TypeGroups.{IsNumberType}
 use Rattle.semantics.specs.Effect.{Effect, Becomes, Sets, SetsNull, SetsElement, MakesArray, Prints, Calls, Returns, TrapsAt, NoEffect}
 use Rattle.semantics.specs.Task.{Task}
-use Rattle.semantics.specs.Thread.{Thread, Shared, BuffersInUse, Frame, Event, Advance, Advances, NoAdvance}
+use Rattle.semantics.specs.Thread.{Thread, Shared, BuffersInUse, Frame, Advance, Advances, NoAdvance}
+use Rattle.semantics.specs.declared.event.Event.{Event}
 use Rattle.semantics.specs.ThreadStep.{set_element, with_tasks, after_effect}
 use Rattle.semantics.specs.Value.{Value, Word, Int, Flag, Truth, convert}
 use Rattle.semantics.specs.Variable.{Variable, Scalar, LocalRef, FieldHandle, MethodHandle, Elements, LocalArray, Buffer, NoBuffer, Copy, View, StaticReference, Variables, Statics, assign}

@@ -17,7 +17,9 @@ use Rattle.semantics.specs.Start.{start}
 use Rattle.semantics.specs.State.{State, thread_at, in_use}
 use Rattle.semantics.specs.Step.{world_step}
 use Rattle.semantics.specs.Task.{Task, Target, Declared, Assigned}
-use Rattle.semantics.specs.Thread.{Thread, Caller, Shared, Event, Quiet, Trapped, Advance, Advances, NoAdvance}
+use Rattle.semantics.specs.Thread.{Thread, Caller, Shared, Advance, Advances, NoAdvance}
+use Rattle.semantics.specs.declared.event.Event.{Event}
+use Rattle.semantics.specs.declared.event.Event.TheVariants.{Quiet, Trapped}
 use Rattle.semantics.specs.ThreadStep.{next_effect, thread_step}
 use Rattle.semantics.specs.Variable.{Variable, LocalRef, Variables}
 use Rattle.semantics.specs.World.{World}

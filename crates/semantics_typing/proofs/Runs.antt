@@ -22,7 +22,9 @@ use Rattle.semantics.specs.Start.{waiting_thread, start}
 use Rattle.semantics.specs.State.{State, thread_at, set_thread, in_use, with_event, advanced}
 use Rattle.semantics.specs.Step.{can_step, step_of, turn_step, clearing_step, world_step}
 use Rattle.semantics.specs.Task.{Task, Target}
-use Rattle.semantics.specs.Thread.{Caller, Thread, Shared, Event, Quiet, PrintedNumber, Trapped, Advance, Advances, NoAdvance, sight_of}
+use Rattle.semantics.specs.Thread.{Caller, Thread, Shared, Advance, Advances, NoAdvance, sight_of}
+use Rattle.semantics.specs.declared.event.Event.{Event}
+use Rattle.semantics.specs.declared.event.Event.TheVariants.{Quiet, PrintedNumber, Trapped}
 use Rattle.semantics.specs.ThreadStep.{next_effect, thread_step}
 use Rattle.semantics.specs.WeakReferences.{may_clear, with_cleared}
 use Rattle.semantics.specs.World.{Invocation, World}

@@ -16,7 +16,9 @@ use Rattle.semantics.specs.Start.{start}
 use Rattle.semantics.specs.State.{State, thread_at}
 use Rattle.semantics.specs.AccountLaws.{Prints}
 use Rattle.semantics.specs.Step.{can_step, is_unfinished, is_live, is_blocked, turn_step}
-use Rattle.semantics.specs.Thread.{Thread, Ending, Unfinished, Ended as Over, Uncaught}
+use Rattle.semantics.specs.declared.event.Ending.{Ending}
+use Rattle.semantics.specs.declared.event.Ending.TheVariants.{Unfinished}
+use Rattle.semantics.specs.Thread.{Thread}
 use Rattle.semantics.specs.Run.{replay_from, account_at, entries_of, ending_of}
 use Rattle.semantics.specs.WeakReferences.{with_cleared}
 use Rattle.semantics.proofs.RunLaws.{replay_from-append}
@@ -28,7 +30,7 @@ use Rattle.machine.proofs.Runs.{AddsStep, did_add, refused_add, with_entries}
 use Rattle.machine.proofs.Steps.{can_parts}
 use Rattle.shared_passes.specs.declared.view.Fate.{Fate}
 use Rattle.shared_passes.specs.Tokens.{nothing, none, IsWithin}
-use Rattle.shared_accounts.specs.Accounts.{account_of, account_view, ending_view, taken, is_over, EndsSo, fate_of, fate_at, all_wait, kept_after, numbers_of, more_of, number_at}
+use Rattle.shared_accounts.specs.Accounts.{account_of, account_view, taken, EndsSo, fate_of, fate_at, all_wait, kept_after, numbers_of, more_of, number_at}
 use Rattle.shared_accounts.proofs.Clearings.{account_cleared, before_step, entries_cleared, last_entry, led_before, fate_in}
 
 -- ---- the entry of a step
@@ -233,20 +235,15 @@ entries_turn old new k (Ok Short) h e runs = more_entries old new k true (refuse
 entries_turn old new k (Ok Stepped) h e runs = more_entries old new k false (did_add old new k h) h.0 runs
 entries_turn old new k (Err x) h e runs = as_many _ _ (ap (λ (r : Run). (account_of r k).entries) e.0)
 
-ending_in : (r : Run) (k : ℕ) (s : State) → replay_of r ≡ Some s → (account_of r k).ending ≡ ending_view (ending_of s k)
+ending_in : (r : Run) (k : ℕ) (s : State) → replay_of r ≡ Some s → (account_of r k).ending ≡ ending_of s k
 ending_in r k s h = ap (λ o. (option_map_or account_view (option_map (account_at r.journal k) o) nothing).ending) h
-
-over_view : (e : Ending) → is_unfinished e ≡ false → is_over (ending_view e) ≡ true
-over_view Unfinished h = absurd (false≢true (sym h))
-over_view Over h = refl
-over_view (Uncaught class) h = refl
 
 pub ended_turn : {E : Type 0} (old new : Run) (k : ℕ) (result : Result Turn E) → IfOk result (TurnHolds old k new) → IfOk result (EndsSo (account_of new k))
 ended_turn old new k (Ok Ended) h =
     let s = h.1.0 in
     let end = h.1.2 in
     let ends : ending_of s k ≡ end.thread.ending = ap (λ o. option_map_or (λ (t : Thread). t.ending) o Unfinished) end.is in
-    ap (λ (r : Run). is_over (account_of r k).ending) h.0 ∙ ap is_over (ending_in old k s h.1.1) ∙ ap (λ e. is_over (ending_view e)) ends ∙ over_view end.thread.ending end.ended
+    ap (λ (r : Run). is_unfinished (account_of r k).ending) h.0 ∙ ap is_unfinished (ending_in old k s h.1.1) ∙ ap is_unfinished ends ∙ end.ended
 ended_turn old new k (Ok Stopped) h = tt
 ended_turn old new k (Ok (Blocked all)) h = tt
 ended_turn old new k (Ok Full) h = tt

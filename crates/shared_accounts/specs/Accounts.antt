@@ -9,7 +9,6 @@ use Rattle.class_rules.specs.Class.{Classes}
 use Rattle.semantics.specs.declared.printed.Printed.{Printed}
 use Rattle.semantics.specs.Journal.{steps_in}
 use Rattle.semantics.specs.World.{World}
-use Rattle.semantics.specs.Thread as thread
 use Rattle.semantics.specs.Thread.{Thread}
 use Rattle.semantics.specs.State.{State}
 use Rattle.semantics.specs.Step.{is_unfinished, is_blocked}
@@ -19,21 +18,14 @@ use Rattle.machine.specs.declared.turn.Turn.{Turn}
 use Rattle.machine.specs.declared.turn.Turn.TheVariants.{Stopped, Ended, Blocked, Full, Short, Stepped}
 use Rattle.machine.specs.Run.{CouldStep, IsCollected, IsSliced, Run, TurnHolds, replay_of}
 use Rattle.shared_passes.specs.declared.view.Account.{Account}
-use Rattle.shared_passes.specs.declared.view.Ending.{Ending}
-use Rattle.shared_passes.specs.declared.view.Ending.TheVariants as seen
 use Rattle.shared_passes.specs.declared.view.Fate.{Fate}
 use Rattle.shared_passes.specs.declared.view.Known.{Known}
 use Rattle.shared_passes.specs.Tokens.{nothing, none, IsWithin}
 
 -- ---- what is known of a run
 
-abbrev pub ending_view : thread.Ending → Ending
-ending_view thread.Unfinished = seen.Unfinished
-ending_view thread.Ended = seen.Ended
-ending_view (thread.Uncaught class) = seen.Uncaught class
-
 abbrev pub account_view : source.Account → Account
-account_view a = record { entries = a.entries; printed = a.printed; ending = ending_view a.ending }
+account_view a = record { entries = a.entries; printed = a.printed; ending = a.ending }
 
 -- a thread's part in a run
 abbrev pub account_of : Run → ℕ → Account
@@ -137,15 +129,9 @@ taken (Ok Short) = 1
 taken (Ok Stepped) = 1
 taken (Err e) = 0
 
--- the thread has ended
-abbrev pub is_over : Ending → Bool
-is_over seen.Unfinished = false
-is_over seen.Ended = true
-is_over (seen.Uncaught class) = true
-
 -- a thread of which the answer says that it has ended, has
 abbrev pub EndsSo : Account → Turn → Type 0
-EndsSo a Ended = is_over a.ending ≡ true
+EndsSo a Ended = is_unfinished a.ending ≡ false
 EndsSo a Stopped = Unit {0}
 EndsSo a (Blocked all) = Unit {0}
 EndsSo a Full = Unit {0}

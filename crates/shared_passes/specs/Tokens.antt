@@ -6,7 +6,7 @@ use lib.ListN.{get_elem?}
 use Rattle.atomic_table.specs.Seated.{TableId}
 use Rattle.shared_passes.specs.declared.view.Account.{Account}
 use Rattle.shared_passes.specs.declared.view.Claim.{Claim}
-use Rattle.shared_passes.specs.declared.view.Ending.TheVariants.{Unfinished}
+use Rattle.semantics.specs.declared.event.Ending.TheVariants.{Unfinished}
 use Rattle.shared_passes.specs.declared.view.Fate.{Fate}
 use Rattle.shared_passes.specs.declared.view.Known.{Known}
 use Rattle.shared_passes.specs.declared.view.View.{View}

@@ -5,13 +5,13 @@ use Rattle.syntax.specs.Tree.{SourceUnit}
 use Rattle.class_rules.specs.Additions.{with_class}
 use Rattle.class_rules.specs.BuiltIns.{built_ins}
 use Rattle.class_rules.specs.Class.{Plain}
+use Rattle.semantics.specs.declared.event.Ending.TheVariants.{Unfinished, Ended}
 use Rattle.semantics.specs.Object.{ObjectValue, Refers}
 use Rattle.semantics.specs.World.{World, fits_cells}
 use Rattle.semantics.specs.Load.{Loads, first_load_fault, load_faults}
 use Rattle.semantics.specs.Reachable.{live_size}
 use Rattle.semantics.specs.Run.{account, replay, wanted}
 use Rattle.semantics.specs.State.{State}
-use Rattle.semantics.specs.Thread.{Ended, Unfinished}
 use Rattle.test_equations.proofs.Arguments.{the_length_of_an_array}
 use Rattle.test_equations.proofs.Computed.{opened}
 use Rattle.test_equations.proofs.Programs.{unit_of, entries}

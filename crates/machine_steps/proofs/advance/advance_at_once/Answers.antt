@@ -63,10 +63,10 @@ fetched_unowned c lowered of_function = record {
 silent : (path : Plain) (e : Event) → PathIsSeen path e → IsSilent e
 silent path event.Quiet h = tt
 silent path (event.Trapped trap line) h = tt
-silent plain.Next (event.Printed z) h = absurd (cc)
-silent (plain.Skip n) (event.Printed z) h = absurd (cc)
-silent (plain.Back n) (event.Printed z) h = absurd (cc)
-silent (plain.Trap trap line) (event.Printed z) h = absurd (let clash : event.Printed z ≡ event.Trapped h.0 line = h.2 in cc)
+silent plain.Next (event.PrintedNumber z) h = absurd (cc)
+silent (plain.Skip n) (event.PrintedNumber z) h = absurd (cc)
+silent (plain.Back n) (event.PrintedNumber z) h = absurd (cc)
+silent (plain.Trap trap line) (event.PrintedNumber z) h = absurd (let clash : event.PrintedNumber z ≡ event.Trapped h.0 line = h.2 in cc)
 
 pub instr_at-instr-requires : goal.instr_at-instr-requires
 instr_at-instr-requires c =
@@ -190,8 +190,8 @@ within_with (index ∷ stack) line o activation after e some h = loaded_within l
 loaded_silent : (line : ℕ) (words : List ℕ) (o : Option ℕ) (activation after : Activation) (e : Event) → LoadsElement line words o activation after e → IsSilent e
 loaded_silent line words o activation after event.Quiet h = tt
 loaded_silent line words o activation after (event.Trapped trap at) h = tt
-loaded_silent line words (Some word) activation after (event.Printed z) h = absurd (let clash : event.Printed z ≡ event.Quiet = h.1 in cc)
-loaded_silent line words None activation after (event.Printed z) h = absurd (let clash : event.Printed z ≡ event.Trapped OutOfRange line = h.1 in cc)
+loaded_silent line words (Some word) activation after (event.PrintedNumber z) h = absurd (let clash : event.PrintedNumber z ≡ event.Quiet = h.1 in cc)
+loaded_silent line words None activation after (event.PrintedNumber z) h = absurd (let clash : event.PrintedNumber z ≡ event.Trapped OutOfRange line = h.1 in cc)
 
 silent_with : (words : List ℕ) (line : ℕ) (o : ℕ → Option ℕ) (activation after : Activation) (e : Event) → 0 < length words → ((index : ℕ) (stack : List ℕ) → words ≡ index ∷ stack → LoadsElement line stack (o index) activation after e) → IsSilent e
 silent_with [] line o activation after e some h = absurd (omega (arith, some))

@@ -11,7 +11,7 @@ use Rattle.semantics.specs.Thread.{sight_of}
 use Rattle.code_meaning.specs.Slots.{visible_to}
 use Rattle.machine_steps.specs.declared.execute.ReturnValue.{ReturnValue}
 use Rattle.machine_scenes.specs.declared.activation.Activation.{Activation}
-use Rattle.semantics.specs.declared.event.Event.TheVariants.{Printed}
+use Rattle.semantics.specs.declared.event.Event.TheVariants.{PrintedNumber}
 use Rattle.machine_steps.specs.declared.execute.Executed.{Executed}
 use Rattle.machine_steps.specs.declared.execute.Executed.TheVariants as executed
 use Rattle.machine_steps.specs.Invoked.{executed_as}
@@ -186,7 +186,7 @@ returns-in-PutJint-clause-done c others own shared s task rest e =
     let f = fetched (goal.at.returns-in-PutJint-clause-done c).After-instr_at-instr in
     let number : cast_signed w32 (cast_unsigned w32 c.cast_signed.result) ≡ cast_signed w32 c.pop-word.result = to_z-of_z {w = w32} (record { sfits = c.cast_signed.type_inv }) ∙ c.cast_signed.ensures in
     let after : Activation = record c.args.activation.now { place = c.args.activation.now.place + 1; stack = c.pop-word.new.self } in
-    subst (λ (z : ℤ). Executes c.args.context.program.now c.args.context.world.now c.args.store.now c.args.store.now others c.args.context.thread c.args.owner own shared s rest after c.args.pending.now (effect_of (sight_of shared s) task) (Did (Printed z))) (sym number)
+    subst (λ (z : ℤ). Executes c.args.context.program.now c.args.context.world.now c.args.store.now c.args.store.now others c.args.context.thread c.args.owner own shared s rest after c.args.pending.now (effect_of (sight_of shared s) task) (Did (PrintedNumber z))) (sym number)
     (put_executes c.args.context.program.now c.args.context.world.now c.args.store.now others c.args.context.thread c.args.owner own shared s e.store_agrees c.args.pending.now e.pending_agrees c.args.activation.now f.code task rest (ready_for c.args.context.program.now c.args.context.world.now c.args.store.now c.args.activation.now c.instr_at-instr.result.now f c.args.pending.now others c.args.context.thread c.args.owner own shared s task rest e) e.tasks e.views e.steady c.instr_at-instr.result.now f.at
     c.pop-word.result after c.pop-word.new.self c.in-PutJint.is c.pop-word.ensures.words
     (record { function = refl; place = refl; stack = refl; numbers = refl; references = refl; fields = refl; buffers = refl; locals = refl }))

@@ -3,7 +3,6 @@ use Rattle.std.specs.Prelude.{slice_get}
 use Rattle.semantics.specs.State.{thread_at}
 use Rattle.semantics.specs.Step.{is_blocked, is_unfinished}
 use Rattle.replay_threads.specs.declared.thread.Thread.{Thread}
-use Rattle.semantics.specs.EventViews.{ending_view}
 use Rattle.replay_threads.proofs.StateLemmas.{stopped, not_there, past_the_end, ended, element_at, waiting}
 use Rattle.replay_threads.proofs.state.place_of.Goals as goal
 
@@ -24,8 +23,8 @@ returns-then-waits-clause-none c = λ unit refused w s h.
     ap (is_blocked w.classes s) (sym c.from-number.ensures) ∙ sym (c.waits.ensures unit w s h c.requires) ∙ c.if-waits.true in
     waiting unit w c.args.state.now s h c.requires c.args.k refused blocked
 
-live_there : (ts : List Thread) (i : ℕ) (t u : Thread) → slice_get ts i ≡ Some t → is_unfinished (ending_view t.ending) ≡ true → slice_get ts i ≡ Some u → is_unfinished (ending_view u.ending) ≡ true
-live_there ts i t u at live same = let one : t ≡ u = cc in subst (λ (x : Thread). is_unfinished (ending_view x.ending) ≡ true) one live
+live_there : (ts : List Thread) (i : ℕ) (t u : Thread) → slice_get ts i ≡ Some t → is_unfinished t.ending ≡ true → slice_get ts i ≡ Some u → is_unfinished u.ending ≡ true
+live_there ts i t u at live same = let one : t ≡ u = cc in subst (λ (x : Thread). is_unfinished x.ending ≡ true) one live
 
 pub returns-else-is_unfinished-clause-none : goal.returns-else-is_unfinished-clause-none
 returns-else-is_unfinished-clause-none c = λ unit refused w s h.

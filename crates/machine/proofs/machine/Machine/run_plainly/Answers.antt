@@ -1,7 +1,6 @@
 use Rattle.std.proofs.Common.{◌≡◌, suc, ◌-◌, true, false, Option, Some, None, [], replicate, refl, sym, ◌∙◌, subst, arith, IsSome}
 use Rattle.std.specs.Prelude.{slice_get, is_some}
 use Rattle.semantics.specs.declared.schedule.ScheduleWord.TheVariants.{Turn as Word}
-use Rattle.semantics.specs.EventViews.{ending_view}
 use Rattle.semantics.specs.Step.{is_unfinished}
 use Rattle.std.proofs.lemmas.Option.{slice_get_within}
 use Rattle.base.proofs.Lists.{get_set_same}
@@ -28,8 +27,8 @@ none_is (Some t) h = absurd (cc)
 
 -- ---- where the thread takes turns
 
-free : (c : After-is_some) → is_some c.turn_at_rest.result ≡ false → (is_some c.self.inside.stop ≡ false) × (is_unfinished (ending_view c.index_mut-thread.result.now.ending) ≡ true)
-free c none = none_held (is_some c.self.inside.stop) (is_unfinished (ending_view c.index_mut-thread.result.now.ending)) (sym c.turn_at_rest.ensures ∙ none_is c.turn_at_rest.result none)
+free : (c : After-is_some) → is_some c.turn_at_rest.result ≡ false → (is_some c.self.inside.stop ≡ false) × (is_unfinished c.index_mut-thread.result.now.ending ≡ true)
+free c none = none_held (is_some c.self.inside.stop) (is_unfinished c.index_mut-thread.result.now.ending) (sym c.turn_at_rest.ensures ∙ none_is c.turn_at_rest.result none)
 
 -- the thread can go on
 can_go_on : (c : After-is_some) → is_some c.turn_at_rest.result ≡ false → CanGoOn c.self.inside.program c.self.inside.world c.self.inside.store c.self.inside.threads.items (c.from-index.result - 1) c.self.inside.printed.items c.self.inside.journal.entries c.args.k c.index_mut-thread.result.now

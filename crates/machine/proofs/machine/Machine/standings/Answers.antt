@@ -9,7 +9,7 @@ use Rattle.report.specs.ThreadStatus.{standing_view}
 use Rattle.semantics.specs.Report.{ThreadStanding}
 use Rattle.machine_threads.specs.declared.thread.Thread.{Thread}
 use Rattle.machine.specs.Run.{InState, standings_in}
-use Rattle.semantics.specs.EventViews.{ending_view, stop_view}
+use Rattle.semantics.specs.EventViews.{stop_view}
 use Rattle.semantics.specs.ReportOf.{standing_at}
 use Rattle.machine.proofs.Standings.{all_standings, no_standings, standing_more}
 use Rattle.machine.proofs.machine.Machine.standings.Goals as goal
@@ -36,10 +36,10 @@ loop-thread-preserved c =
     let told : List ThreadStanding = map standing_view c.loop-thread.standings.items in
     let more =
     standing_more _ _ _ _ _ _ _ c.self.invariant c.args.self.now c.self.view_is (c.loop-thread.k + 1) i c.thread-item.result (omega (arith, c.loop-thread.invariant.counted)) at c.waits-waits.result c.waits-waits.ensures told c.loop-thread.invariant.told in
-    let same : map standing_view c.push.new.self.items ≡ told ++ standing_at inside.world.classes c.waits-waits.result (option_map stop_view inside.stop) (c.loop-thread.k + 1) (ending_view c.thread-item.result.ending) ∷ [] =
+    let same : map standing_view c.push.new.self.items ≡ told ++ standing_at inside.world.classes c.waits-waits.result (option_map stop_view inside.stop) (c.loop-thread.k + 1) c.thread-item.result.ending ∷ [] =
     ap (λ (l : List ThreadStatus). map standing_view l) c.push.ensures.items
     ∙ map-append standing_view c.loop-thread.standings.items (c.standing_of.result ∷ [])
-    ∙ ap (λ (x : ThreadStanding). told ++ x ∷ []) (c.standing_of.ensures ∙ ap (λ (n : ℕ). standing_at c.classes.result.now c.waits-waits.result (option_map stop_view inside.stop) n (ending_view c.thread-item.result.ending)) c.from.ensures ∙ ap (λ (classes : Classes). standing_at classes c.waits-waits.result (option_map stop_view inside.stop) (c.loop-thread.k + 1) (ending_view c.thread-item.result.ending)) c.classes.ensures.classes) in
+    ∙ ap (λ (x : ThreadStanding). told ++ x ∷ []) (c.standing_of.ensures ∙ ap (λ (n : ℕ). standing_at c.classes.result.now c.waits-waits.result (option_map stop_view inside.stop) n c.thread-item.result.ending) c.from.ensures ∙ ap (λ (classes : Classes). standing_at classes c.waits-waits.result (option_map stop_view inside.stop) (c.loop-thread.k + 1) c.thread-item.result.ending) c.classes.ensures.classes) in
     record {
       counted = ap (λ (n : ℕ). n + 1) c.loop-thread.invariant.counted;
       few = c.push.ensures.len ∙ ap (λ (n : ℕ). n + 1) c.loop-thread.invariant.few;

@@ -7,7 +7,7 @@ use Rattle.semantics.specs.Step.{is_blocked, is_unfinished}
 use Rattle.semantics.specs.declared.event.Ending.{Ending}
 use Rattle.semantics.specs.declared.event.Ending.TheVariants.{Unfinished, Ended, Uncaught}
 use Rattle.semantics.specs.declared.event.Stop.{Stop}
-use Rattle.semantics.specs.EventViews.{ending_view, stop_view}
+use Rattle.semantics.specs.EventViews.{stop_view}
 use Rattle.machine_threads.specs.declared.thread.Thread.{Thread}
 use Rattle.machine.specs.declared.turn.Turn.{Turn}
 use Rattle.machine.specs.declared.turn.Turn.TheVariants as turn
@@ -17,7 +17,7 @@ use Rattle.machine.proofs.Steps.{can_turn_here, counted_from, has_ended, is_live
 use Rattle.machine.proofs.machine.Machine.turn_without_step.Goals as goal
 use Rattle.machine.proofs.machine.Machine.turn_without_step.Goals.{After-index}
 
-is_over : (e : Ending) → is_unfinished (ending_view e) ≡ false → e ≡ Unfinished → ⊥
+is_over : (e : Ending) → is_unfinished e ≡ false → e ≡ Unfinished → ⊥
 is_over Unfinished h same = absurd (cc)
 is_over Ended h same = cc
 is_over (Uncaught class) h same = cc
@@ -64,20 +64,20 @@ can_step c running live free = (
 pub returns-in-Some-clause-some : goal.returns-in-Some-clause-some
 returns-in-Some-clause-some c =
     let a = (goal.at.returns-in-Some-clause-some c).After-index in
-    held c.args.self.now c.args.k (is_some c.self.inside.stop) (is_unfinished (ending_view c.index.result.now.ending)) c.in-Some.turn (sym c.turn_at_rest.ensures ∙ c.in-Some.is)
+    held c.args.self.now c.args.k (is_some c.self.inside.stop) (is_unfinished c.index.result.now.ending) c.in-Some.turn (sym c.turn_at_rest.ensures ∙ c.in-Some.is)
     (λ stopped. (refl, (c.self.invariant.state, replays a, stops c.self.inside.stop c.self.invariant.state.stop c.self.invariant.same_stop stopped)))
     (λ goes over. (refl, (c.self.invariant.state, replays a, has_ended _ _ _ _ _ _ _ c.self.invariant c.args.k (c.from-index.result - 1) c.index.result.now (number a) (there a c.index.result.now c.index.ensures) (not_stopped c.self.inside.stop goes) (is_over _ over))))
 
 pub returns-then-is_full-clause-some : goal.returns-then-is_full-clause-some
 returns-then-is_full-clause-some c =
     let a = (goal.at.returns-then-is_full-clause-some c).After-index in
-    let none = none_held (is_some c.self.inside.stop) (is_unfinished (ending_view c.index.result.now.ending)) (sym c.turn_at_rest.ensures ∙ c.in_default.is) in
+    let none = none_held (is_some c.self.inside.stop) (is_unfinished c.index.result.now.ending) (sym c.turn_at_rest.ensures ∙ c.in_default.is) in
     (refl, leb-true 1000000 _ (sym c.is_full.ensures ∙ c.if-is_full.true), can_step a (not_stopped c.self.inside.stop none.0) (is_live _ none.1) (is_free a c.waits.result c.waits.ensures c.if-waits.false))
 
 pub returns-clause-none : goal.returns-clause-none
 returns-clause-none c =
     let a = (goal.at.returns-clause-none c).After-index in
-    let none = none_held (is_some c.self.inside.stop) (is_unfinished (ending_view c.index.result.now.ending)) (sym c.turn_at_rest.ensures ∙ c.in_default.is) in (
+    let none = none_held (is_some c.self.inside.stop) (is_unfinished c.index.result.now.ending) (sym c.turn_at_rest.ensures ∙ c.in_default.is) in (
       leb-false 1000000 _ (sym c.is_full.ensures ∙ c.if-is_full.false),
       can_step a (not_stopped c.self.inside.stop none.0) (is_live _ none.1) (is_free a c.waits.result c.waits.ensures c.if-waits.false),
     )
