@@ -1,5 +1,5 @@
 -- Lists by their places.
-use Rattle.std.proofs.Common.{◌≡◌, ◌≢◌, ℕ, zero, suc, ◌+◌, ◌-◌, ◌<◌, ◌≤◌, Bool, true, List, [], ◌∷◌, ◌++◌, length, get_or, map, take, drop, Some, refl, sym, ap, ◌∙◌, arith}
+use Rattle.std.proofs.Common.{◌≡◌, ◌≢◌, ℕ, zero, suc, ◌+◌, ◌-◌, ◌<◌, ◌≤◌, Bool, true, List, [], ◌∷◌, ◌++◌, length, get_or, map, take, drop, Some, None, refl, sym, ap, ◌∙◌, arith}
 use Rattle.std.specs.Prelude.{slice_get, slice_set}
 use Rattle.std.specs.List.{Contains, list_all}
 use Rattle.std.specs.Option.{option_map}
@@ -70,6 +70,18 @@ take_next xs i x at = take_more xs i x (slice_get_within xs i x at) ∙ ap (λ y
 
 pub drop_next : {A : Type 0} (xs : List A) (i : ℕ) (x : A) → slice_get xs i ≡ Some x → drop i xs ≡ x ∷ drop (i + 1) xs
 drop_next xs i x at = drop_more xs i x (slice_get_within xs i x at) ∙ ap (λ y. y ∷ drop (i + 1) xs) (get_or_from_slice_get xs i x x at)
+
+pub drop_none : {A : Type 0} (xs : List A) (i : ℕ) → slice_get xs i ≡ None → drop i xs ≡ []
+drop_none [] zero at = refl
+drop_none [] (suc i) at = refl
+drop_none (x ∷ xs) zero at = absurd (cc)
+drop_none (x ∷ xs) (suc i) at = drop_none xs i at
+
+pub drop_past : {A : Type 0} (xs : List A) (i : ℕ) → length xs ≤ i → drop i xs ≡ []
+drop_past [] zero past = refl
+drop_past [] (suc i) past = refl
+drop_past (x ∷ xs) zero past = absurd (omega arith)
+drop_past (x ∷ xs) (suc i) past = drop_past xs i (omega (arith, past))
 
 -- the item that a loop is at
 pub item_here : {A : Type 0} (items : List A) (i : ℕ) (x y : A) → i < length items → x ≡ get_or items i x → x ≡ y → drop i items ≡ y ∷ drop (i + 1) items

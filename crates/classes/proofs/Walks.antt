@@ -4,30 +4,17 @@ use Rattle.std.specs.Prelude.{IsSome, MatchOption}
 use Rattle.std.specs.Option.{option_map, option_map_or}
 use Rattle.std.proofs.lemmas.List.{append-nil, map-append, reverse-append}
 use Rattle.std.proofs.lemmas.Grind.{flat_map-append}
+use Rattle.base.proofs.Lists.{drop_next, drop_none}
 use Rattle.class_rules.specs.Class.{Class, Classes, Field, class_at, superclass, above, ancestry_within}
 use Rattle.class_rules.specs.Fields.{FieldId, own_fields}
 use Rattle.classes.specs.FieldViews.{field_id_view}
 use Rattle.classes.specs.declared.fields.FieldId.{FieldId as InMemory}
 
-drop_suc : {A : Type 0} (xs : List A) (i : ℕ) (x : A) → slice_get xs i ≡ Some x → drop i xs ≡ x ∷ drop (suc i) xs
-drop_suc [] i x e = absurd (cc)
-drop_suc (y ∷ xs) zero x e = ap (λ z. z ∷ xs) (some e)
-  where
-    some : Some y ≡ Some x → y ≡ x
-    some h = cc
-drop_suc (y ∷ xs) (suc i) x e = drop_suc xs i x e
-
-drop_none : {A : Type 0} (xs : List A) (i : ℕ) → slice_get xs i ≡ None → drop i xs ≡ []
-drop_none [] zero e = refl
-drop_none [] (suc i) e = refl
-drop_none (x ∷ xs) zero e = absurd (cc)
-drop_none (x ∷ xs) (suc i) e = drop_none xs i e
-
 -- the field at a place comes next
 pub next_own : (T : Classes) (class place : ℕ) (below : List ℕ) (f : FieldId) → slice_get (own_fields T class) place ≡ Some f
     → drop place (own_fields T class) ++ flat_map (own_fields T) (reverse below) ≡ f ∷ (drop (place + 1) (own_fields T class) ++ flat_map (own_fields T) (reverse below))
 next_own T class place below f at =
-    ap (λ fs. fs ++ flat_map (own_fields T) (reverse below)) (drop_suc (own_fields T class) place f at ∙ ap (λ k. f ∷ drop k (own_fields T class)) (sym (add-one place)))
+    ap (λ fs. fs ++ flat_map (own_fields T) (reverse below)) (drop_next (own_fields T class) place f at)
 
 -- where a class has no more, its fields come next that is below it
 pub next_class : (T : Classes) (class place next : ℕ) (below rest : List ℕ) → slice_get (own_fields T class) place ≡ None → below ≡ rest ++ next ∷ []

@@ -6,7 +6,7 @@ use Rattle.base.specs.Bytes.{Identifier, lookup}
 use Rattle.base.specs.declared.element.ElementType.{ElementType}
 use Rattle.semantics.specs.Heap.{Heap, numbers_of}
 use Rattle.semantics.specs.Sight.{in_range, elements_of, variable_is_null, holds_null}
-use Rattle.semantics.specs.Task.{BufferKind}
+use Rattle.semantics.specs.declared.variable_kind.VariableKind.TheVariants as kinds
 use Rattle.semantics.specs.Thread.{Shared, Thread}
 use Rattle.semantics.specs.Value.{Gives, outcome_then}
 use Rattle.semantics.specs.Variable as variable
@@ -18,7 +18,7 @@ use Rattle.code_meaning.proofs.StaticPlaces.{statics_stay}
 use Rattle.code_meaning.proofs.SlotLaws.{slot_stays}
 
 -- a variable of this kind is a buffer
-pub buffer_by_kind : (o : Option Variable) (t : ElementType) → kind_of_variable o ≡ Some (BufferKind t) → o ≡ Some (Elements t (held_buffer o))
+pub buffer_by_kind : (o : Option Variable) (t : ElementType) → kind_of_variable o ≡ Some (kinds.Buffer t) → o ≡ Some (Elements t (held_buffer o))
 buffer_by_kind None t h = absurd (cc)
 buffer_by_kind (Some (Scalar v)) t h = absurd (cc)
 buffer_by_kind (Some (LocalRef level r)) t h = absurd (cc)
@@ -34,7 +34,7 @@ element_is heap t (Copy n zs) i = refl
 element_is heap t (View n) i = refl
 
 -- what a thread sees of a buffer are its elements
-pub buffer_seen : (own : Identifier → Option ℕ) (s : Shared) (t : Thread) (x : Identifier) (u : ElementType) (i : ℕ) → (visible_to own s t).kind x ≡ Some (BufferKind u)
+pub buffer_seen : (own : Identifier → Option ℕ) (s : Shared) (t : Thread) (x : Identifier) (u : ElementType) (i : ℕ) → (visible_to own s t).kind x ≡ Some (kinds.Buffer u)
     → (visible_to own s t).sight.element x i ≡ seen_element ((visible_to own s t).buffer x) (visible_to own s t).numbers i
 buffer_seen own s t x u i h =
     ap (λ (o : Option Variable). outcome_then (λ (zs : List ℤ). in_range (slice_get zs i)) (elements_of s.heap o)) (buffer_by_kind (lookup x t.variables) u h) ∙ element_is s.heap u (held_buffer (lookup x t.variables)) i

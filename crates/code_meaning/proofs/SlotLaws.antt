@@ -18,7 +18,8 @@ use Rattle.type_rules.specs.TypeGroups.{IsNumberType}
 use Rattle.class_rules.specs.Fields as source
 use Rattle.semantics.specs.Method as method
 use Rattle.semantics.specs.Object.{Reference}
-use Rattle.semantics.specs.Task.{VariableKind, ScalarKind, ReferenceKind, FieldKind, MethodKind, BufferKind}
+use Rattle.semantics.specs.declared.variable_kind.VariableKind.{VariableKind}
+use Rattle.semantics.specs.declared.variable_kind.VariableKind.TheVariants as kinds
 use Rattle.semantics.specs.Value.{Value, Gives, convert}
 use Rattle.semantics.specs.Variable as variable
 use Rattle.semantics.specs.Variable.{NoBuffer, StaticReference, Empty, Statics, as_argument, assign}
@@ -246,16 +247,16 @@ static_holds old new x i h shown is none is_null reference =
 
 -- a name that no variable has is known as a static, if at all
 no_variable_shown : (old new : Visible) (x : Identifier) (slots : Slots) (h : StaticReference) (s : Slot) (kind : ExprType) → IsHeld old x h new → ShowsSlot old x slots s kind → ShowsSlot new x slots s kind
-no_variable_shown old new x slots h s types.Word held shown = absurd (let e : Some ScalarKind ≡ None = sym shown.kind ∙ held.before.kind in cc)
-no_variable_shown old new x slots h s Jint held shown = absurd (let e : Some ScalarKind ≡ None = sym shown.kind ∙ held.before.kind in cc)
-no_variable_shown old new x slots h s types.Flag held shown = absurd (let e : Some ScalarKind ≡ None = sym shown.kind ∙ held.before.kind in cc)
+no_variable_shown old new x slots h s types.Word held shown = absurd (let e : Some kinds.Number ≡ None = sym shown.kind ∙ held.before.kind in cc)
+no_variable_shown old new x slots h s Jint held shown = absurd (let e : Some kinds.Number ≡ None = sym shown.kind ∙ held.before.kind in cc)
+no_variable_shown old new x slots h s types.Flag held shown = absurd (let e : Some kinds.Number ≡ None = sym shown.kind ∙ held.before.kind in cc)
 no_variable_shown old new x slots h s types.Truth held shown = tt
-no_variable_shown old new x slots h s Ref held shown = absurd (let e : Some ReferenceKind ≡ None = sym shown.kind ∙ held.before.kind in cc)
+no_variable_shown old new x slots h s Ref held shown = absurd (let e : Some kinds.Reference ≡ None = sym shown.kind ∙ held.before.kind in cc)
 no_variable_shown old new x slots h s Global held shown = static_holds old new x s.index h shown held.statics held.after held.is_null held.reference
 no_variable_shown old new x slots h s Weak held shown = static_holds old new x s.index h shown held.statics held.after held.is_null held.reference
-no_variable_shown old new x slots h s FieldId held shown = absurd (let e : Some FieldKind ≡ None = sym shown.kind ∙ held.before.kind in cc)
-no_variable_shown old new x slots h s MethodId held shown = absurd (let e : Some MethodKind ≡ None = sym shown.kind ∙ held.before.kind in cc)
-no_variable_shown old new x slots h s (Buffer t writable) held shown = absurd (let e : Some (BufferKind t) ≡ None = sym shown.kind ∙ held.before.kind in cc)
+no_variable_shown old new x slots h s FieldId held shown = absurd (let e : Some kinds.Field ≡ None = sym shown.kind ∙ held.before.kind in cc)
+no_variable_shown old new x slots h s MethodId held shown = absurd (let e : Some kinds.Method ≡ None = sym shown.kind ∙ held.before.kind in cc)
+no_variable_shown old new x slots h s (Buffer t writable) held shown = absurd (let e : Some (kinds.Buffer t) ≡ None = sym shown.kind ∙ held.before.kind in cc)
 no_variable_shown old new x slots h s (Array t size) held shown = absurd (let e : Some t ≡ None = sym shown.array_type ∙ held.before.array_type in cc)
 
 -- the slots show each known name still, once a static holds something else
@@ -281,12 +282,12 @@ static_changes code known old new slots x h shows held = record {
 
 -- the kind of what can be NULL; a static, which has none, is there at its place
 abbrev pub KindFits : Visible → Identifier → (i : ℕ) → ExprType → Option VariableKind → Type 0
-KindFits visible x i Ref kind = kind ≡ Some ReferenceKind
+KindFits visible x i Ref kind = kind ≡ Some kinds.Reference
 KindFits visible x i Global kind = (kind ≡ None) × ShowsStatic visible x i
 KindFits visible x i Weak kind = (kind ≡ None) × ShowsStatic visible x i
-KindFits visible x i FieldId kind = kind ≡ Some FieldKind
-KindFits visible x i MethodId kind = kind ≡ Some MethodKind
-KindFits visible x i (Buffer t writable) kind = kind ≡ Some (BufferKind t)
+KindFits visible x i FieldId kind = kind ≡ Some kinds.Field
+KindFits visible x i MethodId kind = kind ≡ Some kinds.Method
+KindFits visible x i (Buffer t writable) kind = kind ≡ Some (kinds.Buffer t)
 KindFits visible x i s kind = Unit {0}
 
 -- the statics stay where NULL goes to a variable of some kind
@@ -298,7 +299,7 @@ pub shows_nulled : (code : Listing) (known : Known) (old new : Visible) (slots :
 shows_nulled code known old new slots x Ref kind i variable shows own same e set =
     let is : nullable.Local i ≡ variable = cc in
     subst (λ v. Shows code ((x, record { ty = Ref; index = i }) ∷ known) new (with_null v slots)) is
-    (with_reference code known old new slots x i None slots.owners shows own (record { number = set.number; is_null = set.is_null; reference = set.reference; kind = set.same_kind ∙ e; statics = nulled_stay old new x kind ReferenceKind e set.statics; others = set.others }) refl (λ j other. refl) (λ n level is owner. absurd (let c : None ≡ Some n = is in cc)))
+    (with_reference code known old new slots x i None slots.owners shows own (record { number = set.number; is_null = set.is_null; reference = set.reference; kind = set.same_kind ∙ e; statics = nulled_stay old new x kind kinds.Reference e set.statics; others = set.others }) refl (λ j other. refl) (λ n level is owner. absurd (let c : None ≡ Some n = is in cc)))
 shows_nulled code known old new slots x Global kind i variable shows own same e set =
     let is : nullable.Static i ≡ variable = cc in
     let assigned : new.statics ≡ assign x Empty old.statics = set.statics ∙ ap (λ (o : Option VariableKind). nulled_statics o x old.statics) e.0 in
@@ -314,15 +315,15 @@ shows_nulled code known old new slots x Weak kind i variable shows own same e se
 shows_nulled code known old new slots x FieldId kind i variable shows own same e set =
     let is : nullable.FieldId i ≡ variable = cc in
     subst (λ v. Shows code ((x, record { ty = FieldId; index = i }) ∷ known) new (with_null v slots)) is
-    (shows_field_set code known old new slots x i None shows own (record { number = set.number; is_null = set.is_null; field = set.field; kind = set.same_kind ∙ e; statics = nulled_stay old new x kind FieldKind e set.statics; others = set.others }))
+    (shows_field_set code known old new slots x i None shows own (record { number = set.number; is_null = set.is_null; field = set.field; kind = set.same_kind ∙ e; statics = nulled_stay old new x kind kinds.Field e set.statics; others = set.others }))
 shows_nulled code known old new slots x MethodId kind i variable shows own same e set =
     let is : nullable.FieldId i ≡ variable = cc in
     subst (λ v. Shows code ((x, record { ty = MethodId; index = i }) ∷ known) new (with_null v slots)) is
-    (shows_method_set code known old new slots x i None shows own (record { number = set.number; is_null = set.is_null; method = set.method; kind = set.same_kind ∙ e; statics = nulled_stay old new x kind MethodKind e set.statics; others = set.others }))
+    (shows_method_set code known old new slots x i None shows own (record { number = set.number; is_null = set.is_null; method = set.method; kind = set.same_kind ∙ e; statics = nulled_stay old new x kind kinds.Method e set.statics; others = set.others }))
 shows_nulled code known old new slots x (Buffer t writable) kind i variable shows own same e set =
     let is : nullable.Buffer i ≡ variable = cc in
     subst (λ v. Shows code ((x, record { ty = Buffer t writable; index = i }) ∷ known) new (with_null v slots)) is
-    (shows_buffer_set code known old new slots x t writable i NoBuffer shows own (record { buffer = set.buffer; is_null = set.is_null; kind = set.same_kind ∙ e; statics = nulled_stay old new x kind (BufferKind t) e set.statics; others = set.others }))
+    (shows_buffer_set code known old new slots x t writable i NoBuffer shows own (record { buffer = set.buffer; is_null = set.is_null; kind = set.same_kind ∙ e; statics = nulled_stay old new x kind (kinds.Buffer t) e set.statics; others = set.others }))
 shows_nulled code known old new slots x s kind i variable shows own same e set = absurd (cc)
 
 -- ---- a local array

@@ -23,7 +23,9 @@ use Rattle.semantics.specs.Object.{Reference}
 use Rattle.jni.specs.declared.mode.ReleaseMode.{ReleaseMode}
 use Rattle.semantics.specs.Arguments.{Actual, ReferenceActual, FieldActual, MethodActual, NumberActual, TextActual, VariableActual, ModeActual, NothingActual}
 use Rattle.semantics.specs.Effect.{Effect, Becomes, Sets, SetsNull, SetsElement, MakesArray, Prints, Calls, Returns, TrapsAt, NoEffect}
-use Rattle.semantics.specs.Task.{Task, Branch, Target, Declared, Assigned, Tested, Dropped, VariableKind, ScalarKind, ReferenceKind, FieldKind, MethodKind, BufferKind}
+use Rattle.semantics.specs.declared.variable_kind.VariableKind.{VariableKind}
+use Rattle.semantics.specs.declared.variable_kind.VariableKind.TheVariants as kinds
+use Rattle.semantics.specs.Task.{Task, Branch, Target, Declared, Assigned, Tested, Dropped}
 use Rattle.semantics.specs.Term.{Done}
 use Rattle.semantics.specs.declared.trap.Trap.{Trap}
 use Rattle.semantics.specs.Value.{Value, Int, Gives}
@@ -174,7 +176,7 @@ module _ (code : Listing) (known : Known) (place : ℕ) (stack : List ℕ) (slot
   -- these tasks
   pub record WritesBuffer (x : Identifier) (index : ℕ) (z : ℤ) (tasks : List Task) : Type 0 where
     pub type : ElementType
-    pub kind : visible.kind x ≡ Some (BufferKind type)
+    pub kind : visible.kind x ≡ Some (kinds.Buffer type)
     pub slot : ℕ
     pub there : slice_get slots.buffers slot ≡ Some (visible.buffer x)
     pub inside : index < length (elements_in (visible.buffer x) visible.numbers)
@@ -189,7 +191,7 @@ module _ (code : Listing) (known : Known) (place : ℕ) (stack : List ℕ) (slot
 
   -- a new variable that isn't a number, or one that can be NULL
   abbrev pub CanBeNull : Target → Type 0
-  CanBeNull (Declared ScalarKind x) = ⊥
+  CanBeNull (Declared kinds.Number x) = ⊥
   CanBeNull (Declared kind x) = Unit {0}
   CanBeNull (Assigned x) = (null : Bool) × (visible.sight.is_null x ≡ Gives null)
   CanBeNull target = ⊥
@@ -203,10 +205,10 @@ module _ (code : Listing) (known : Known) (place : ℕ) (stack : List ℕ) (slot
   -- a variable in a slot is of the kind that it has there, or of one of two that share theirs, and a static, which is of none, has the
   -- number of its place
   abbrev pub IsStoredIn : NullableVariable → Option VariableKind → Identifier → Type 0
-  IsStoredIn (nullable.Local i) kind x = kind ≡ Some ReferenceKind
+  IsStoredIn (nullable.Local i) kind x = kind ≡ Some kinds.Reference
   IsStoredIn (nullable.Static i) kind x = (kind ≡ None) × ShowsStatic visible x i
-  IsStoredIn (nullable.FieldId i) kind x = (kind ≡ Some FieldKind) ⊎ (kind ≡ Some MethodKind)
-  IsStoredIn (nullable.Buffer i) kind x = (t : ElementType) × (kind ≡ Some (BufferKind t))
+  IsStoredIn (nullable.FieldId i) kind x = (kind ≡ Some kinds.Field) ⊎ (kind ≡ Some kinds.Method)
+  IsStoredIn (nullable.Buffer i) kind x = (t : ElementType) × (kind ≡ Some (kinds.Buffer t))
 
   -- it makes a variable NULL, and the next place stands for these tasks
   pub record StoresNull (target : Target) (tasks : List Task) : Type 0 where
@@ -320,13 +322,13 @@ module _ (code : Listing) (known : Known) (place : ℕ) (stack : List ℕ) (slot
   -- where the result of a call in a statement on this line goes, by what the function gives, and what comes then
   abbrev pub TakesResult : (line : ℕ) → Destination → ResultKind → Target → List Task → Type 0
   TakesResult line (destination.Number i) gives target tasks = (s : ExprType) × (number_type gives ≡ Some s)
-      × GoesInto ScalarKind target (λ x. TakesNumber s i x tasks)
-  TakesResult line (destination.Local i) gives target tasks = (gives ≡ NewLocal) × GoesInto ReferenceKind target (λ x. TakesReference i x tasks)
-  TakesResult line (destination.FieldId i) gives target tasks = (gives ≡ GivesField) × GoesInto FieldKind target (λ x. TakesField i x tasks)
-  TakesResult line (destination.MethodId i) gives target tasks = (gives ≡ GivesMethod) × GoesInto MethodKind target (λ x. TakesMethod i x tasks)
+      × GoesInto kinds.Number target (λ x. TakesNumber s i x tasks)
+  TakesResult line (destination.Local i) gives target tasks = (gives ≡ NewLocal) × GoesInto kinds.Reference target (λ x. TakesReference i x tasks)
+  TakesResult line (destination.FieldId i) gives target tasks = (gives ≡ GivesField) × GoesInto kinds.Field target (λ x. TakesField i x tasks)
+  TakesResult line (destination.MethodId i) gives target tasks = (gives ≡ GivesMethod) × GoesInto kinds.Method target (λ x. TakesMethod i x tasks)
   TakesResult line (destination.Static i) gives target tasks = IsStaticResult gives × ((x : Identifier) × (target ≡ Assigned x) × TakesStatic i x tasks)
   TakesResult line (destination.Buffer element i) gives target tasks =
-      IsBufferResult gives × ((t : ElementType) × (element ≡ element_of t) × GoesInto (BufferKind t) target (λ x. TakesBuffer t i x tasks))
+      IsBufferResult gives × ((t : ElementType) × (element ≡ element_of t) × GoesInto (kinds.Buffer t) target (λ x. TakesBuffer t i x tasks))
   TakesResult line destination.Test gives target tasks = (gives ≡ GivesInt) × TakesTest line target tasks
   TakesResult line destination.Dropped gives target tasks = (target ≡ Dropped) × (is_droppable gives ≡ true) × StandsFor code known (place + 1) [] tasks
 

@@ -17,7 +17,8 @@ use Rattle.semantics.specs.Heap.{numbers_of}
 use Rattle.semantics.specs.Method as method
 use Rattle.semantics.specs.Object.{ObjectValue, Number, Refers, Reference}
 use Rattle.semantics.specs.Sight.{Sight, in_range}
-use Rattle.semantics.specs.Task.{VariableKind, ScalarKind, ReferenceKind, FieldKind, MethodKind, BufferKind}
+use Rattle.semantics.specs.declared.variable_kind.VariableKind.{VariableKind}
+use Rattle.semantics.specs.declared.variable_kind.VariableKind.TheVariants as kinds
 use Rattle.semantics.specs.Thread.{Shared, Thread, sight_of}
 use Rattle.semantics.specs.declared.trap.Trap.TheVariants.{OutOfRange}
 use Rattle.semantics.specs.Value.{Value, Word, Int, Flag, Truth, Outcome, Gives, Traps, Stuck, convert}
@@ -65,11 +66,11 @@ type_of_array v = None
 
 -- the kind of a variable that is no array
 abbrev pub kind_of_variable : Option Variable → Option VariableKind
-kind_of_variable (Some (Scalar v)) = Some ScalarKind
-kind_of_variable (Some (LocalRef level r)) = Some ReferenceKind
-kind_of_variable (Some (FieldHandle f)) = Some FieldKind
-kind_of_variable (Some (MethodHandle m)) = Some MethodKind
-kind_of_variable (Some (Elements t b)) = Some (BufferKind t)
+kind_of_variable (Some (Scalar v)) = Some kinds.Number
+kind_of_variable (Some (LocalRef level r)) = Some kinds.Reference
+kind_of_variable (Some (FieldHandle f)) = Some kinds.Field
+kind_of_variable (Some (MethodHandle m)) = Some kinds.Method
+kind_of_variable (Some (Elements t b)) = Some (kinds.Buffer t)
 kind_of_variable (Some (LocalArray t zs)) = None
 kind_of_variable None = None
 
@@ -110,7 +111,7 @@ OthersStay old new x = (y : Identifier) → y ≢ x → IsAsBefore old new y
 -- a number variable has this value
 pub record IsSet (old : Visible) (x : Identifier) (v : Value) (new : Visible) : Type 0 where
   pub is : new.sight.number x ≡ Gives v
-  pub kind : new.kind x ≡ Some ScalarKind
+  pub kind : new.kind x ≡ Some kinds.Number
   pub statics : new.statics ≡ old.statics
   pub others : OthersStay old new x
 
@@ -137,7 +138,7 @@ pub record IsReferred (old : Visible) (x : Identifier) (r : Reference) (new : Vi
   pub number : new.sight.number x ≡ Stuck
   pub is_null : new.sight.is_null x ≡ Gives (is_none r)
   pub reference : new.sight.reference x ≡ as_static r
-  pub kind : new.kind x ≡ Some ReferenceKind
+  pub kind : new.kind x ≡ Some kinds.Reference
   pub statics : new.statics ≡ old.statics
   pub others : OthersStay old new x
 
@@ -169,7 +170,7 @@ pub record IsFieldSet (old : Visible) (x : Identifier) (f : Option source.FieldI
   pub number : new.sight.number x ≡ Stuck
   pub is_null : new.sight.is_null x ≡ Gives (is_none f)
   pub field : new.sight.field x ≡ f
-  pub kind : new.kind x ≡ Some FieldKind
+  pub kind : new.kind x ≡ Some kinds.Field
   pub statics : new.statics ≡ old.statics
   pub others : OthersStay old new x
 
@@ -178,7 +179,7 @@ pub record IsMethodSet (old : Visible) (x : Identifier) (m : Option method.Metho
   pub number : new.sight.number x ≡ Stuck
   pub is_null : new.sight.is_null x ≡ Gives (is_none m)
   pub method : new.sight.method x ≡ m
-  pub kind : new.kind x ≡ Some MethodKind
+  pub kind : new.kind x ≡ Some kinds.Method
   pub statics : new.statics ≡ old.statics
   pub others : OthersStay old new x
 
@@ -191,7 +192,7 @@ is_no_buffer b = false
 pub record IsBufferSet (old : Visible) (t : ElementType) (x : Identifier) (b : variable.Buffer) (new : Visible) : Type 0 where
   pub buffer : new.buffer x ≡ b
   pub is_null : new.sight.is_null x ≡ Gives (is_no_buffer b)
-  pub kind : new.kind x ≡ Some (BufferKind t)
+  pub kind : new.kind x ≡ Some (kinds.Buffer t)
   pub statics : new.statics ≡ old.statics
   pub others : OthersStay old new x
 
@@ -232,7 +233,7 @@ pub record Slots : Type 0 where
 pub record ShowsNumber (visible : Visible) (x : Identifier) (numbers : List ℕ) (s : Slot) : Type 0 where
   pub value : Value
   pub is : visible.sight.number x ≡ Gives value
-  pub kind : visible.kind x ≡ Some ScalarKind
+  pub kind : visible.kind x ≡ Some kinds.Number
   pub ty : ValueHasType value s.ty
   pub word : slice_get numbers s.index ≡ Some (word_of value)
 
@@ -242,7 +243,7 @@ pub record ShowsReference (visible : Visible) (x : Identifier) (slots : Slots) (
   pub is : visible.sight.reference x ≡ as_static reference
   pub is_null : visible.sight.is_null x ≡ Gives (is_none reference)
   pub no_number : visible.sight.number x ≡ Stuck
-  pub kind : visible.kind x ≡ Some ReferenceKind
+  pub kind : visible.kind x ≡ Some kinds.Reference
   pub there : slice_get slots.references i ≡ Some reference
   pub owner : (n level : ℕ) → reference ≡ Some n → visible.owner x ≡ Some level → slice_get slots.owners i ≡ Some (Some level)
 
@@ -252,7 +253,7 @@ pub record ShowsField (visible : Visible) (x : Identifier) (fields : List (Optio
   pub is : visible.sight.field x ≡ field
   pub is_null : visible.sight.is_null x ≡ Gives (is_none field)
   pub no_number : visible.sight.number x ≡ Stuck
-  pub kind : visible.kind x ≡ Some FieldKind
+  pub kind : visible.kind x ≡ Some kinds.Field
   pub there : slice_get fields i ≡ Some (option_map OfField field)
 
 -- what a method ID holds is in its slot
@@ -261,7 +262,7 @@ pub record ShowsMethod (visible : Visible) (x : Identifier) (fields : List (Opti
   pub is : visible.sight.method x ≡ method
   pub is_null : visible.sight.is_null x ≡ Gives (is_none method)
   pub no_number : visible.sight.number x ≡ Stuck
-  pub kind : visible.kind x ≡ Some MethodKind
+  pub kind : visible.kind x ≡ Some kinds.Method
   pub there : slice_get fields i ≡ Some (option_map OfMethod method)
 
 -- an element is in its slot, as a `jint`
@@ -301,7 +302,7 @@ pub record ShowsBuffer (visible : Visible) (x : Identifier) (buffers : List vari
   pub buffer : variable.Buffer
   pub is : visible.buffer x ≡ buffer
   pub is_null : visible.sight.is_null x ≡ Gives (is_no_buffer buffer)
-  pub kind : visible.kind x ≡ Some (BufferKind t)
+  pub kind : visible.kind x ≡ Some (kinds.Buffer t)
   pub there : slice_get buffers i ≡ Some buffer
 
 -- what the slots show of a name with a slot of this type
@@ -341,7 +342,7 @@ seen_element b numbers i = if is_no_buffer b then Stuck else in_range (slice_get
 
 -- What is seen of a buffer are the elements of what it holds, and those of each buffer in a slot are `jint`s, at indices that are.
 pub record SeesBuffers (visible : Visible) (buffers : List variable.Buffer) : Type 0 where
-  pub seen : (x : Identifier) (t : ElementType) (i : ℕ) → visible.kind x ≡ Some (BufferKind t)
+  pub seen : (x : Identifier) (t : ElementType) (i : ℕ) → visible.kind x ≡ Some (kinds.Buffer t)
       → visible.sight.element x i ≡ seen_element (visible.buffer x) visible.numbers i
   pub fit : (slot i : ℕ) (b : variable.Buffer) (z : ℤ) → slice_get buffers slot ≡ Some b → slice_get (elements_in b visible.numbers) i ≡ Some z
       → (i < 2 ^ 31) × FitsSigned w32 z

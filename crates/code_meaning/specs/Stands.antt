@@ -21,7 +21,9 @@ use Rattle.type_rules.specs.TypeRules.{is_droppable}
 use Rattle.type_rules.specs.TypeGroups.{IsIndexType, IsNumberType}
 use Rattle.jni.specs.declared.mode.ReleaseMode.{ReleaseMode}
 use Rattle.semantics.specs.Arguments.{mode_of}
-use Rattle.semantics.specs.Task.{Task, SetScalar, SetElement, SetNull, MakeArray, Invoke, Print, Branch, EndIf, Loop, EndTurn, Return, ReturnValue, Impossible, Target, Declared, Assigned, Tested, Dropped, VariableKind, ScalarKind, ReferenceKind, FieldKind, MethodKind, BufferKind, Operand, NumberOperand, PassedName, Given}
+use Rattle.semantics.specs.declared.variable_kind.VariableKind.{VariableKind}
+use Rattle.semantics.specs.declared.variable_kind.VariableKind.TheVariants as kinds
+use Rattle.semantics.specs.Task.{Task, SetScalar, SetElement, SetNull, MakeArray, Invoke, Print, Branch, EndIf, Loop, EndTurn, Return, ReturnValue, Impossible, Target, Declared, Assigned, Tested, Dropped, Operand, NumberOperand, PassedName, Given}
 use Rattle.semantics.specs.Term as term
 use Rattle.semantics.specs.Term.{Term, Done, Read, And, Or, Prefix, Binary, term_of}
 use Rattle.semantics.specs.Value.{Truth}
@@ -131,13 +133,13 @@ target_name target = None
 
 -- the kind of a variable of this type; statics and arrays have none
 abbrev pub kind_of_type : ExprType → Option VariableKind
-kind_of_type types.Word = Some ScalarKind
-kind_of_type Jint = Some ScalarKind
-kind_of_type types.Flag = Some ScalarKind
-kind_of_type Ref = Some ReferenceKind
-kind_of_type FieldId = Some FieldKind
-kind_of_type MethodId = Some MethodKind
-kind_of_type (Buffer t writable) = Some (BufferKind t)
+kind_of_type types.Word = Some kinds.Number
+kind_of_type Jint = Some kinds.Number
+kind_of_type types.Flag = Some kinds.Number
+kind_of_type Ref = Some kinds.Reference
+kind_of_type FieldId = Some kinds.Field
+kind_of_type MethodId = Some kinds.Method
+kind_of_type (Buffer t writable) = Some (kinds.Buffer t)
 kind_of_type s = None
 
 -- the variable is a new one, of the slot's kind, or the one that has the slot
@@ -363,18 +365,18 @@ IsBufferResult gives = (access : Access) × (gives ≡ GivesBuffer access)
 abbrev pub BufferGoes : Listing → Known → After → (place : ℕ) → ElementType → (i : ℕ) → Target → Type 0
 BufferGoes code known after place element i target =
     (t : ElementType) × (writable : Bool) × (element ≡ element_of t)
-    × ResultGoes code known after place (record { ty = Buffer t writable; index = i }) (BufferKind t) target
+    × ResultGoes code known after place (record { ty = Buffer t writable; index = i }) (kinds.Buffer t) target
 
 -- where the result of a call in a statement on this line goes, as an instruction has it, and then what comes
 abbrev pub TargetStands : Listing → Known → After → (place : ℕ) → (line : ℕ) → Destination → ResultKind → Target → Type 0
 TargetStands code known after place line (destination.Number i) gives target =
-    (s : ExprType) × (number_type gives ≡ Some s) × ResultGoes code known after place (record { ty = s; index = i }) ScalarKind target
+    (s : ExprType) × (number_type gives ≡ Some s) × ResultGoes code known after place (record { ty = s; index = i }) kinds.Number target
 TargetStands code known after place line (destination.Local i) gives target = (gives ≡ NewLocal)
-    × ResultGoes code known after place (record { ty = Ref; index = i }) ReferenceKind target
+    × ResultGoes code known after place (record { ty = Ref; index = i }) kinds.Reference target
 TargetStands code known after place line (destination.FieldId i) gives target = (gives ≡ GivesField)
-    × ResultGoes code known after place (record { ty = FieldId; index = i }) FieldKind target
+    × ResultGoes code known after place (record { ty = FieldId; index = i }) kinds.Field target
 TargetStands code known after place line (destination.MethodId i) gives target = (gives ≡ GivesMethod)
-    × ResultGoes code known after place (record { ty = MethodId; index = i }) MethodKind target
+    × ResultGoes code known after place (record { ty = MethodId; index = i }) kinds.Method target
 TargetStands code known after place line (destination.Static i) gives target = IsStaticResult gives × StaticStands known after place i target
 TargetStands code known after place line (destination.Buffer element i) gives target = IsBufferResult gives × BufferGoes code known after place element i target
 TargetStands code known after place line destination.Test gives target = (gives ≡ GivesInt) × TestStands code known after place line target

@@ -39,7 +39,9 @@ use Rattle.code.specs.Effect.{truth_word}
 use Rattle.semantics.specs.Value.{Truth}
 use Rattle.semantics.specs.Term as term
 use Rattle.semantics.specs.Term.{Term, Done, Read, Binary, term_of}
-use Rattle.semantics.specs.Task.{Task, SetScalar, Branch, ReturnValue, Target, Declared, Assigned, Tested, Dropped, VariableKind, ScalarKind, ReferenceKind, FieldKind, MethodKind, BufferKind, variable_kind, kind_of, set_task, invocation, call_task, right_side_task, if_task, task_of, tasks_of, operand, passed_operand, PassedName, Given, Operand}
+use Rattle.semantics.specs.declared.variable_kind.VariableKind.{VariableKind}
+use Rattle.semantics.specs.declared.variable_kind.VariableKind.TheVariants as kinds
+use Rattle.semantics.specs.Task.{Task, SetScalar, Branch, ReturnValue, Target, Declared, Assigned, Tested, Dropped, variable_kind, kind_of, set_task, invocation, call_task, right_side_task, if_task, task_of, tasks_of, operand, passed_operand, PassedName, Given, Operand}
 use Rattle.code_meaning.specs.Layout.{Slot, Known, Layout, new_slot, closed, layout_after, block_layout}
 use Rattle.code_meaning.specs.Coding.{nullable_of, store_of, write_code, of_slot, operand_of, passed_variable, passed_code, passed_rest, address_operand, term_code, expr_code, value_code, right_code, assign_code, returned_code, return_code, paths_code, turn_code, loop_code, if_code, stmt_code, block_code, named_call_code, operand_code, argument_code, arguments_code, argument_text, arguments_texts, result_target}
 use Rattle.code_meaning.specs.Slots as value
@@ -377,17 +379,17 @@ module _ (code : Listing) (known : Known) (line place : ℕ) (tail : List Task) 
       → TargetStands code known (λ q names. TasksStand code names q [] tail) p line (result_target s i) gives target
 
   result_comes : (p i : ℕ) (gives : ResultKind) (target : Target) (x : Identifier) (s : ExprType) → target_name target ≡ Some x → ResultFits s gives → ResultComes p i gives target x s
-  result_comes p i GivesInt target x s name e = subst (ResultComes p i GivesInt target x) (sym e) (λ goes stands. (Jint, refl, result_goes p ScalarKind (record { ty = Jint; index = i }) target x refl name goes stands))
-  result_comes p i GivesFlag target x s name e = subst (ResultComes p i GivesFlag target x) (sym e) (λ goes stands. (types.Flag, refl, result_goes p ScalarKind (record { ty = types.Flag; index = i }) target x refl name goes stands))
-  result_comes p i NewLocal target x s name e = subst (ResultComes p i NewLocal target x) (sym e) (λ goes stands. (refl, result_goes p ReferenceKind (record { ty = Ref; index = i }) target x refl name goes stands))
+  result_comes p i GivesInt target x s name e = subst (ResultComes p i GivesInt target x) (sym e) (λ goes stands. (Jint, refl, result_goes p kinds.Number (record { ty = Jint; index = i }) target x refl name goes stands))
+  result_comes p i GivesFlag target x s name e = subst (ResultComes p i GivesFlag target x) (sym e) (λ goes stands. (types.Flag, refl, result_goes p kinds.Number (record { ty = types.Flag; index = i }) target x refl name goes stands))
+  result_comes p i NewLocal target x s name e = subst (ResultComes p i NewLocal target x) (sym e) (λ goes stands. (refl, result_goes p kinds.Reference (record { ty = Ref; index = i }) target x refl name goes stands))
   result_comes p i NewGlobal target x s name e = subst (ResultComes p i NewGlobal target x) (sym e) (λ goes stands. (tt, static_goes p i Global target x tt name goes stands))
   result_comes p i NewWeak target x s name e = subst (ResultComes p i NewWeak target x) (sym e) (λ goes stands. (tt, static_goes p i Weak target x tt name goes stands))
-  result_comes p i GivesField target x s name e = subst (ResultComes p i GivesField target x) (sym e) (λ goes stands. (refl, result_goes p FieldKind (record { ty = FieldId; index = i }) target x refl name goes stands))
-  result_comes p i GivesMethod target x s name e = subst (ResultComes p i GivesMethod target x) (sym e) (λ goes stands. (refl, result_goes p MethodKind (record { ty = MethodId; index = i }) target x refl name goes stands))
+  result_comes p i GivesField target x s name e = subst (ResultComes p i GivesField target x) (sym e) (λ goes stands. (refl, result_goes p kinds.Field (record { ty = FieldId; index = i }) target x refl name goes stands))
+  result_comes p i GivesMethod target x s name e = subst (ResultComes p i GivesMethod target x) (sym e) (λ goes stands. (refl, result_goes p kinds.Method (record { ty = MethodId; index = i }) target x refl name goes stands))
   result_comes p i (GivesBuffer access) target x s name e =
       let is = buffer_type access s e in
       subst (ResultComes p i (GivesBuffer access) target x) (sym is.2)
-      (λ goes stands. ((access, refl), (is.0, is.1, refl, result_goes p (BufferKind is.0) (record { ty = Buffer is.0 is.1; index = i }) target x refl name goes stands)))
+      (λ goes stands. ((access, refl), (is.0, is.1, refl, result_goes p (kinds.Buffer is.0) (record { ty = Buffer is.0 is.1; index = i }) target x refl name goes stands)))
   result_comes p i GivesNothing target x s name e = absurd e
 
   pub right_stands : (target : Target) (x : Identifier) (s : Slot) (r : RightSide) (names : Known) → HaveOwnSlots known → RightFits known s.ty r → target_name target ≡ Some x → GoesTo known s target → HasAt code.instrs place (right_code known line s r) → IsSlotOf code known x s

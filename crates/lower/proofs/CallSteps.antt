@@ -34,7 +34,9 @@ use Rattle.semantics.specs.Effect.{goes_on, is_no_number, is_given, is_ready, ca
 use Rattle.semantics.specs.Arguments.{Actual, ReferenceActual, FieldActual, MethodActual, NumberActual, TextActual, VariableActual, ModeActual, NothingActual, mode_of, reference_argument, look_up_expression, look_up, actuals}
 use Rattle.semantics.specs.Sight.{Sight}
 use Rattle.semantics.specs.Variable.{Empty}
-use Rattle.semantics.specs.Task.{Task, Invoke, Target, Declared, Assigned, Dropped, VariableKind, ScalarKind, ReferenceKind, FieldKind, MethodKind, BufferKind, Operand, NumberOperand, PassedName, Given, Tested}
+use Rattle.semantics.specs.declared.variable_kind.VariableKind.{VariableKind}
+use Rattle.semantics.specs.declared.variable_kind.VariableKind.TheVariants as kinds
+use Rattle.semantics.specs.Task.{Task, Invoke, Target, Declared, Assigned, Dropped, Operand, NumberOperand, PassedName, Given, Tested}
 use Rattle.semantics.specs.Term.{Term, Done, Read, reduce}
 use Rattle.semantics.specs.Value.{Value, Int, Gives, Outcome, Traps, Stuck, outcome_map}
 use Rattle.code_meaning.specs.Layout.{Slot, Known}
@@ -338,21 +340,21 @@ module _ (code : Listing) (known : Known) (place : ℕ) (stack : List ℕ) (slot
   takes_result line f operands (destination.Number i) gives target rest h returns =
       let slot : Slot = record { ty = h.0; index = i } in
       let n = is_number_type gives h.0 h.1 in
-      (h.0, h.1, goes_into line f operands ScalarKind slot target rest (λ x. TakesNumber code known place stack slots visible h.0 i x rest) returns (λ x r stands. takes_number slot x rest n r stands) (λ x found. (shows_number known line slots visible x slot h.0 n (shows.each x slot found)).kind) h.2)
+      (h.0, h.1, goes_into line f operands kinds.Number slot target rest (λ x. TakesNumber code known place stack slots visible h.0 i x rest) returns (λ x r stands. takes_number slot x rest n r stands) (λ x found. (shows_number known line slots visible x slot h.0 n (shows.each x slot found)).kind) h.2)
   takes_result line f operands (destination.Local i) gives target rest h returns =
       let slot : Slot = record { ty = Ref; index = i } in
-      (h.0, goes_into line f operands ReferenceKind slot target rest (λ x. TakesReference code known place stack slots visible i x rest) returns (λ x r stands. takes_reference i x rest r stands) (λ x found. (shows.each x slot found).kind) h.1)
+      (h.0, goes_into line f operands kinds.Reference slot target rest (λ x. TakesReference code known place stack slots visible i x rest) returns (λ x r stands. takes_reference i x rest r stands) (λ x found. (shows.each x slot found).kind) h.1)
   takes_result line f operands (destination.FieldId i) gives target rest h returns =
       let slot : Slot = record { ty = FieldId; index = i } in
-      (h.0, goes_into line f operands FieldKind slot target rest (λ x. TakesField code known place stack slots visible i x rest) returns (λ x r stands. takes_field i x rest r stands) (λ x found. (shows.each x slot found).kind) h.1)
+      (h.0, goes_into line f operands kinds.Field slot target rest (λ x. TakesField code known place stack slots visible i x rest) returns (λ x r stands. takes_field i x rest r stands) (λ x found. (shows.each x slot found).kind) h.1)
   takes_result line f operands (destination.MethodId i) gives target rest h returns =
       let slot : Slot = record { ty = MethodId; index = i } in
-      (h.0, goes_into line f operands MethodKind slot target rest (λ x. TakesMethod code known place stack slots visible i x rest) returns (λ x r stands. takes_method i x rest r stands) (λ x found. (shows.each x slot found).kind) h.1)
+      (h.0, goes_into line f operands kinds.Method slot target rest (λ x. TakesMethod code known place stack slots visible i x rest) returns (λ x r stands. takes_method i x rest r stands) (λ x found. (shows.each x slot found).kind) h.1)
   takes_result line f operands (destination.Static i) gives target rest h returns = (h.0, takes_static line f operands i target rest returns h.1)
   takes_result line f operands (destination.Buffer element i) gives target rest h returns =
       let t = h.1.0 in
       let slot : Slot = record { ty = Buffer t h.1.1; index = i } in
-      (h.0, (t, h.1.2, goes_into line f operands (BufferKind t) slot target rest (λ x. TakesBuffer code known place stack slots visible t i x rest) returns (λ x r stands. takes_buffer t h.1.1 i x rest r stands) (λ x found. (shows.each x slot found).kind) h.1.3))
+      (h.0, (t, h.1.2, goes_into line f operands (kinds.Buffer t) slot target rest (λ x. TakesBuffer code known place stack slots visible t i x rest) returns (λ x r stands. takes_buffer t h.1.1 i x rest r stands) (λ x found. (shows.each x slot found).kind) h.1.3))
   takes_result line f operands destination.Test gives target rest h returns = (h.0, takes_test line f operands target rest returns h.1)
   takes_result line f operands destination.Dropped gives target rest h returns = (h.0, h.1, record { stand = h.2; returns = subst (λ (t : Target). IsTrue (list_any task_returns (Invoke line t f operands ∷ rest))) h.0 returns })
 

@@ -20,7 +20,9 @@ use Rattle.code.specs.Depth.{Listing}
 use Rattle.code.specs.Effect.{plain_of, cleared}
 use Rattle.code.proofs.Effects.{KeepsSlots, plain_keeps}
 use Rattle.semantics.specs.Effect.{goes_on, effect_of}
-use Rattle.semantics.specs.Task.{Task, SetScalar, SetNull, MakeArray, Print, Target, Declared, Assigned, VariableKind, ScalarKind, ReferenceKind, FieldKind, MethodKind, BufferKind}
+use Rattle.semantics.specs.declared.variable_kind.VariableKind.{VariableKind}
+use Rattle.semantics.specs.declared.variable_kind.VariableKind.TheVariants as kinds
+use Rattle.semantics.specs.Task.{Task, SetScalar, SetNull, MakeArray, Print, Target, Declared, Assigned}
 use Rattle.semantics.specs.Term.{Term, Done, reduce}
 use Rattle.semantics.specs.Value.{Value, Int, Gives}
 use Rattle.code_meaning.specs.Layout.{Slot, Known}
@@ -156,16 +158,16 @@ module _ (code : Listing) (known : Known) (place : ℕ) (stack : List ℕ) (slot
   shown_null x s kind variable e h = absurd (cc)
 
   -- a variable that can be NULL is declared as no number
-  no_scalar : (s : ExprType) (i : ℕ) (variable : NullableVariable) → nullable_of s i ≡ Some variable → kind_of_type s ≡ Some ScalarKind → ⊥
+  no_scalar : (s : ExprType) (i : ℕ) (variable : NullableVariable) → nullable_of s i ≡ Some variable → kind_of_type s ≡ Some kinds.Number → ⊥
   no_scalar types.Word i variable e h = cc
   no_scalar s i variable e h = cc
 
   can_be_null : (target : Target) (s : Slot) (variable : NullableVariable) → nullable_of s.ty s.index ≡ Some variable → GoesTo known s target → CanBeNull code known place stack slots visible target
-  can_be_null (Declared ScalarKind x) s variable e h = no_scalar s.ty s.index variable e h
-  can_be_null (Declared ReferenceKind x) s variable e h = tt
-  can_be_null (Declared FieldKind x) s variable e h = tt
-  can_be_null (Declared MethodKind x) s variable e h = tt
-  can_be_null (Declared (BufferKind t) x) s variable e h = tt
+  can_be_null (Declared kinds.Number x) s variable e h = no_scalar s.ty s.index variable e h
+  can_be_null (Declared kinds.Reference x) s variable e h = tt
+  can_be_null (Declared kinds.Field x) s variable e h = tt
+  can_be_null (Declared kinds.Method x) s variable e h = tt
+  can_be_null (Declared (kinds.Buffer t) x) s variable e h = tt
   can_be_null (Assigned x) s variable e h = shown_null x s s.ty variable e (shows.each x s h)
   can_be_null target s variable e h = absurd h
 

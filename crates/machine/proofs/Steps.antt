@@ -13,6 +13,7 @@ use Rattle.semantics.specs.State.{State, thread_at, set_thread, in_use, views, w
 use Rattle.semantics.specs.State.{advanced as advanced_to}
 use Rattle.semantics.specs.Step.{can_step, is_blocked, is_unfinished, is_waiting, turn_step}
 use Rattle.semantics.specs.Step.{is_live as is_live_thread}
+use Rattle.semantics.proofs.Endings.{unfinished}
 use Rattle.semantics.specs.State as state
 use Rattle.std.proofs.lemmas.Bool.{false≢true}
 use Rattle.semantics.specs.ThreadStep.{thread_step, waits}
@@ -103,11 +104,6 @@ none_printed printed k (event.Trapped trap line) h = refl
 pub not_stopped : (o : Option Stop) → is_some o ≡ false → o ≡ None
 not_stopped None h = refl
 not_stopped (Some x) h = absurd (cc)
-
-pub is_live : (e : Ending) → is_unfinished e ≡ true → e ≡ Unfinished
-is_live Unfinished h = refl
-is_live Ended h = absurd (cc)
-is_live (Uncaught class) h = absurd (cc)
 
 -- the machine has stopped where the state has
 stops_not : (o : Option Stop) (s : Option state.Stop) → s ≡ option_map stop_view o → is_some s ≡ false → is_some o ≡ false
@@ -254,7 +250,7 @@ module _ (p : Lowered) (world : World) (store : Store) (ts : List Thread) (print
       let parts = can_parts classes c.state k can in
       let live : is_unfinished (the_thread.source).ending ≡ true = ap is_live_thread (sym there) ∙ parts.1 in (
         not_stopped stop (stops_not stop c.state.stop c.same_stop parts.0),
-        is_live t.ending (ap is_unfinished (sym the_thread.agrees.ending) ∙ live),
+        unfinished t.ending (ap is_unfinished (sym the_thread.agrees.ending) ∙ live),
         parts.2,
       )
 

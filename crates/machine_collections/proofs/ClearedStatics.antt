@@ -10,7 +10,8 @@ use Rattle.code_meaning.specs.Layout.{Slot, Known}
 use Rattle.code_meaning.specs.Slots.{Slots, Shows, ShowsSlot, ShowsStatic, is_empty, kind_of_variable, static_index, type_of_array, visible_to}
 use Rattle.semantics.specs.Reachable.{is_in}
 use Rattle.semantics.specs.Sight.{held_reference, holds_null, static_is_null}
-use Rattle.semantics.specs.Task.{VariableKind, ReferenceKind}
+use Rattle.semantics.specs.declared.variable_kind.VariableKind.{VariableKind}
+use Rattle.semantics.specs.declared.variable_kind.VariableKind.TheVariants as kinds
 use Rattle.semantics.specs.Thread as source
 use Rattle.semantics.specs.Thread.{Shared}
 use Rattle.semantics.specs.Variable.{Variable, Scalar, LocalRef, FieldHandle, MethodHandle, Elements, LocalArray, StaticReference, Empty, Live, Weakly, Cleared, Deleted, Statics}
@@ -112,7 +113,7 @@ module _ (own : Owners) (names : List ℕ) (shared : Shared) (s : source.Thread)
   slot_shown x slots slot types.Truth h = h
   slot_shown x slots slot types.Ref h = record {
     reference = h.reference;
-    is = hidden (lookup x s.variables) ReferenceKind (lookup x after.statics) (lookup x shared.statics) h.kind ∙ h.is;
+    is = hidden (lookup x s.variables) kinds.Reference (lookup x after.statics) (lookup x shared.statics) h.kind ∙ h.is;
     is_null = nulls x ∙ h.is_null;
     no_number = h.no_number;
     kind = h.kind;

@@ -2,8 +2,7 @@
 use Rattle.std.proofs.Common.{◌≡◌, ℕ, ◌+◌, ◌≤◌, List, length, drop, ap, ◌∙◌, length-append, arith, Some}
 use Rattle.std.specs.Prelude.{flat_map, slice_get}
 use Rattle.std.proofs.lemmas.List.Concat.{flat_map-cons}
-use Rattle.base.proofs.Lists.{drop_next}
-use Rattle.machine_collections.proofs.MovedRoots.{drop_past}
+use Rattle.base.proofs.Lists.{drop_next, drop_past}
 
 -- from a place on, by one element and those after it
 pub counted_next : {A B : Type 0} (f : A → List B) (xs : List A) (i : ℕ) (x : A) → slice_get xs i ≡ Some x → length (flat_map f (drop i xs)) ≡ length (f x) + length (flat_map f (drop (i + 1) xs))

@@ -3,14 +3,13 @@ use Rattle.std.proofs.Common.{◌≡◌, ℕ, zero, suc, ◌+◌, ◌≤◌, Boo
 use Rattle.std.specs.Prelude.{slice_get, unwrap_or}
 use Rattle.std.specs.Option.{option_map, option_to_list}
 use Rattle.std.proofs.lemmas.Bool.{false≢true}
-use Rattle.base.proofs.Lists.{drop_next}
+use Rattle.base.proofs.Lists.{drop_next, drop_past}
 use Rattle.heap.specs.Heap.{Block, Space, IsAddress, block_at, name_at}
 use Rattle.semantics.specs.declared.static_reference.StaticReference.TheVariants as static
 use Rattle.semantics.proofs.ReachableLemmas.{In, contains_in, in_append_cases, in_append_left, in_append_right, in_cases, in_head, to_contains}
 use Rattle.tables.specs.Keys.{value_at}
 use Rattle.machine_scenes.specs.Given.{object_there}
 use Rattle.machine_scenes.specs.Statics.{StaticReference}
-use Rattle.machine_collections.proofs.MovedRoots.{drop_past}
 use Rattle.machine_collections.specs.Clearing.{AreCleared, ListsNames, WasCleared, cleared_name, cleared_names, holds_cleared, is_gone, name_held, weak_name, weak_names}
 
 next_names : (names : List (Option ℕ)) (gone : List Bool) (i : ℕ) (n : Option ℕ) (g : Bool) → slice_get names i ≡ Some n → slice_get gone i ≡ Some g

@@ -5,7 +5,7 @@ use Rattle.std.specs.Option.{option_map}
 use Rattle.std.proofs.lemmas.List.{length-map}
 use Rattle.std.proofs.lemmas.List.Concat.{flat_map-cons}
 use Rattle.std.proofs.lemmas.Option.{slice_get_within}
-use Rattle.base.proofs.Lists.{drop_next, get_front, get_map}
+use Rattle.base.proofs.Lists.{drop_next, get_front, get_map, drop_past}
 use Rattle.tables.specs.References.{address_at}
 use Rattle.machine_threads.specs.declared.thread.Thread.{Thread}
 use Rattle.machine_scenes.specs.declared.store.Store.{Store}
@@ -195,12 +195,6 @@ still_there moved xs i x at = sym (front_get moved i xs) ∙ at
 -- ---- places that are gathered
 
 -- past the end there is nothing
-pub drop_past : {A : Type 0} (xs : List A) (i : ℕ) → length xs ≤ i → drop i xs ≡ []
-drop_past [] zero h = refl
-drop_past [] (suc i) h = refl
-drop_past (x ∷ xs) zero h = absurd (omega arith)
-drop_past (x ∷ xs) (suc i) h = drop_past xs i (omega (arith, h))
-
 -- one element more was pushed
 pub pushed_next : {A : Type 0} (done all whole pushed : List A) (i : ℕ) (x : A) → slice_get all i ≡ Some x → pushed ≡ done ++ x ∷ [] → done ++ drop i all ≡ whole → pushed ++ drop (i + 1) all ≡ whole
 pushed_next {A} done all whole pushed i x at push before =

@@ -14,7 +14,7 @@ use Rattle.semantics.specs.Arguments.{Actual, reference_given, variable_given}
 use Rattle.semantics.specs.CallEffects.{level_of}
 use Rattle.semantics.specs.CallStep.{trap_of_call, waits_with}
 use Rattle.semantics.specs.Effect.{Calls, Effect, effect_of}
-use Rattle.semantics.specs.Task.{Assigned, Declared, Dropped, Target, Task, Tested, MethodKind}
+use Rattle.semantics.specs.Task.{Assigned, Declared, Dropped, Target, Task, Tested}
 use Rattle.semantics.specs.Thread as source
 use Rattle.semantics.specs.Thread.{BuffersInUse, Shared, sight_of}
 use Rattle.semantics.specs.Variable.{LocalRef, Variable}
@@ -93,7 +93,8 @@ use Rattle.std.proofs.lemmas.Option.{slice_get_within}
 use Rattle.code_meaning.specs.Slots.{word_of}
 use Rattle.semantics.specs.CallStep.{element_type, target_element}
 use Rattle.semantics.specs.Effect.{NoEffect}
-use Rattle.semantics.specs.Task.{VariableKind, ScalarKind, ReferenceKind, FieldKind, BufferKind}
+use Rattle.semantics.specs.declared.variable_kind.VariableKind.{VariableKind}
+use Rattle.semantics.specs.declared.variable_kind.VariableKind.TheVariants as kinds
 use Rattle.semantics.specs.Variable as source_variable
 use Rattle.semantics.specs.Variable.{Scalar, FieldHandle, MethodHandle, Elements, LocalArray}
 use Rattle.semantics_safety.specs.StepSafe.{MayMeetView}
@@ -159,16 +160,16 @@ module _ (p : Lowered) (classes : Classes) (space : Space) (copies : List (Optio
   -- the target wants what the source's does
   element_there : (line : ℕ) (d : Destination) (kind : ResultKind) (target : Target) → TakesResult code r.known call.place call.stack (slots_of call r.meant) (visible_to own shared s) line d kind target rest → element_wanted d ≡ target_element s.variables target
   element_there line destination.Dropped kind target h = sym (ap (target_element s.variables) h.0)
-  element_there line (destination.Number i) kind (Declared declared x) h = declared_as x declared ScalarKind h.2.0
+  element_there line (destination.Number i) kind (Declared declared x) h = declared_as x declared kinds.Number h.2.0
   element_there line (destination.Number i) kind (Assigned x) h = sym (ap element_type (scalar_by_kind (lookup x s.variables) h.2.0).1)
   element_there line (destination.Number i) kind (Tested a b) h = absurd h.2
   element_there line (destination.Number i) kind Dropped h = absurd h.2
-  element_there line (destination.Local i) kind (Declared declared x) h = declared_as x declared ReferenceKind h.1.0
+  element_there line (destination.Local i) kind (Declared declared x) h = declared_as x declared kinds.Reference h.1.0
   element_there line (destination.Local i) kind (Assigned x) h = sym (ap element_type (local_by_kind (lookup x s.variables) h.1.0).2)
   element_there line (destination.Local i) kind (Tested a b) h = absurd h.1
   element_there line (destination.Local i) kind Dropped h = absurd h.1
-  element_there line (destination.FieldId i) kind (Declared declared x) h = declared_as x declared FieldKind h.1.0
-  element_there line (destination.MethodId i) kind (Declared declared x) h = declared_as x declared MethodKind h.1.0
+  element_there line (destination.FieldId i) kind (Declared declared x) h = declared_as x declared kinds.Field h.1.0
+  element_there line (destination.MethodId i) kind (Declared declared x) h = declared_as x declared kinds.Method h.1.0
   element_there line (destination.FieldId i) kind (Assigned x) h = sym (ap element_type (field_by_kind (lookup x s.variables) h.1.0).1)
   element_there line (destination.MethodId i) kind (Assigned x) h = sym (ap element_type (method_by_kind (lookup x s.variables) h.1.0).1)
   element_there line (destination.FieldId i) kind (Tested a b) h = absurd h.1
@@ -176,7 +177,7 @@ module _ (p : Lowered) (classes : Classes) (space : Space) (copies : List (Optio
   element_there line (destination.FieldId i) kind Dropped h = absurd h.1
   element_there line (destination.MethodId i) kind Dropped h = absurd h.1
   element_there line (destination.Static i) kind target h = sym (ap (target_element s.variables) h.1.1 ∙ no_elements (lookup h.1.0 s.variables) h.1.2.static.no_variable.kind)
-  element_there line (destination.Buffer element i) kind (Declared declared x) h = ap (λ (e : ElementType). element_wanted (destination.Buffer e i)) h.1.1 ∙ wanted_of h.1.0 i ∙ declared_as x declared (BufferKind h.1.0) h.1.2.0
+  element_there line (destination.Buffer element i) kind (Declared declared x) h = ap (λ (e : ElementType). element_wanted (destination.Buffer e i)) h.1.1 ∙ wanted_of h.1.0 i ∙ declared_as x declared (kinds.Buffer h.1.0) h.1.2.0
   element_there line (destination.Buffer element i) kind (Assigned x) h = ap (λ (e : ElementType). element_wanted (destination.Buffer e i)) h.1.1 ∙ wanted_of h.1.0 i ∙ sym (ap element_type (buffer_by_kind (lookup x s.variables) h.1.0 h.1.2.0).1)
   element_there line (destination.Buffer element i) kind (Tested a b) h = absurd h.1.2
   element_there line (destination.Buffer element i) kind Dropped h = absurd h.1.2

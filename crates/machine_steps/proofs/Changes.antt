@@ -15,7 +15,8 @@ use Rattle.semantics.specs.Thread.{Shared}
 use Rattle.semantics.specs.Value.{Value, Gives, Stuck, outcome_then, convert}
 use Rattle.semantics.specs.Variable as variable
 use Rattle.semantics.specs.Variable.{Variable, Scalar, LocalRef, FieldHandle, MethodHandle, Elements, LocalArray, NoBuffer, Empty, Variables, assign}
-use Rattle.semantics.specs.Task.{VariableKind, ScalarKind, ReferenceKind, FieldKind, BufferKind, MethodKind}
+use Rattle.semantics.specs.declared.variable_kind.VariableKind.{VariableKind}
+use Rattle.semantics.specs.declared.variable_kind.VariableKind.TheVariants as kinds
 use Rattle.semantics_safety.specs.Owners.{Owners}
 use Rattle.semantics_safety.proofs.NameLaws.{lookup_other, lookup_same}
 use Rattle.code_meaning.specs.Slots.{visible_to, type_of_array, kind_of_variable, held_buffer, OthersStay, IsSet, IsNulled, IsReferred, IsFieldSet, IsBufferSet, IsMade, IsElementSet, IsMethodSet}
@@ -45,7 +46,7 @@ array_of (Some (LocalArray t zs)) type h = (zs, ap (λ (u : ElementType). Some (
 array_of (Some v) type h = absurd (cc)
 
 -- a variable of a kind
-pub scalar_by_kind : (o : Option Variable) → kind_of_variable o ≡ Some ScalarKind → (v : Value) × (o ≡ Some (Scalar v))
+pub scalar_by_kind : (o : Option Variable) → kind_of_variable o ≡ Some kinds.Number → (v : Value) × (o ≡ Some (Scalar v))
 scalar_by_kind None h = absurd (cc)
 scalar_by_kind (Some (Scalar v)) h = (v, refl)
 scalar_by_kind (Some (LocalRef level r)) h = absurd (cc)
@@ -54,7 +55,7 @@ scalar_by_kind (Some (MethodHandle f)) h = absurd (cc)
 scalar_by_kind (Some (Elements t b)) h = absurd (cc)
 scalar_by_kind (Some (LocalArray t zs)) h = absurd (cc)
 
-pub local_by_kind : (o : Option Variable) → kind_of_variable o ≡ Some ReferenceKind → (level : ℕ) × (r : Reference) × (o ≡ Some (LocalRef level r))
+pub local_by_kind : (o : Option Variable) → kind_of_variable o ≡ Some kinds.Reference → (level : ℕ) × (r : Reference) × (o ≡ Some (LocalRef level r))
 local_by_kind None h = absurd (cc)
 local_by_kind (Some (Scalar v)) h = absurd (cc)
 local_by_kind (Some (LocalRef level r)) h = (level, r, refl)
@@ -63,7 +64,7 @@ local_by_kind (Some (MethodHandle f)) h = absurd (cc)
 local_by_kind (Some (Elements t b)) h = absurd (cc)
 local_by_kind (Some (LocalArray t zs)) h = absurd (cc)
 
-pub field_by_kind : (o : Option Variable) → kind_of_variable o ≡ Some FieldKind → (f : Option FieldId) × (o ≡ Some (FieldHandle f))
+pub field_by_kind : (o : Option Variable) → kind_of_variable o ≡ Some kinds.Field → (f : Option FieldId) × (o ≡ Some (FieldHandle f))
 field_by_kind None h = absurd (cc)
 field_by_kind (Some (Scalar v)) h = absurd (cc)
 field_by_kind (Some (LocalRef level r)) h = absurd (cc)
@@ -72,7 +73,7 @@ field_by_kind (Some (MethodHandle f)) h = absurd (cc)
 field_by_kind (Some (Elements t b)) h = absurd (cc)
 field_by_kind (Some (LocalArray t zs)) h = absurd (cc)
 
-pub method_by_kind : (o : Option Variable) → kind_of_variable o ≡ Some MethodKind → (m : Option MethodId) × (o ≡ Some (MethodHandle m))
+pub method_by_kind : (o : Option Variable) → kind_of_variable o ≡ Some kinds.Method → (m : Option MethodId) × (o ≡ Some (MethodHandle m))
 method_by_kind None h = absurd (cc)
 method_by_kind (Some (Scalar v)) h = absurd (cc)
 method_by_kind (Some (LocalRef level r)) h = absurd (cc)
@@ -81,7 +82,7 @@ method_by_kind (Some (MethodHandle m)) h = (m, refl)
 method_by_kind (Some (Elements t b)) h = absurd (cc)
 method_by_kind (Some (LocalArray t zs)) h = absurd (cc)
 
-pub buffer_by_kind : (o : Option Variable) (t : ElementType) → kind_of_variable o ≡ Some (BufferKind t) → (b : variable.Buffer) × (o ≡ Some (Elements t b))
+pub buffer_by_kind : (o : Option Variable) (t : ElementType) → kind_of_variable o ≡ Some (kinds.Buffer t) → (b : variable.Buffer) × (o ≡ Some (Elements t b))
 buffer_by_kind None t h = absurd (cc)
 buffer_by_kind (Some (Scalar v)) t h = absurd (cc)
 buffer_by_kind (Some (LocalRef level r)) t h = absurd (cc)

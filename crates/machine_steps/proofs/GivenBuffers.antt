@@ -25,7 +25,7 @@ use Rattle.semantics.specs.Answer.{Answer as SourceAnswer}
 use Rattle.semantics.specs.CallEffects.{CallResult, NoResult, NullResult, BufferResult}
 use Rattle.semantics.specs.CallStep.{tell_copy}
 use Rattle.semantics.specs.Heap.{numbers_of}
-use Rattle.semantics.specs.Task.{ScalarKind}
+use Rattle.semantics.specs.declared.variable_kind.VariableKind.TheVariants as kinds
 use Rattle.semantics.specs.Thread as source
 use Rattle.semantics.specs.Thread.{Shared}
 use Rattle.semantics.specs.Value.{Value, Flag}
@@ -56,7 +56,7 @@ use Rattle.machine_steps.proofs.Receives.{IsNoBuffer}
 
 -- ---- what is told
 
-assigned_kind : (y x : Identifier) (v : Value) (vs : Variables) → kind_of_variable (lookup y vs) ≡ Some ScalarKind → kind_of_variable (lookup x (assign y (Scalar v) vs)) ≡ kind_of_variable (lookup x vs)
+assigned_kind : (y x : Identifier) (v : Value) (vs : Variables) → kind_of_variable (lookup y vs) ≡ Some kinds.Number → kind_of_variable (lookup x (assign y (Scalar v) vs)) ≡ kind_of_variable (lookup x vs)
 assigned_kind y x v vs scalar = by_test (bytes_eq x y) refl
   where
     by_test : (b : Bool) → bytes_eq x y ≡ b → kind_of_variable (lookup x (assign y (Scalar v) vs)) ≡ kind_of_variable (lookup x vs)
@@ -66,7 +66,7 @@ assigned_kind y x v vs scalar = by_test (bytes_eq x y) refl
     by_test false e = ap kind_of_variable (lookup_other y x (Scalar v) vs (λ same. let clash : false ≡ true = sym e ∙ (bytes_eq-Decides x y).1 same in cc))
 
 -- variables are of the kinds that they were
-pub told_kind : (y : Option Identifier) (x : Identifier) (c : CallResult) (vs : Variables) → ((z : Identifier) → y ≡ Some z → kind_of_variable (lookup z vs) ≡ Some ScalarKind) → kind_of_variable (lookup x (tell_copy y c vs)) ≡ kind_of_variable (lookup x vs)
+pub told_kind : (y : Option Identifier) (x : Identifier) (c : CallResult) (vs : Variables) → ((z : Identifier) → y ≡ Some z → kind_of_variable (lookup z vs) ≡ Some kinds.Number) → kind_of_variable (lookup x (tell_copy y c vs)) ≡ kind_of_variable (lookup x vs)
 told_kind None x c vs h = refl
 told_kind (Some y) x (BufferResult (Copy n zs)) vs h = assigned_kind y x (Flag true) vs (h y refl)
 told_kind (Some y) x (BufferResult (View n)) vs h = assigned_kind y x (Flag false) vs (h y refl)
@@ -101,13 +101,13 @@ told_nothing (Some y) c vs h = refl
 -- the variable that a call tells, if it tells one, is a number
 module _ (code : Listing) (known : Known) (place : ℕ) (stack : List ℕ) (slots : Slots) (own : Owners) (shared : Shared) (s : source.Thread) (shows : Shows code known (visible_to own shared s) slots) where
   abbrev IsTellable : Option Identifier → Type 0
-  IsTellable y = (z : Identifier) → y ≡ Some z → kind_of_variable (lookup z s.variables) ≡ Some ScalarKind
+  IsTellable y = (z : Identifier) → y ≡ Some z → kind_of_variable (lookup z s.variables) ≡ Some kinds.Number
 
   one_told : (o : Operand) (a : Actual) → OperandFits IsCopy o → IsOperand code known place stack slots (visible_to own shared s) o a → IsTellable (address_in_actual (Some a))
   one_told (operand.IsCopy i) a kind h z is =
       let shown = shows.each h.0 (record { ty = types.Flag; index = i }) h.2 in
       let same : h.0 ≡ z = let both : Some h.0 ≡ Some z = sym (ap (λ (b : Actual). address_in_actual (Some b)) h.1) ∙ is in cc in
-      subst (λ (x : Identifier). kind_of_variable (lookup x s.variables) ≡ Some ScalarKind) same shown.kind
+      subst (λ (x : Identifier). kind_of_variable (lookup x s.variables) ≡ Some kinds.Number) same shown.kind
   one_told operand.Null a kind (inl h) z is = absurd (let clash : None ≡ Some z = sym (ap (λ (b : Actual). address_in_actual (Some b)) h.1) ∙ is in cc)
   one_told operand.Null a kind (inr (inl h)) z is = absurd (let clash : None ≡ Some z = sym (ap (λ (b : Actual). address_in_actual (Some b)) h) ∙ is in cc)
   one_told operand.Null a kind (inr (inr (inl h))) z is = absurd (let clash : None ≡ Some z = sym (ap (λ (b : Actual). address_in_actual (Some b)) h) ∙ is in cc)

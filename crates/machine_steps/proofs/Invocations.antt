@@ -26,7 +26,9 @@ use Rattle.semantics.specs.CallStep.{blank, filled, is_zero, put, put_assigned, 
 use Rattle.semantics.specs.Effect.{tasks_after}
 use Rattle.semantics.specs.Object.{Reference}
 use Rattle.semantics.specs.Term.{Done}
-use Rattle.semantics.specs.Task.{Task, Branch, Target, VariableKind, ScalarKind, ReferenceKind, FieldKind, BufferKind, Declared, Assigned, Tested, Dropped, MethodKind}
+use Rattle.semantics.specs.declared.variable_kind.VariableKind.{VariableKind}
+use Rattle.semantics.specs.declared.variable_kind.VariableKind.TheVariants as kinds
+use Rattle.semantics.specs.Task.{Task, Branch, Target, Declared, Assigned, Tested, Dropped}
 use Rattle.semantics.specs.Thread as source
 use Rattle.semantics.specs.declared.event.Event.TheVariants.{Quiet}
 use Rattle.semantics.specs.Thread.{Shared}
@@ -318,7 +320,7 @@ module _ (p : Lowered) (w : World) (old : Space) (old_copies : List (Option Owne
         (shown takes.names (visible_to own shared (resuming vs)) r.meant numbers
         (takes.shows n.value (visible_to own shared (resuming vs)) n.well_typed (is_set own own shared s (resuming vs) x (λ y other. refl) n.value refl)))
 
-  number_finishes : SameStatics → HasNoWord → (i : ℕ) (target : Target) → IsFree target → Receives (destination.Number i) kind None g carried after → (of : ExprType) → IsNumber g c of → GoesInto code r.known call.place call.stack held (visible_to own shared s) ScalarKind target (λ x. TakesNumber code r.known call.place call.stack held (visible_to own shared s) of i x rest) → Ends target
+  number_finishes : SameStatics → HasNoWord → (i : ℕ) (target : Target) → IsFree target → Receives (destination.Number i) kind None g carried after → (of : ExprType) → IsNumber g c of → GoesInto code r.known call.place call.stack held (visible_to own shared s) kinds.Number target (λ x. TakesNumber code r.known call.place call.stack held (visible_to own shared s) of i x rest) → Ends target
   number_finishes same_statics no_word i (Declared declared x) free receives of n goes = record {
     now = next;
     tasks = rest;
@@ -326,7 +328,7 @@ module _ (p : Lowered) (w : World) (old : Space) (old_copies : List (Option Owne
     keeps = keeps;
     views = plain_views (assign x (Scalar n.value) s.variables) receives.buffers (assigned_nothing x (Scalar n.value) s.variables refl refl (free x (is_same x)));
     variables = assign x (Scalar n.value) s.variables;
-    steps = declared_is line f args rest s left q c untold told next declared x (Scalar n.value) (ap (λ (k : VariableKind). filled (blank k (length (frames_received kind c left))) c) goes.0 ∙ ap (filled (blank ScalarKind 0)) n.gave);
+    steps = declared_is line f args rest s left q c untold told next declared x (Scalar n.value) (ap (λ (k : VariableKind). filled (blank k (length (frames_received kind c left))) c) goes.0 ∙ ap (filled (blank kinds.Number 0)) n.gave);
     stands = fewer_stands p w.classes space store.elements k after own (put_owners (Declared declared x) own (assign x (Scalar n.value) s.variables)) next (resuming (assign x (Scalar n.value) s.variables)) (frames_received kind c left) rest (fewer_put declared x (Scalar n.value) own s.variables refl) (number_stands no_word i receives of x goes.1 n);
   }
   number_finishes same_statics no_word i (Assigned x) free receives of n goes =
@@ -339,7 +341,7 @@ module _ (p : Lowered) (w : World) (old : Space) (old_copies : List (Option Owne
         views = plain_views (assign x (Scalar n.value) s.variables) receives.buffers (assigned_nothing x (Scalar n.value) s.variables refl refl (free x (is_same x)));
         variables = assign x (Scalar n.value) s.variables;
         steps = assigned_is line f args rest s left q c untold told next x (Scalar old.0) (Scalar n.value) old.1 (ap (filled (Scalar old.0)) n.gave);
-        stands = fewer_stands p w.classes space store.elements k after own (put_owners (Assigned x) own (assign x (Scalar n.value) s.variables)) next (resuming (assign x (Scalar n.value) s.variables)) (frames_received kind c left) rest (fewer_put ScalarKind x (Scalar n.value) own s.variables refl) (number_stands no_word i receives of x goes.1 n);
+        stands = fewer_stands p w.classes space store.elements k after own (put_owners (Assigned x) own (assign x (Scalar n.value) s.variables)) next (resuming (assign x (Scalar n.value) s.variables)) (frames_received kind c left) rest (fewer_put kinds.Number x (Scalar n.value) own s.variables refl) (number_stands no_word i receives of x goes.1 n);
       }
   number_finishes same_statics no_word i (Tested a b) free receives of n goes = absurd goes
   number_finishes same_statics no_word i Dropped free receives of n goes = absurd goes
@@ -372,7 +374,7 @@ module _ (p : Lowered) (w : World) (old : Space) (old_copies : List (Option Owne
   abbrev pub IsDeclaredThere : Target → Type 0
   IsDeclaredThere target = (x : Identifier) (level : ℕ) (old : Reference) → target ≡ Assigned x → lookup x s.variables ≡ Some (LocalRef level old) → level ≡ length left
 
-  reference_finishes : IsNoBuffer c → kind ≡ NewLocal → SameStatics → HasNoWord → (i : ℕ) (target : Target) → IsFree target → IsDeclaredThere target → Receives (destination.Local i) kind None g carried after → IsReference space g c → GoesInto code r.known call.place call.stack held (visible_to own shared s) ReferenceKind target (λ x. TakesReference code r.known call.place call.stack held (visible_to own shared s) i x rest) → Ends target
+  reference_finishes : IsNoBuffer c → kind ≡ NewLocal → SameStatics → HasNoWord → (i : ℕ) (target : Target) → IsFree target → IsDeclaredThere target → Receives (destination.Local i) kind None g carried after → IsReference space g c → GoesInto code r.known call.place call.stack held (visible_to own shared s) kinds.Reference target (λ x. TakesReference code r.known call.place call.stack held (visible_to own shared s) i x rest) → Ends target
   reference_finishes plain local same_statics no_word i (Declared declared x) free there receives n goes =
       let level = length (frames_received kind c left) in
       let counted : length locals.frames ≡ level = frames_count ∙ sym (received_count kind c left) in
@@ -397,7 +399,7 @@ module _ (p : Lowered) (w : World) (old : Space) (old_copies : List (Option Owne
         views = plain_views (assign x (LocalRef old.0 n.reference) s.variables) receives.buffers (assigned_nothing x (LocalRef old.0 n.reference) s.variables refl refl (free x (is_same x)));
         variables = assign x (LocalRef old.0 n.reference) s.variables;
         steps = assigned_is line f args rest s left q c untold told next x (LocalRef old.0 old.1) (LocalRef old.0 n.reference) old.2 (n.fills old.0 old.1);
-        stands = reference_stands no_word i receives x goes.1 n old.0 counted (put_owners (Assigned x) own (assign x (LocalRef old.0 n.reference) s.variables)) (others_put ReferenceKind x own (assign x (LocalRef old.0 n.reference) s.variables)) (put_here ReferenceKind x (LocalRef old.0 n.reference) own s.variables) local;
+        stands = reference_stands no_word i receives x goes.1 n old.0 counted (put_owners (Assigned x) own (assign x (LocalRef old.0 n.reference) s.variables)) (others_put kinds.Reference x own (assign x (LocalRef old.0 n.reference) s.variables)) (put_here kinds.Reference x (LocalRef old.0 n.reference) own s.variables) local;
       }
   reference_finishes plain local same_statics no_word i (Tested a b) free there receives n goes = absurd goes
   reference_finishes plain local same_statics no_word i Dropped free there receives n goes = absurd goes
@@ -420,7 +422,7 @@ module _ (p : Lowered) (w : World) (old : Space) (old_copies : List (Option Owne
         (shown takes.names (visible_to own shared (resuming vs)) meant receives.numbers
         (takes.shows n.field (visible_to own shared (resuming vs)) (is_field_set own own shared s (resuming vs) x (λ y other. refl) n.field refl)))
 
-  field_finishes : IsNoBuffer c → SameStatics → HasNoWord → (i : ℕ) (target : Target) → IsFree target → Receives (destination.FieldId i) kind None g carried after → IsField w.classes g c → GoesInto code r.known call.place call.stack held (visible_to own shared s) FieldKind target (λ x. TakesField code r.known call.place call.stack held (visible_to own shared s) i x rest) → Ends target
+  field_finishes : IsNoBuffer c → SameStatics → HasNoWord → (i : ℕ) (target : Target) → IsFree target → Receives (destination.FieldId i) kind None g carried after → IsField w.classes g c → GoesInto code r.known call.place call.stack held (visible_to own shared s) kinds.Field target (λ x. TakesField code r.known call.place call.stack held (visible_to own shared s) i x rest) → Ends target
   field_finishes plain same_statics no_word i (Declared declared x) free receives n goes = record {
     now = next;
     tasks = rest;
@@ -441,7 +443,7 @@ module _ (p : Lowered) (w : World) (old : Space) (old_copies : List (Option Owne
         views = plain_views (assign x (FieldHandle n.field) s.variables) receives.buffers (assigned_nothing x (FieldHandle n.field) s.variables refl refl (free x (is_same x)));
         variables = assign x (FieldHandle n.field) s.variables;
         steps = assigned_is line f args rest s left q c untold told next x (FieldHandle old.0) (FieldHandle n.field) old.1 (n.fills old.0);
-        stands = fewer_stands p w.classes space store.elements k after own (put_owners (Assigned x) own (assign x (FieldHandle n.field) s.variables)) next (resuming (assign x (FieldHandle n.field) s.variables)) (frames_received kind c left) rest (fewer_put FieldKind x (FieldHandle n.field) own s.variables refl) (field_stands no_word i receives x goes.1 n);
+        stands = fewer_stands p w.classes space store.elements k after own (put_owners (Assigned x) own (assign x (FieldHandle n.field) s.variables)) next (resuming (assign x (FieldHandle n.field) s.variables)) (frames_received kind c left) rest (fewer_put kinds.Field x (FieldHandle n.field) own s.variables refl) (field_stands no_word i receives x goes.1 n);
       }
   field_finishes plain same_statics no_word i (Tested a b) free receives n goes = absurd goes
   field_finishes plain same_statics no_word i Dropped free receives n goes = absurd goes
@@ -464,7 +466,7 @@ module _ (p : Lowered) (w : World) (old : Space) (old_copies : List (Option Owne
         (shown takes.names (visible_to own shared (resuming vs)) meant receives.numbers
         (takes.shows n.method (visible_to own shared (resuming vs)) (is_method_set own own shared s (resuming vs) x (λ y other. refl) n.method refl)))
 
-  method_finishes : IsNoBuffer c → SameStatics → HasNoWord → (i : ℕ) (target : Target) → IsFree target → Receives (destination.MethodId i) kind None g carried after → IsMethodId (unit_tree p.unit) w.classes g c → GoesInto code r.known call.place call.stack held (visible_to own shared s) MethodKind target (λ x. TakesMethod code r.known call.place call.stack held (visible_to own shared s) i x rest) → Ends target
+  method_finishes : IsNoBuffer c → SameStatics → HasNoWord → (i : ℕ) (target : Target) → IsFree target → Receives (destination.MethodId i) kind None g carried after → IsMethodId (unit_tree p.unit) w.classes g c → GoesInto code r.known call.place call.stack held (visible_to own shared s) kinds.Method target (λ x. TakesMethod code r.known call.place call.stack held (visible_to own shared s) i x rest) → Ends target
   method_finishes plain same_statics no_word i (Declared declared x) free receives n goes = record {
     now = next;
     tasks = rest;
@@ -485,7 +487,7 @@ module _ (p : Lowered) (w : World) (old : Space) (old_copies : List (Option Owne
         views = plain_views (assign x (MethodHandle n.method) s.variables) receives.buffers (assigned_nothing x (MethodHandle n.method) s.variables refl refl (free x (is_same x)));
         variables = assign x (MethodHandle n.method) s.variables;
         steps = assigned_is line f args rest s left q c untold told next x (MethodHandle old.0) (MethodHandle n.method) old.1 (n.fills old.0);
-        stands = fewer_stands p w.classes space store.elements k after own (put_owners (Assigned x) own (assign x (MethodHandle n.method) s.variables)) next (resuming (assign x (MethodHandle n.method) s.variables)) (frames_received kind c left) rest (fewer_put MethodKind x (MethodHandle n.method) own s.variables refl) (method_stands no_word i receives x goes.1 n);
+        stands = fewer_stands p w.classes space store.elements k after own (put_owners (Assigned x) own (assign x (MethodHandle n.method) s.variables)) next (resuming (assign x (MethodHandle n.method) s.variables)) (frames_received kind c left) rest (fewer_put kinds.Method x (MethodHandle n.method) own s.variables refl) (method_stands no_word i receives x goes.1 n);
       }
   method_finishes plain same_statics no_word i (Tested a b) free receives n goes = absurd goes
   method_finishes plain same_statics no_word i Dropped free receives n goes = absurd goes
@@ -580,7 +582,7 @@ module _ (p : Lowered) (w : World) (old : Space) (old_copies : List (Option Owne
         (subst (λ (a : Acquired). StoreAgrees p w store next (beside others (beside (taken_by untold) a))) n.takes shares))
 
   buffer_finishes : SameStatics → HasNoWord → (element : ElementType) (i : ℕ) (target : Target) → IsFree target → Receives (destination.Buffer element i) kind None g carried after → (t : ElementType) → IsBuffer store k g c
-      → GoesInto code r.known call.place call.stack held (visible_to own shared s) (BufferKind t) target (λ x. TakesBuffer code r.known call.place call.stack held (visible_to own shared s) t i x rest) → Ends target
+      → GoesInto code r.known call.place call.stack held (visible_to own shared s) (kinds.Buffer t) target (λ x. TakesBuffer code r.known call.place call.stack held (visible_to own shared s) t i x rest) → Ends target
   buffer_finishes same_statics no_word element i (Declared declared x) free receives t n goes = record {
     now = next;
     tasks = rest;
@@ -601,7 +603,7 @@ module _ (p : Lowered) (w : World) (old : Space) (old_copies : List (Option Owne
         views = buffer_views no_word element i receives t x goes.1 n (free x (is_same x));
         variables = assign x (Elements t n.buffer) s.variables;
         steps = assigned_is line f args rest s left q c untold told next x (Elements t old.0) (Elements t n.buffer) old.1 (n.fills t old.0);
-        stands = fewer_stands p w.classes space store.elements k after own (put_owners (Assigned x) own (assign x (Elements t n.buffer) s.variables)) next (resuming (assign x (Elements t n.buffer) s.variables)) (frames_received kind c left) rest (fewer_put (BufferKind t) x (Elements t n.buffer) own s.variables refl) (buffer_stands no_word element i receives t x goes.1 n);
+        stands = fewer_stands p w.classes space store.elements k after own (put_owners (Assigned x) own (assign x (Elements t n.buffer) s.variables)) next (resuming (assign x (Elements t n.buffer) s.variables)) (frames_received kind c left) rest (fewer_put (kinds.Buffer t) x (Elements t n.buffer) own s.variables refl) (buffer_stands no_word element i receives t x goes.1 n);
       }
   buffer_finishes same_statics no_word element i (Tested a b) free receives t n goes = absurd goes
   buffer_finishes same_statics no_word element i Dropped free receives t n goes = absurd goes

@@ -12,7 +12,9 @@ use Rattle.code.specs.declared.instr.NullableVariable.TheVariants as nullable
 use Rattle.semantics.specs.CallEffects.{NullResult}
 use Rattle.semantics.specs.CallStep.{filled, put, put_assigned}
 use Rattle.semantics.specs.Sight.{holds_null, static_is_null, held_reference, held_field, held_method, scalar}
-use Rattle.semantics.specs.Task.{VariableKind, Task, Target, ScalarKind, ReferenceKind, FieldKind, BufferKind, Declared, Assigned, Tested, Dropped, MethodKind}
+use Rattle.semantics.specs.declared.variable_kind.VariableKind.{VariableKind}
+use Rattle.semantics.specs.declared.variable_kind.VariableKind.TheVariants as kinds
+use Rattle.semantics.specs.Task.{Task, Target, Declared, Assigned, Tested, Dropped}
 use Rattle.semantics.specs.Thread as source
 use Rattle.semantics.specs.Thread.{Shared}
 use Rattle.semantics.specs.declared.event.Event.TheVariants.{Quiet}
@@ -120,19 +122,19 @@ module _ (own : Owners) (shared : Shared) (s : source.Thread) (rest : List Task)
   assigned_null : (x y : Identifier) (null : Bool) (o : Option Variable) → lookup y s.variables ≡ o → y ≡ x → holds_null o (lookup y shared.statics) ≡ Gives null → HoldsNoBuffer (lookup y s.variables) → PutsNull own shared s rest (Assigned y) x (kind_of_variable (lookup y s.variables))
   assigned_null x y null None found same h free = subst (λ (z : Identifier). PutsNull own shared s rest (Assigned y) z (kind_of_variable (lookup y s.variables))) same (subst (PutsNull own shared s rest (Assigned y) y) (sym (ap kind_of_variable found)) (nulled_static y found))
   assigned_null x y null (Some (Scalar v)) found same h free = absurd (cc)
-  assigned_null x y null (Some (LocalRef level q)) found same h free = nulled_variable x y (LocalRef level q) (LocalRef level None) ReferenceKind found same refl refl refl (λ o. refl) (λ o. refl) refl refl refl refl refl refl refl free
-  assigned_null x y null (Some (FieldHandle f)) found same h free = nulled_variable x y (FieldHandle f) (FieldHandle None) FieldKind found same refl refl refl (λ o. refl) (λ o. refl) refl refl refl refl refl refl refl free
-  assigned_null x y null (Some (MethodHandle f)) found same h free = nulled_variable x y (MethodHandle f) (MethodHandle None) MethodKind found same refl refl refl (λ o. refl) (λ o. refl) refl refl refl refl refl refl refl free
-  assigned_null x y null (Some (Elements t b)) found same h free = nulled_variable x y (Elements t b) (Elements t NoBuffer) (BufferKind t) found same refl refl refl (λ o. refl) (λ o. refl) refl refl refl refl refl refl refl free
+  assigned_null x y null (Some (LocalRef level q)) found same h free = nulled_variable x y (LocalRef level q) (LocalRef level None) kinds.Reference found same refl refl refl (λ o. refl) (λ o. refl) refl refl refl refl refl refl refl free
+  assigned_null x y null (Some (FieldHandle f)) found same h free = nulled_variable x y (FieldHandle f) (FieldHandle None) kinds.Field found same refl refl refl (λ o. refl) (λ o. refl) refl refl refl refl refl refl refl free
+  assigned_null x y null (Some (MethodHandle f)) found same h free = nulled_variable x y (MethodHandle f) (MethodHandle None) kinds.Method found same refl refl refl (λ o. refl) (λ o. refl) refl refl refl refl refl refl refl free
+  assigned_null x y null (Some (Elements t b)) found same h free = nulled_variable x y (Elements t b) (Elements t NoBuffer) (kinds.Buffer t) found same refl refl refl (λ o. refl) (λ o. refl) refl refl refl refl refl refl refl free
   assigned_null x y null (Some (LocalArray t zs)) found same h free = absurd (cc)
 
   -- NULL goes to a variable that can be NULL
   pub puts_null : (code : Listing) (known : Known) (place : ℕ) (stack : List ℕ) (slots : Slots) (target : Target) (x : Identifier) → target_name target ≡ Some x → CanBeNull code known place stack slots (visible_to own shared s) target → ((y : Identifier) → is_target target y ≡ true → HoldsNoBuffer (lookup y s.variables)) → PutsNull own shared s rest target x (kind_of_target code known place stack slots (visible_to own shared s) target)
-  puts_null code known place stack slots (Declared ScalarKind y) x is takes free = absurd takes
-  puts_null code known place stack slots (Declared ReferenceKind y) x is takes free = declared_null (Declared ReferenceKind y) x y ReferenceKind (LocalRef (length s.frames) None) refl (cc) refl (λ o. refl) (λ o. refl) refl refl refl refl refl refl refl (free y (is_same y))
-  puts_null code known place stack slots (Declared FieldKind y) x is takes free = declared_null (Declared FieldKind y) x y FieldKind (FieldHandle None) refl (cc) refl (λ o. refl) (λ o. refl) refl refl refl refl refl refl refl (free y (is_same y))
-  puts_null code known place stack slots (Declared MethodKind y) x is takes free = declared_null (Declared MethodKind y) x y MethodKind (MethodHandle None) refl (cc) refl (λ o. refl) (λ o. refl) refl refl refl refl refl refl refl (free y (is_same y))
-  puts_null code known place stack slots (Declared (BufferKind t) y) x is takes free = declared_null (Declared (BufferKind t) y) x y (BufferKind t) (Elements t NoBuffer) refl (cc) refl (λ o. refl) (λ o. refl) refl refl refl refl refl refl refl (free y (is_same y))
+  puts_null code known place stack slots (Declared kinds.Number y) x is takes free = absurd takes
+  puts_null code known place stack slots (Declared kinds.Reference y) x is takes free = declared_null (Declared kinds.Reference y) x y kinds.Reference (LocalRef (length s.frames) None) refl (cc) refl (λ o. refl) (λ o. refl) refl refl refl refl refl refl refl (free y (is_same y))
+  puts_null code known place stack slots (Declared kinds.Field y) x is takes free = declared_null (Declared kinds.Field y) x y kinds.Field (FieldHandle None) refl (cc) refl (λ o. refl) (λ o. refl) refl refl refl refl refl refl refl (free y (is_same y))
+  puts_null code known place stack slots (Declared kinds.Method y) x is takes free = declared_null (Declared kinds.Method y) x y kinds.Method (MethodHandle None) refl (cc) refl (λ o. refl) (λ o. refl) refl refl refl refl refl refl refl (free y (is_same y))
+  puts_null code known place stack slots (Declared (kinds.Buffer t) y) x is takes free = declared_null (Declared (kinds.Buffer t) y) x y (kinds.Buffer t) (Elements t NoBuffer) refl (cc) refl (λ o. refl) (λ o. refl) refl refl refl refl refl refl refl (free y (is_same y))
   puts_null code known place stack slots (Assigned y) x is takes free = assigned_null x y takes.0 (lookup y s.variables) refl (cc) takes.1 (free y (is_same y))
   puts_null code known place stack slots (Tested then' else') x is takes free = absurd takes
   puts_null code known place stack slots Dropped x is takes free = absurd takes

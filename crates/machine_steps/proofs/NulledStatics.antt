@@ -2,7 +2,7 @@
 use Rattle.std.proofs.Common.{inl, inr, ◌≡◌, ℕ, List, Option, Some, None, refl, sym, subst}
 use Rattle.std.specs.Global.{Vec}
 use Rattle.base.specs.Bytes.{Identifier}
-use Rattle.semantics.specs.Task.{VariableKind}
+use Rattle.semantics.specs.declared.variable_kind.VariableKind.{VariableKind}
 use Rattle.semantics.specs.Thread.{Shared}
 use Rattle.semantics.specs.Variable.{Empty, Statics}
 use Rattle.semantics.specs.World.{World}

@@ -1,14 +1,11 @@
 -- What the arguments of a call are that calls a method.
-use Rattle.std.proofs.Common.{◌≡◌, ◌≤◌, ◌-◌, Bool, true, false, List, [], ◌∷◌, ◌++◌, Option, Some, get_or, length, map, take, drop, refl, sym, ap, ◌∙◌, subst, arith}
-use Rattle.std.specs.Prelude.{◌&&◌, ◌==◌, if◌then◌else◌, zip}
+use Rattle.std.proofs.Common.{◌≡◌, ◌≤◌, ◌-◌, Bool, true, false, List, [], ◌∷◌, Option, Some, get_or, length, map, take, drop, refl, sym, ap, ◌∙◌, subst, arith}
+use Rattle.std.specs.Prelude.{◌&&◌, ◌==◌}
 use Rattle.std.proofs.lemmas.Simd.{map-map}
-use Rattle.std.proofs.lemmas.List.{map-append, take_all}
+use Rattle.std.proofs.lemmas.List.{take_all}
 use Rattle.base.specs.declared.element.ElementType.{ElementType}
 use Rattle.class_rules.specs.Class.{Classes}
 use Rattle.jni.specs.declared.function.JniFunction.{JniFunction}
-use Rattle.jni.specs.JniFunction.{calls_method, parameters_for, prototype}
-use Rattle.jni.specs.declared.kinds.ParameterKind.{ParameterKind}
-use Rattle.jni.specs.declared.kinds.ParameterKind.TheVariants.{Passed}
 use Rattle.syntax.specs.declared.unit.ResultType.{ResultType}
 use Rattle.syntax.specs.Tree.{Parameter}
 use Rattle.syntax.specs.Views.{parameter_tree}
@@ -21,25 +18,6 @@ use Rattle.semantics.specs.Method.{MethodId}
 use Rattle.replay_arguments.specs.Actuals.{actual_view}
 use Rattle.replay_arguments.specs.Sights.{is_wanted}
 use Rattle.replay_arguments.specs.declared.actual.Actual.{Actual as ActualInMemory}
-use Rattle.replay_terms.proofs.PassedLemmas.{arguments_parted, as_passed}
-
--- what comes of arguments that are passed
-of_passed : {B C : Type 0} (g : ParameterKind × B → C) (args : List B) → map g (map as_passed args) ≡ map (λ a. g (Passed, a)) args
-of_passed g [] = refl
-of_passed {C = C} g (a ∷ args) = ap (λ (l : List C). g (Passed, a) ∷ l) (of_passed g args)
-
-by_test : {B C : Type 0} (g : ParameterKind × B → C) (args : List B) (b : Bool)
-    → map g (if b then map as_passed args else []) ≡ (if b then map (λ a. g (Passed, a)) args else [])
-by_test g args true = of_passed g args
-by_test g args false = refl
-
--- what comes of all arguments comes of the function's own, and then of those that are passed
-pub of_all : {B C : Type 0} (g : ParameterKind × B → C) (f : JniFunction) (args : List B)
-    → map g (zip (parameters_for f (length args)) args) ≡ map g (zip (prototype f).parameters args) ++ (if calls_method f then map (λ a. g (Passed, a)) (drop 2 args) else [])
-of_all {C = C} g f args =
-    ap (map g) (arguments_parted f args)
-    ∙ map-append g (zip (prototype f).parameters args) (if calls_method f then map as_passed (drop 2 args) else [])
-    ∙ ap (λ (l : List C). map g (zip (prototype f).parameters args) ++ l) (by_test g (drop 2 args) (calls_method f))
 
 -- ---- what a method takes
 

@@ -23,12 +23,12 @@ use classes::fields::FieldId;
 use classes::table::ClassTable;
 use jni::JniFunction;
 use replay_arguments::Shared;
-use replay_tasks::{Invocation, Purpose, Target, Task, VariableKind};
+use replay_tasks::{Invocation, Purpose, Target, Task};
 use replay_terms::{
     Content, Operands, StaticReference, Term, Value, Variables, convert, held_number,
     held_reference,
 };
-use semantics::{ObjectId, ObjectValue};
+use semantics::{ObjectId, ObjectValue, VariableKind};
 use std::alloc::{AllocError, Global};
 use syntax::{Argument, ElementType, Name, Shape};
 

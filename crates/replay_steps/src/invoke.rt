@@ -24,12 +24,12 @@ use replay_arguments::actual::{Actual, actuals, address_given};
 use replay_arguments::{Locals, Scene, Shared, Turn};
 use replay_calls::carry_out::{Done, carry_out, makes_object, put_local, refuse};
 use replay_calls::{Answer, Caller, answer_or_trap, tell_copy};
-use replay_tasks::{Invocation, Outcome, Purpose, Target, VariableKind, reduced};
+use replay_tasks::{Invocation, Outcome, Purpose, Target, reduced};
 use replay_terms::{
     Evaluated, Given, Lent, Operand, Operands, Reduction, Term, Variables, is_zero, number_in,
     reduce,
 };
-use semantics::ObjectId;
+use semantics::{ObjectId, VariableKind};
 use std::alloc::AllocError;
 use syntax::ElementType;
 

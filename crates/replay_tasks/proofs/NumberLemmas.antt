@@ -3,6 +3,7 @@ use Rattle.std.proofs.Common.{◌≡◌, ◌+◌, Bool, true, false, List, [], �
 use Rattle.std.specs.Prelude.{◌&&◌, zip}
 use Rattle.std.specs.List.{list_all}
 use Rattle.std.proofs.lemmas.List.{length-map, map-append}
+use Rattle.std.proofs.lemmas.Bool.{and_parts}
 use Rattle.jni.specs.declared.function.JniFunction.{JniFunction}
 use Rattle.jni.specs.JniFunction.{parameters_for}
 use Rattle.jni.specs.declared.kinds.ParameterKind.{ParameterKind}
@@ -19,10 +20,6 @@ use Rattle.replay_tasks.specs.Tasks.{ArgumentsInRange, ExprInRange}
 use Rattle.replay_tasks.specs.declared.call.Numbers.TheVariants as numbers
 use Rattle.replay_tasks.proofs.RangeLemmas.{argument_parts}
 
-both_true : (a b : Bool) → (a && b) ≡ true → (a ≡ true) × (b ≡ true)
-both_true true b h = (refl, h)
-both_true false b h = absurd (cc)
-
 operand_looked_up : (p : ParameterKind) (a : Argument) → is_looked_up p ≡ true → operand (p, a) ≡ Given a
 operand_looked_up IntNumber a h = absurd (cc)
 operand_looked_up Passed a h = absurd (cc)
@@ -33,7 +30,7 @@ all_looked_up [] [] long all = refl
 all_looked_up [] (a ∷ args) long all = absurd (omega (arith, long))
 all_looked_up (p ∷ ps) [] long all = absurd (omega (arith, long))
 all_looked_up (p ∷ ps) (a ∷ args) long all =
-    let parts = both_true (is_looked_up p) (list_all is_looked_up ps) all in
+    let parts = and_parts (is_looked_up p) (list_all is_looked_up ps) all in
     ap (λ (o : Operand). o ∷ map operand (zip ps (map argument_tree args))) (operand_looked_up p (argument_tree a) parts.0)
     ∙ ap (λ (l : List Operand). looked_up a ∷ l) (all_looked_up ps args (omega (arith, long)) parts.1)
 
@@ -70,5 +67,5 @@ last_are f args before e h ends =
 
 -- the last is in range
 pub last_in_range : (xs : List Argument) (e : Expr) → ArgumentsInRange (xs ++ Value e ∷ []) → ExprInRange e
-last_in_range [] e h = (both_true (numbers_in_range e) true (argument_parts (Value e) [] h).0).0
+last_in_range [] e h = (and_parts (numbers_in_range e) true (argument_parts (Value e) [] h).0).0
 last_in_range (x ∷ xs) e h = last_in_range xs e (argument_parts x (xs ++ Value e ∷ []) h).1

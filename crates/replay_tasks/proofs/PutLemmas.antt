@@ -7,7 +7,8 @@ use Rattle.semantics.specs.CallEffects.{CallResult}
 use Rattle.semantics.specs.CallStep.{blank, filled, static_result, put_assigned, put}
 use Rattle.semantics.specs.Heap.{Heap, with_value_at}
 use Rattle.semantics.specs.Object.{Number}
-use Rattle.semantics.specs.Task.{VariableKind, Declared, Assigned}
+use Rattle.semantics.specs.declared.variable_kind.VariableKind.{VariableKind}
+use Rattle.semantics.specs.Task.{Declared, Assigned}
 use Rattle.semantics.specs.Thread.{Thread, Shared, Advance, Advances, NoAdvance}
 use Rattle.semantics.specs.declared.event.Event.TheVariants.{Quiet}
 use Rattle.semantics.specs.ThreadStep.{set_variable, set_element}

@@ -9,7 +9,9 @@ use Rattle.base.specs.declared.element.ElementType.{ElementType}
 use Rattle.semantics.specs.CallEffects.{CallResult, NoResult, BufferResult, NullResult, ReferenceResult, ScalarResult}
 use Rattle.semantics.specs.CallStep.{put, is_zero}
 use Rattle.semantics.specs.Heap.{Heap}
-use Rattle.semantics.specs.Task.{VariableKind, ScalarKind, ReferenceKind, FieldKind, MethodKind, BufferKind, Target, Declared, Assigned, Tested, Dropped}
+use Rattle.semantics.specs.declared.variable_kind.VariableKind.{VariableKind}
+use Rattle.semantics.specs.declared.variable_kind.VariableKind.TheVariants as kinds
+use Rattle.semantics.specs.Task.{Target, Declared, Assigned, Tested, Dropped}
 use Rattle.semantics.specs.Thread.{Thread, Shared, Advance, Advances, NoAdvance}
 use Rattle.semantics.specs.declared.event.Event.TheVariants.{Quiet}
 use Rattle.semantics.specs.ThreadStep.{set_variable, set_element}
@@ -24,19 +26,10 @@ use Rattle.replay_tasks.specs.declared.outcome.Target.TheVariants as target
 use Rattle.replay_terms.specs.declared.given.Given.{Given}
 use Rattle.replay_tasks.specs.declared.outcome.Purpose.{Purpose as PurposeInMemory}
 use Rattle.replay_tasks.specs.declared.outcome.Purpose.TheVariants as purpose
-use Rattle.replay_tasks.specs.declared.outcome.VariableKind.{VariableKind as KindInMemory}
-use Rattle.replay_tasks.specs.declared.outcome.VariableKind.TheVariants as kind
 use Rattle.replay_terms.specs.Views.{given_view, lent_view, Contents, value_view, variables_view}
 
-abbrev pub kind_view : KindInMemory → VariableKind
-kind_view kind.Number = ScalarKind
-kind_view kind.Reference = ReferenceKind
-kind_view kind.Field = FieldKind
-kind_view kind.Method = MethodKind
-kind_view (kind.Buffer T) = BufferKind T
-
 abbrev pub target_view : TargetInMemory → Target
-target_view (target.Declared kind x) = Declared (kind_view kind) x.now
+target_view (target.Declared kind x) = Declared kind x.now
 target_view (target.Assigned x) = Assigned x.now
 target_view target.Dropped = Dropped
 

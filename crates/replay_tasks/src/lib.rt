@@ -9,7 +9,7 @@ mod statements;
 mod step;
 mod task;
 
-pub use outcome::{CallResult, End, Outcome, Purpose, Target, VariableKind};
+pub use outcome::{CallResult, End, Outcome, Purpose, Target};
 pub use put::{put_given, set_variables};
 pub use statements::Statements;
 pub use step::{plain_step, reduced};

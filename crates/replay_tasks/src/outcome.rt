@@ -2,21 +2,10 @@
 
 ghost use Rattle.std.specs.Prelude.{◌≡◌};
 ghost use Rattle.semantics.specs.Task.{kind_of, variable_kind};
-ghost use Rattle.replay_tasks.specs.Outcomes.{kind_view};
 
 use replay_terms::{Given, Lent, Value};
-use semantics::{ObjectId, Trap};
+use semantics::{ObjectId, Trap, VariableKind};
 use syntax::{Block, DeclaredType, ElementType, Expr, Name, VariableType};
-
-/// What a declaration makes.
-#[derive(Clone, Copy)]
-pub enum VariableKind {
-    Number,
-    Reference,
-    Field,
-    Method,
-    Buffer(ElementType),
-}
 
 /// Where the result of a call or NULL goes.
 #[derive(Clone, Copy)]
@@ -115,7 +104,7 @@ pub enum Outcome<'a> {
 
 /// What a declaration of this type makes.
 pub(crate) fn kind_of(t: DeclaredType) -> VariableKind
-    ensures { kind_view result ≡ kind_of t }
+    ensures { result ≡ kind_of t }
 {
     match t {
         DeclaredType::Simple(t) => variable_kind(t),
@@ -126,7 +115,7 @@ pub(crate) fn kind_of(t: DeclaredType) -> VariableKind
 
 /// The same of a type that is a name alone.
 fn variable_kind(t: VariableType) -> VariableKind
-    ensures { kind_view result ≡ variable_kind t }
+    ensures { result ≡ variable_kind t }
 {
     match t {
         VariableType::Uint32 | VariableType::Jint => VariableKind::Number,

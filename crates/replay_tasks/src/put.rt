@@ -7,20 +7,20 @@ ghost use Rattle.semantics.specs.Heap.{Heap};
 ghost use Rattle.semantics.specs.Variable.{Buffer, Elements, LocalArray, Statics as StaticsOfUnit, assign};
 ghost use Rattle.replay_tasks.specs.declared.outcome.Outcome.TheVariants as outcome;
 ghost use Rattle.replay_terms.specs.Views.{given_view, content_view, lent_view, variables_view};
-ghost use Rattle.replay_tasks.specs.Outcomes.{kind_view, target_view, variable_step, IsBuffer, LeavesVariables, LeavesIf};
+ghost use Rattle.replay_tasks.specs.Outcomes.{target_view, variable_step, IsBuffer, LeavesVariables, LeavesIf};
 
-use crate::outcome::{Outcome, Target, VariableKind};
+use crate::outcome::{Outcome, Target};
 use replay_objects::Store;
 use replay_terms::{
     Content, Given, Lent, StaticReference, Statics, Value, Variables, Written, static_result, zeros,
 };
-use semantics::{Level, ObjectValue};
+use semantics::{Level, ObjectValue, VariableKind};
 use std::alloc::{AllocError, Global};
 use syntax::{ElementType, Name};
 
 /// A variable as its declaration makes it, where there are this many frames.
 fn blank<'a>(kind: VariableKind, frames: usize) -> Content<'a>
-    ensures { content_view result ≡ blank (kind_view kind) frames }
+    ensures { content_view result ≡ blank kind frames }
 {
     match kind {
         VariableKind::Number => Content::Number(Value::Int(0)),
@@ -85,7 +85,7 @@ fn declare<'a>(
     given: Given<'a>,
 ) -> Result<(), AllocError>
     ensures { IfOk result (λ _. variables_view variables.new
-        ≡ assign name.entry.now (filled (blank (kind_view kind) frames) (given_view given.entry))
+        ≡ assign name.entry.now (filled (blank kind frames) (given_view given.entry))
         (variables_view variables.old)) }
 {
     match (kind, given) {
@@ -112,7 +112,7 @@ fn declare_other<'a>(
     given: Given<'a>,
 ) -> Result<(), AllocError>
     ensures { IfOk result (λ _. variables_view variables.new
-        ≡ assign name.entry.now (filled (blank (kind_view kind) frames) (given_view given.entry))
+        ≡ assign name.entry.now (filled (blank kind frames) (given_view given.entry))
         (variables_view variables.old)) }
 {
     let content = blank(kind, frames);
@@ -196,7 +196,7 @@ fn declared<'a>(
     kind: VariableKind,
     buffer: Lent,
 ) -> Result<Content<'a>, AllocError>
-    ensures { IfOk result (λ c. content_view c ≡ filled (blank (kind_view kind) frames) (BufferResult (lent_view store.now buffer))) }
+    ensures { IfOk result (λ c. content_view c ≡ filled (blank kind frames) (BufferResult (lent_view store.now buffer))) }
 {
     match kind {
         VariableKind::Buffer(element) => lent(alloc, store, element, buffer),

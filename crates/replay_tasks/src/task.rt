@@ -6,13 +6,14 @@ ghost use Rattle.syntax.specs.Shapes.{ref_tree};
 ghost use Rattle.syntax.specs.Tree.{Plain};
 ghost use Rattle.semantics.specs.Task.{Declared, Loop, Print, ReturnValue, SetElement, set_task, right_side_task, if_task, plain_task, task_of};
 ghost use Rattle.semantics.specs.Term.{term_of};
-ghost use Rattle.replay_tasks.specs.Outcomes.{else_tree, kind_view, target_view};
+ghost use Rattle.replay_tasks.specs.Outcomes.{else_tree, target_view};
 ghost use Rattle.replay_tasks.specs.Tasks.{ExprInRange, RightSideInRange, TestInRange, BlockInRange, ElseInRange, StatementInRange, has_numbers_in_range, calls_known, Begins, BegunInRange};
 
 use crate::call::call_task;
-use crate::outcome::{Purpose, Target, VariableKind, kind_of};
+use crate::outcome::{Purpose, Target, kind_of};
 use jni::JniFunction;
 use replay_terms::{Operands, Term, term_of};
+use semantics::VariableKind;
 use std::alloc::{AllocError, Global};
 use syntax::{
     Block, Constant, ElementType, Else, Expr, ExprRef, Form, Name, PlainStmt, RightSide, Shape,
@@ -299,7 +300,7 @@ fn declaration<'a>(
     requires none { place.old ≡ None }
     requires numbers { RightSideInRange (right_side_tree right.now) }
     ensures view { IfOk result (λ _. Begins (right_side_task line
-        (Declared (kind_view kind) name.entry.now) name.entry.now (right_side_tree right.entry.now)) place.new) }
+        (Declared kind name.entry.now) name.entry.now (right_side_tree right.entry.now)) place.new) }
     ensures range { IfOk result (λ _. BegunInRange place.new) }
 {
     set_task(

@@ -1,6 +1,7 @@
 -- The arguments of a call with their parameters: what a method is given comes after the function's own.
 use Rattle.std.proofs.Common.{◌≡◌, ◌-◌, Bool, true, false, List, [], ◌∷◌, ◌++◌, length, map, drop, refl, sym, ap, ◌∙◌, append-nil, arith}
 use Rattle.std.specs.Prelude.{if◌then◌else◌, replicate, zip}
+use Rattle.std.proofs.lemmas.List.{map-append}
 use Rattle.jni.specs.declared.function.JniFunction.{JniFunction}
 use Rattle.jni.specs.JniFunction.{calls_method, parameters_for, prototype}
 use Rattle.jni.specs.declared.kinds.ParameterKind.{ParameterKind}
@@ -36,3 +37,21 @@ parted {A = A} own args false two = ap (λ (ps : List ParameterKind). zip ps arg
 -- a function's own arguments, and then what a method is given
 pub arguments_parted : {A : Type 0} (f : JniFunction) (args : List A) → zip (parameters_for f (length args)) args ≡ zip (prototype f).parameters args ++ (if calls_method f then map as_passed (drop 2 args) else [])
 arguments_parted {A = A} f args = parted (prototype f).parameters args (calls_method f) (own_are_two f)
+
+-- what comes of arguments that are passed
+of_passed : {B C : Type 0} (g : ParameterKind × B → C) (args : List B) → map g (map as_passed args) ≡ map (λ a. g (Passed, a)) args
+of_passed g [] = refl
+of_passed {C = C} g (a ∷ args) = ap (λ (l : List C). g (Passed, a) ∷ l) (of_passed g args)
+
+by_test : {B C : Type 0} (g : ParameterKind × B → C) (args : List B) (b : Bool)
+    → map g (if b then map as_passed args else []) ≡ (if b then map (λ a. g (Passed, a)) args else [])
+by_test g args true = of_passed g args
+by_test g args false = refl
+
+-- what comes of all arguments comes of the function's own, and then of those that are passed
+pub of_all : {B C : Type 0} (g : ParameterKind × B → C) (f : JniFunction) (args : List B)
+    → map g (zip (parameters_for f (length args)) args) ≡ map g (zip (prototype f).parameters args) ++ (if calls_method f then map (λ a. g (Passed, a)) (drop 2 args) else [])
+of_all {C = C} g f args =
+    ap (map g) (arguments_parted f args)
+    ∙ map-append g (zip (prototype f).parameters args) (if calls_method f then map as_passed (drop 2 args) else [])
+    ∙ ap (λ (l : List C). map g (zip (prototype f).parameters args) ++ l) (by_test g (drop 2 args) (calls_method f))

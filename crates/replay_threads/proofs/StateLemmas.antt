@@ -25,6 +25,7 @@ use Rattle.report.specs.declared.thread_status.ThreadStatus.{ThreadStatus}
 use Rattle.semantics.specs.ReportOf.{report, standing_at, standing_of}
 use Rattle.replay_arguments.specs.Shares.{shared_view}
 use Rattle.semantics.specs.State.{State, thread_at, set_thread, copied, in_use, with_event, advanced}
+use Rattle.semantics.proofs.Endings.{unfinished}
 use Rattle.semantics.specs.Step.{turn_step, can_step, step_of, is_blocked, is_live, is_unfinished, is_waiting}
 use Rattle.jni.specs.declared.function.JniFunction.TheVariants.{MonitorEnter}
 use Rattle.semantics.specs.CallStep.{trap_of_call, waits_with}
@@ -183,11 +184,6 @@ middle_fails true true c e = absurd (cc)
 middle_fails true false c e = refl
 middle_fails false b c e = refl
 
-is_live_so : (e : Ending) → is_unfinished e ≡ true → e ≡ Unfinished
-is_live_so Unfinished h = refl
-is_live_so Ended h = absurd (cc)
-is_live_so (Uncaught c) h = absurd (cc)
-
 module _ (unit : SourceUnit) (w : World) (m : StateInMemory) (s : State) (h : Stands unit w m s) (range : AreInRange m.threads.items) where
   stop_is : (o : Option StopInMemory) → is_some o ≡ true → is_none (option_map stop_view o) ≡ false
   stop_is None e = absurd (cc)
@@ -267,7 +263,7 @@ module _ (unit : SourceUnit) (w : World) (m : StateInMemory) (s : State) (h : St
     the_thread = found unit w.classes m.threads.items s.threads i t h.threads at
 
     unended : the_thread.source.ending ≡ Unfinished
-    unended = the_thread.stands.ending ∙ is_live_so t.ending live
+    unended = the_thread.stands.ending ∙ unfinished t.ending live
 
     steps_here : Steps w.classes s (suc i) the_thread.source
     steps_here = steps w.classes s (suc i) the_thread.source (h.stop ∙ not_stopped m.stop runs) the_thread.is unended (sym (ap (is_waiting w.classes (suc i) s.shared) the_thread.is) ∙ free)

@@ -17,3 +17,4 @@ pub mod ClearedSteps
 pub mod CheckLaws
 pub mod ClearedMade
 pub mod BegunArrays
+pub mod Endings

@@ -20,7 +20,9 @@ use Rattle.semantics.specs.Arguments.{Actual, address_given, object_given}
 use Rattle.semantics.specs.CallEffects.{CallResult, NoResult, NullResult, ScalarResult, ReferenceResult, WeakResult, FieldResult, MethodResult, BufferResult, CallEffect, Throws, Leaves, out_of_memory, with_local, Halts, Enters}
 use Rattle.semantics.specs.Effect.{Effect, Calls, tasks_after}
 use Rattle.semantics.specs.Heap.{next_name}
-use Rattle.semantics.specs.Task.{Task, VariableKind, ScalarKind, ReferenceKind, FieldKind, MethodKind, BufferKind, Target, Declared, Assigned}
+use Rattle.semantics.specs.declared.variable_kind.VariableKind.{VariableKind}
+use Rattle.semantics.specs.declared.variable_kind.VariableKind.TheVariants as kinds
+use Rattle.semantics.specs.Task.{Task, Target, Declared, Assigned}
 use Rattle.semantics.specs.declared.event.Event.TheVariants.{Quiet, Trapped}
 use Rattle.semantics.specs.Thread.{Thread, Monitor, Shared, BuffersInUse, Advance, Advances, NoAdvance, monitor_of}
 use Rattle.semantics.specs.declared.trap.Trap.{Trap}
@@ -31,11 +33,11 @@ use Rattle.semantics.specs.Variable.{Variable, Scalar, LocalRef, FieldHandle, Me
 
 -- a variable as its declaration makes it, at a number of frames
 abbrev pub blank : VariableKind → ℕ → Variable
-blank ScalarKind frames = Scalar (Int (pos 0))
-blank ReferenceKind frames = LocalRef frames None
-blank FieldKind frames = FieldHandle None
-blank MethodKind frames = MethodHandle None
-blank (BufferKind T) frames = Elements T NoBuffer
+blank kinds.Number frames = Scalar (Int (pos 0))
+blank kinds.Reference frames = LocalRef frames None
+blank kinds.Field frames = FieldHandle None
+blank kinds.Method frames = MethodHandle None
+blank (kinds.Buffer T) frames = Elements T NoBuffer
 
 -- a variable with what a call gave
 abbrev pub filled : Variable → CallResult → Variable
@@ -102,7 +104,7 @@ element_type v = JInt
 
 -- the same, of a declaration or an assignment
 abbrev pub target_element : Variables → Target → ElementType
-target_element vs (Declared (BufferKind T) x) = T
+target_element vs (Declared (kinds.Buffer T) x) = T
 target_element vs (Assigned x) = element_type (lookup x vs)
 target_element vs target = JInt
 

@@ -15,12 +15,9 @@ use Rattle.jni.specs.declared.function.JniFunction.{JniFunction}
 use Rattle.jni.specs.JniFunction.{function_named, parameters_for}
 use Rattle.jni.specs.declared.kinds.ParameterKind.{ParameterKind}
 use Rattle.jni.specs.declared.kinds.ParameterKind.TheVariants.{IntNumber, Passed}
+use Rattle.semantics.specs.declared.variable_kind.VariableKind.{VariableKind}
+use Rattle.semantics.specs.declared.variable_kind.VariableKind.TheVariants as kinds
 use Rattle.semantics.specs.Term.{Term, term_of}
-
--- what a declaration makes
-pub data VariableKind : Type 0 where
-  ScalarKind ReferenceKind FieldKind MethodKind : VariableKind
-  BufferKind : ElementType → VariableKind
 
 -- where the result of a call or a NULL goes: a new variable, one that is there or a static, the test of an `if`
 -- (whether it is 0), or nowhere
@@ -78,16 +75,16 @@ call_task line target call = invocation line target call (function_named call.fu
 
 -- what `type name = ..` makes
 abbrev pub variable_kind : VariableType → VariableKind
-variable_kind (variables.Reference type) = ReferenceKind
-variable_kind JFieldId = FieldKind
-variable_kind JMethodId = MethodKind
-variable_kind type = ScalarKind
+variable_kind (variables.Reference type) = kinds.Reference
+variable_kind JFieldId = kinds.Field
+variable_kind JMethodId = kinds.Method
+variable_kind type = kinds.Number
 
 -- what a declaration makes that is of no local array
 abbrev pub kind_of : DeclaredType → VariableKind
 kind_of (Simple type) = variable_kind type
-kind_of (Pointer type) = BufferKind type
-kind_of ConstChars = BufferKind JChar
+kind_of (Pointer type) = kinds.Buffer type
+kind_of ConstChars = kinds.Buffer JChar
 
 -- a value for a variable: NULL, or a number that is worked out first
 abbrev pub set_task : ℕ → Target → Identifier → Expr → Task

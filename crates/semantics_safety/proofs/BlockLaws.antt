@@ -12,7 +12,9 @@ use Rattle.type_rules.specs.ExprTypes.{type_in}
 use Rattle.type_rules.specs.declared.ty.ExprType.TheVariants as types
 use Rattle.region_rules.specs.RegionStates.{get_of}
 use Rattle.semantics.specs.Task as task
-use Rattle.semantics.specs.Task.{Task, SetScalar, SetElement, SetNull, MakeArray, Invoke, Print, Target, Declared, Assigned, Tested, Dropped, VariableKind, ScalarKind, ReferenceKind, FieldKind, MethodKind, BufferKind, invocation, task_of, tasks_of}
+use Rattle.semantics.specs.declared.variable_kind.VariableKind.{VariableKind}
+use Rattle.semantics.specs.declared.variable_kind.VariableKind.TheVariants as kinds
+use Rattle.semantics.specs.Task.{Task, SetScalar, SetElement, SetNull, MakeArray, Invoke, Print, Target, Declared, Assigned, Tested, Dropped, invocation, task_of, tasks_of}
 use Rattle.semantics.specs.Term.{Term, term_of}
 use Rattle.semantics_safety.specs.Points.{Point}
 use Rattle.semantics_safety.specs.Wanted.{Outside, DeclaresNull, AssignsNull, SetsNullThere, DeclaresResult, AssignsResult, ResultGoes, call_seen, RunsPlain, RunsPush, RunsTest, RunsBlock, RunsStmt, RunsElse, Runs, GoesOn}
@@ -28,11 +30,11 @@ outside_more : (k l : Point → Type 0) → k ⇒ l → Outside k ⇒ Outside l
 outside_more k l h p r = (r.0, r.1, h r.0 r.2)
 
 null_declared_more : (k l : Point → Type 0) → k ⇒ l → (p : Point) (kind : VariableKind) (x : Identifier) → DeclaresNull p kind x k → DeclaresNull p kind x l
-null_declared_more k l h p ScalarKind x r = r
-null_declared_more k l h p ReferenceKind x r = (r.0, h _ r.1)
-null_declared_more k l h p FieldKind x r = (r.0, h _ r.1)
-null_declared_more k l h p MethodKind x r = (r.0, h _ r.1)
-null_declared_more k l h p (BufferKind t) x r = (r.0, (r.1.0, h _ r.1.1))
+null_declared_more k l h p kinds.Number x r = r
+null_declared_more k l h p kinds.Reference x r = (r.0, h _ r.1)
+null_declared_more k l h p kinds.Field x r = (r.0, h _ r.1)
+null_declared_more k l h p kinds.Method x r = (r.0, h _ r.1)
+null_declared_more k l h p (kinds.Buffer t) x r = (r.0, (r.1.0, h _ r.1.1))
 
 null_assigned_more : (k l : Point → Type 0) → k ⇒ l → (p : Point) (s : Option ExprType) (x : Identifier) → AssignsNull p s x k → AssignsNull p s x l
 null_assigned_more k l h p (Some types.Ref) x r = (r.0, h _ r.1)
@@ -43,12 +45,12 @@ null_assigned_more k l h p (Some types.MethodId) x r = h p r
 null_assigned_more k l h p s x r = absurd r
 
 result_declared_more : (k l : Point → Type 0) → k ⇒ l → (p : Point) (kind : VariableKind) (x : Identifier) (result : ResultKind) (get : Option (Access × Option Identifier)) → DeclaresResult p kind x result get k → DeclaresResult p kind x result get l
-result_declared_more k l h p ScalarKind x GivesInt get r = (r.0, h _ r.1)
-result_declared_more k l h p ScalarKind x GivesFlag get r = (r.0, h _ r.1)
-result_declared_more k l h p ReferenceKind x NewLocal get r = (r.0, h _ r.1)
-result_declared_more k l h p FieldKind x GivesField get r = (r.0, h _ r.1)
-result_declared_more k l h p MethodKind x GivesMethod get r = (r.0, h _ r.1)
-result_declared_more k l h p (BufferKind t) x (GivesBuffer access) get r = (r.0, (r.1.0, r.1.1, h _ r.1.2))
+result_declared_more k l h p kinds.Number x GivesInt get r = (r.0, h _ r.1)
+result_declared_more k l h p kinds.Number x GivesFlag get r = (r.0, h _ r.1)
+result_declared_more k l h p kinds.Reference x NewLocal get r = (r.0, h _ r.1)
+result_declared_more k l h p kinds.Field x GivesField get r = (r.0, h _ r.1)
+result_declared_more k l h p kinds.Method x GivesMethod get r = (r.0, h _ r.1)
+result_declared_more k l h p (kinds.Buffer t) x (GivesBuffer access) get r = (r.0, (r.1.0, r.1.1, h _ r.1.2))
 result_declared_more k l h p kind x result get r = absurd r
 
 result_assigned_more : (k l : Point → Type 0) → k ⇒ l → (p : Point) (s : Option ExprType) (x : Identifier) (result : ResultKind) (get : Option (Access × Option Identifier)) → AssignsResult p s x result get k → AssignsResult p s x result get l

@@ -23,7 +23,8 @@ use Rattle.type_rules.specs.TypeRules as rules
 use Rattle.type_rules.specs.TypeRules.{has_name, variable_type, result_fits, call_fits}
 use Rattle.type_rules.proofs.TypeTests.{jint_is, flag_is, word_is, null_is, first_passed}
 use Rattle.region_rules.specs.RegionStates.{Free, BufferIn, ReferenceAt, held_by, get_of, buffer_from, function_called, after_call, with_new, with_set, FunctionCall}
-use Rattle.semantics.specs.Task.{Declared, ScalarKind, ReferenceKind, FieldKind, MethodKind, BufferKind, set_task, variable_kind}
+use Rattle.semantics.specs.declared.variable_kind.VariableKind.TheVariants as kinds
+use Rattle.semantics.specs.Task.{Declared, set_task, variable_kind}
 use Rattle.semantics_safety.specs.Points.{Point}
 use Rattle.semantics_safety.specs.Wanted.{CallKeeps, DeclaresResult, RunsPlain, at}
 use Rattle.semantics_safety.proofs.ArgumentFits.{first_read, buffer_for}
@@ -38,22 +39,22 @@ use Rattle.semantics_safety.proofs.PathsGive.{Gives}
 pub declare_value : (line : ℕ) (t : VariableType) (x : Identifier) (e : Expr) → Gives (tree.Plain line (tree.Declare (Simple t) x (FromExpr e)))
 declare_value line UInt32 x e p taken returns path k known kept (obeys, is) h =
     let read = (first_read p.regions e [] (statement_reads p.regions (tree.Plain line (tree.Declare (Simple UInt32) x (FromExpr e))) obeys)).0 in
-    scalar_runs p taken line (Declared ScalarKind x) x e Word k known tt (word_is (type_of p.names e) kept.fits) read (inr (is_new p taken x known kept.new, h p.regions is (known_named p taken known x kept.new Word tt)))
+    scalar_runs p taken line (Declared kinds.Number x) x e Word k known tt (word_is (type_of p.names e) kept.fits) read (inr (is_new p taken x known kept.new, h p.regions is (known_named p taken known x kept.new Word tt)))
 declare_value line JIntVariable x e p taken returns path k known kept (obeys, is) h =
     let read = (first_read p.regions e [] (statement_reads p.regions (tree.Plain line (tree.Declare (Simple JIntVariable) x (FromExpr e))) obeys)).0 in
-    scalar_runs p taken line (Declared ScalarKind x) x e Jint k known tt (jint_is (type_of p.names e) kept.fits) read (inr (is_new p taken x known kept.new, h p.regions is (known_named p taken known x kept.new Jint tt)))
+    scalar_runs p taken line (Declared kinds.Number x) x e Jint k known tt (jint_is (type_of p.names e) kept.fits) read (inr (is_new p taken x known kept.new, h p.regions is (known_named p taken known x kept.new Jint tt)))
 declare_value line JSize x e p taken returns path k known kept (obeys, is) h =
     let read = (first_read p.regions e [] (statement_reads p.regions (tree.Plain line (tree.Declare (Simple JSize) x (FromExpr e))) obeys)).0 in
-    scalar_runs p taken line (Declared ScalarKind x) x e Jint k known tt (jint_is (type_of p.names e) kept.fits) read (inr (is_new p taken x known kept.new, h p.regions is (known_named p taken known x kept.new Jint tt)))
+    scalar_runs p taken line (Declared kinds.Number x) x e Jint k known tt (jint_is (type_of p.names e) kept.fits) read (inr (is_new p taken x known kept.new, h p.regions is (known_named p taken known x kept.new Jint tt)))
 declare_value line JBoolean x e p taken returns path k known kept (obeys, is) h =
     let read = (first_read p.regions e [] (statement_reads p.regions (tree.Plain line (tree.Declare (Simple JBoolean) x (FromExpr e))) obeys)).0 in
-    scalar_runs p taken line (Declared ScalarKind x) x e Flag k known tt (flag_is (type_of p.names e) kept.fits) read (inr (is_new p taken x known kept.new, h p.regions is (known_named p taken known x kept.new Flag tt)))
+    scalar_runs p taken line (Declared kinds.Number x) x e Flag k known tt (flag_is (type_of p.names e) kept.fits) read (inr (is_new p taken x known kept.new, h p.regions is (known_named p taken known x kept.new Flag tt)))
 declare_value line JFieldId x e p taken returns path k known kept (obeys, is) h =
-    subst (λ (e : Expr). RunsPlain (set_task line (Declared FieldKind x) x e) k p) (sym (null_is e kept.fits)) (is_new p taken x known kept.new, h p.regions is (known_named p taken known x kept.new types.FieldId tt))
+    subst (λ (e : Expr). RunsPlain (set_task line (Declared kinds.Field x) x e) k p) (sym (null_is e kept.fits)) (is_new p taken x known kept.new, h p.regions is (known_named p taken known x kept.new types.FieldId tt))
 declare_value line JMethodId x e p taken returns path k known kept (obeys, is) h =
-    subst (λ (e : Expr). RunsPlain (set_task line (Declared MethodKind x) x e) k p) (sym (null_is e kept.fits)) (is_new p taken x known kept.new, h p.regions is (known_named p taken known x kept.new types.MethodId tt))
+    subst (λ (e : Expr). RunsPlain (set_task line (Declared kinds.Method x) x e) k p) (sym (null_is e kept.fits)) (is_new p taken x known kept.new, h p.regions is (known_named p taken known x kept.new types.MethodId tt))
 declare_value line (ReferenceVariable r) x e p taken returns path k known kept (obeys, is) h =
-    subst (λ (e : Expr). RunsPlain (set_task line (Declared ReferenceKind x) x e) k p) (sym (null_is e (first_passed (is_null e) (is_some (name_type p.names e)) kept.fits kept.uncopied)))
+    subst (λ (e : Expr). RunsPlain (set_task line (Declared kinds.Reference x) x e) k p) (sym (null_is e (first_passed (is_null e) (is_some (name_type p.names e)) kept.fits kept.uncopied)))
     (is_new p taken x known kept.new, h (with_new p.regions x (ReferenceAt p.regions.frames true)) is (known_new p taken known x kept.new Ref (ReferenceAt p.regions.frames true) tt))
 
 nothing_held : (access : Access) (a : Identifier) → held_by Free ≡ Some (access, a) → ⊥
@@ -61,12 +62,12 @@ nothing_held access a h = cc
 
 pub declare_buffer : (line : ℕ) (t : ElementType) (x : Identifier) (e : Expr) → Gives (tree.Plain line (tree.Declare (Pointer t) x (FromExpr e)))
 declare_buffer line t x e p taken returns path k known kept (obeys, is) h =
-    subst (λ (e : Expr). RunsPlain (set_task line (Declared (BufferKind t) x) x e) k p) (sym (null_is e kept.fits))
+    subst (λ (e : Expr). RunsPlain (set_task line (Declared (kinds.Buffer t) x) x e) k p) (sym (null_is e kept.fits))
     (is_new p taken x known kept.new, (true, h (with_new p.regions x (BufferIn Free)) is (known_new p taken known x kept.new (Buffer t true) (BufferIn Free) (λ access a g. absurd (nothing_held access a g)))))
 
 pub declare_chars : (line : ℕ) (x : Identifier) (e : Expr) → Gives (tree.Plain line (tree.Declare ConstChars x (FromExpr e)))
 declare_chars line x e p taken returns path k known kept (obeys, is) h =
-    subst (λ (e : Expr). RunsPlain (set_task line (Declared (BufferKind JChar) x) x e) k p) (sym (null_is e kept.fits))
+    subst (λ (e : Expr). RunsPlain (set_task line (Declared (kinds.Buffer JChar) x) x e) k p) (sym (null_is e kept.fits))
     (is_new p taken x known kept.new, (false, h (with_new p.regions x (BufferIn Free)) is (known_new p taken known x kept.new (Buffer JChar false) (BufferIn Free) (λ access a g. absurd (nothing_held access a g)))))
 
 -- ---- results
@@ -119,7 +120,7 @@ module _ (q : Point) (taken : List Identifier) (known : IsKnown q taken) (x : Id
   buffer_result : (t : ElementType) (writable : Bool) (result : ResultKind) (get : Option (Access × Option Identifier)) → result_fits (Some (Buffer t writable)) result ≡ true
       → ((access : Access) (a : Identifier) → held_by (buffer_from get) ≡ Some (access, a) → has_name taken a ≡ true)
       → (IsKnown (record { names = (x, Buffer t writable) ∷ q.names; regions = with_new q.regions x (BufferIn (buffer_from get)) }) (taken ++ x ∷ []) → k (record { names = (x, Buffer t writable) ∷ q.names; regions = with_new q.regions x (BufferIn (buffer_from get)) }))
-      → DeclaresResult q (BufferKind t) x result get k
+      → DeclaresResult q (kinds.Buffer t) x result get k
   buffer_result t writable (GivesBuffer access) get fit gets h = (is_new q taken x known new, (writable, fit, h (known_new q taken known x new (Buffer t writable) (BufferIn (buffer_from get)) gets)))
   buffer_result t writable result get fit gets h = absurd (cc)
 
@@ -199,7 +200,7 @@ declare_reference r line x c p taken returns path k known kept (obeys, is) h =
     let result = (prototype call.function).result in
     let both = and_parts (not (rules.is_push call.function)) (result_fits (Some Ref) result) (ap (call_fits (Some Ref)) (sym call.is_named) ∙ kept.fits) in
     let q = at p (after_call p.regions (function_called s)) in
-    call_runs p s line (Declared ReferenceKind x) c k call both.0 (declared_result q taken (known_called p taken s known obeys) x kept.new k line c (ReferenceVariable r) result (get_of (function_called s)) both.1 (h (with_set q.regions s) is))
+    call_runs p s line (Declared kinds.Reference x) c k call both.0 (declared_result q taken (known_called p taken s known obeys) x kept.new k line c (ReferenceVariable r) result (get_of (function_called s)) both.1 (h (with_set q.regions s) is))
 
 pub declare_call : (t : VariableType) → CallGives t
 declare_call UInt32 = declare_word
@@ -217,7 +218,7 @@ buffer_call line t x c p taken returns path k known kept (obeys, is) h =
     let result = (prototype call.function).result in
     let both = and_parts (not (rules.is_push call.function)) (result_fits (Some (Buffer t true)) result) (ap (call_fits (Some (Buffer t true))) (sym call.is_named) ∙ kept.fits) in
     let q = at p (after_call p.regions (function_called s)) in
-    call_runs p s line (Declared (BufferKind t) x) c k call both.0
+    call_runs p s line (Declared (kinds.Buffer t) x) c k call both.0
     (buffer_result q taken (known_called p taken s known obeys) x kept.new k t true result (get_of (function_called s)) both.1 (called_taken p taken known call.function c.arguments call.keeps (function_called s) call.called) (h (with_set q.regions s) is))
 
 pub chars_call : (line : ℕ) (x : Identifier) (c : Call) → Gives (tree.Plain line (tree.Declare ConstChars x (FromCall c)))
@@ -227,5 +228,5 @@ chars_call line x c p taken returns path k known kept (obeys, is) h =
     let result = (prototype call.function).result in
     let both = and_parts (not (rules.is_push call.function)) (result_fits (Some (Buffer JChar false)) result) (ap (call_fits (Some (Buffer JChar false))) (sym call.is_named) ∙ kept.fits) in
     let q = at p (after_call p.regions (function_called s)) in
-    call_runs p s line (Declared (BufferKind JChar) x) c k call both.0
+    call_runs p s line (Declared (kinds.Buffer JChar) x) c k call both.0
     (buffer_result q taken (known_called p taken s known obeys) x kept.new k JChar false result (get_of (function_called s)) both.1 (called_taken p taken known call.function c.arguments call.keeps (function_called s) call.called) (h (with_set q.regions s) is))

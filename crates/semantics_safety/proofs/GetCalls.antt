@@ -31,7 +31,9 @@ use Rattle.semantics.specs.Checks.{misses, with_kinds}
 use Rattle.semantics.specs.CallStep.{put, put_assigned, tell_copy, trap_of_call, target_element, checked}
 use Rattle.semantics.specs.Effect.{tasks_after}
 use Rattle.semantics.specs.Sight.{held_reference}
-use Rattle.semantics.specs.Task.{Task, Target, Declared, Assigned, Tested, Dropped, VariableKind, ScalarKind, ReferenceKind, FieldKind, MethodKind, BufferKind, Operand, Given, Invoke}
+use Rattle.semantics.specs.declared.variable_kind.VariableKind.{VariableKind}
+use Rattle.semantics.specs.declared.variable_kind.VariableKind.TheVariants as kinds
+use Rattle.semantics.specs.Task.{Task, Target, Declared, Assigned, Tested, Dropped, Operand, Given, Invoke}
 use Rattle.semantics.specs.Thread.{Thread, Shared, BuffersInUse, Frame, sight_of}
 use Rattle.semantics.specs.ThreadStep.{with_tasks}
 use Rattle.semantics.specs.declared.trap.Trap.{Trap}
@@ -142,11 +144,11 @@ module _ (unit : SourceUnit) (classes : Classes) (in_use : BuffersInUse) (k : �
       known_there x e = known_same p.regions x (λ v. BufferIn (Untested access a)) ∙ ap (option_map (λ (v : VariableState). BufferIn (Untested access a))) e
 
   declared : (kind : VariableKind) (x : Identifier) → DeclaresResult p kind x (GivesBuffer access) (Some (access, Some a)) (GoesOn rest) → Lands weak own s.statics (put (Declared kind x) (BufferResult b) s (with_tasks t rest))
-  declared (BufferKind u) x (new, (w, for_it, g)) = ((at (named p x (types.Buffer u w)) (with_new p.regions x (BufferIn (Untested access a))), got_declared x u w new, g), same_statics s.statics)
-  declared ScalarKind x h = absurd h
-  declared ReferenceKind x h = absurd h
-  declared FieldKind x h = absurd h
-  declared MethodKind x h = absurd h
+  declared (kinds.Buffer u) x (new, (w, for_it, g)) = ((at (named p x (types.Buffer u w)) (with_new p.regions x (BufferIn (Untested access a))), got_declared x u w new, g), same_statics s.statics)
+  declared kinds.Number x h = absurd h
+  declared kinds.Reference x h = absurd h
+  declared kinds.Field x h = absurd h
+  declared kinds.Method x h = absurd h
 
   assigned : (x : Identifier) (o : Option ExprType) → AssignsResult p o x (GivesBuffer access) (Some (access, Some a)) (GoesOn rest) → Lands weak own s.statics (put_assigned x (BufferResult b) s (with_tasks t rest) (lookup x t.variables))
   assigned x (Some (types.Buffer u w)) (e, for_it, g) =

@@ -26,7 +26,9 @@ use Rattle.semantics.specs.Heap.{next_name, numbers_of}
 use Rattle.semantics.specs.Method.{MethodId, find_method}
 use Rattle.semantics.specs.Object.{Object, ObjectValue, Number, Refers, Reference}
 use Rattle.semantics.specs.Return.{fitted, given_back, nothing_of, resumed_in, return_by}
-use Rattle.semantics.specs.Task.{Task, Target, Declared, Assigned, Tested, Dropped, VariableKind, ScalarKind, ReferenceKind, FieldKind, MethodKind, BufferKind}
+use Rattle.semantics.specs.declared.variable_kind.VariableKind.{VariableKind}
+use Rattle.semantics.specs.declared.variable_kind.VariableKind.TheVariants as kinds
+use Rattle.semantics.specs.Task.{Task, Target, Declared, Assigned, Tested, Dropped}
 use Rattle.semantics.specs.Thread.{Thread, Caller, Shared, BuffersInUse, Frame, Advance, Advances, NoAdvance, capacities, sight_of}
 use Rattle.semantics.specs.ThreadStep.{set_element, with_tasks, after_effect, after_refused_effect, step_within}
 use Rattle.semantics.specs.declared.trap.Trap.{Trap}
@@ -114,11 +116,11 @@ module _ (unit : SourceUnit) (classes : Classes) where
   filled_ok (LocalArray u zs) given h g = tt
 
   blank_ok : (kind : VariableKind) (frames : ℕ) → Holds (blank kind frames)
-  blank_ok ScalarKind frames = tt
-  blank_ok ReferenceKind frames = tt
-  blank_ok FieldKind frames = tt
-  blank_ok MethodKind frames = tt
-  blank_ok (BufferKind u) frames = tt
+  blank_ok kinds.Number frames = tt
+  blank_ok kinds.Reference frames = tt
+  blank_ok kinds.Field frames = tt
+  blank_ok kinds.Method frames = tt
+  blank_ok (kinds.Buffer u) frames = tt
 
   -- what a step leaves holds only such
   abbrev pub LeavesCallable : Advance → Type 0

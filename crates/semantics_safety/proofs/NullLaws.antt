@@ -14,7 +14,9 @@ use Rattle.type_rules.specs.declared.ty.ExprType.TheVariants as types
 use Rattle.semantics.specs.CallEffects.{NullResult}
 use Rattle.semantics.specs.CallStep.{put, put_assigned}
 use Rattle.region_rules.specs.RegionStates.{VariableState, Free, ReferenceAt, BufferIn, with_new, with_changed}
-use Rattle.semantics.specs.Task.{Task, Target, Declared, Assigned, VariableKind, ScalarKind, ReferenceKind, FieldKind, MethodKind, BufferKind}
+use Rattle.semantics.specs.declared.variable_kind.VariableKind.{VariableKind}
+use Rattle.semantics.specs.declared.variable_kind.VariableKind.TheVariants as kinds
+use Rattle.semantics.specs.Task.{Task, Target, Declared, Assigned}
 use Rattle.semantics.specs.Thread.{Thread, Shared, BuffersInUse}
 use Rattle.semantics.specs.ThreadStep.{with_tasks}
 use Rattle.semantics.specs.Variable.{Variable, LocalRef, FieldHandle, MethodHandle, Elements, Buffer, NoBuffer, StaticReference, Empty, Weakly, assign}
@@ -66,13 +68,13 @@ module _ (unit : SourceUnit) (classes : Classes) (in_use : BuffersInUse) (k : �
   })
 
   declared_lands : (kind : VariableKind) (x : Identifier) → DeclaresNull p kind x (GoesOn rest) → Lands weak own s.statics (put (Declared kind x) NullResult s (with_tasks t rest))
-  declared_lands ScalarKind x h = absurd h
-  declared_lands ReferenceKind x (new, g) = ((at (named p x types.Ref) (with_new p.regions x (ReferenceAt p.regions.frames true)), null_declared unit classes in_use k s t rest p stands x new, g), λ y r e. (r, e))
-  declared_lands FieldKind x (new, g) =
+  declared_lands kinds.Number x h = absurd h
+  declared_lands kinds.Reference x (new, g) = ((at (named p x types.Ref) (with_new p.regions x (ReferenceAt p.regions.frames true)), null_declared unit classes in_use k s t rest p stands x new, g), λ y r e. (r, e))
+  declared_lands kinds.Field x (new, g) =
       ((named p x types.FieldId, stands_new s.statics t.variables t.frames p stands x (FieldHandle None) types.FieldId new tt (None, refl) (λ u b e. absurd (field_no_buffer None u b e)), g), λ y r e. (r, e))
-  declared_lands MethodKind x (new, g) =
+  declared_lands kinds.Method x (new, g) =
       ((named p x types.MethodId, stands_new s.statics t.variables t.frames p stands x (MethodHandle None) types.MethodId new tt (None, refl) (λ u b e. absurd (method_no_buffer None u b e)), g), λ y r e. (r, e))
-  declared_lands (BufferKind u) x (new, (w, g)) = ((at (named p x (types.Buffer u w)) (with_new p.regions x (BufferIn Free)), buffer_declared x u w new, g), λ y r e. (r, e))
+  declared_lands (kinds.Buffer u) x (new, (w, g)) = ((at (named p x (types.Buffer u w)) (with_new p.regions x (BufferIn Free)), buffer_declared x u w new, g), λ y r e. (r, e))
 
   no_empty : (n : ℕ) → Empty ≡ Weakly n → ⊥
   no_empty n e = cc

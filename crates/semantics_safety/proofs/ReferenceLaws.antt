@@ -13,7 +13,9 @@ use Rattle.type_rules.specs.declared.ty.ExprType.TheVariants as types
 use Rattle.semantics.specs.CallEffects.{ReferenceResult, with_local}
 use Rattle.semantics.specs.CallStep.{put, put_assigned}
 use Rattle.region_rules.specs.RegionStates.{VariableState, ReferenceAt, BufferIn, with_new, with_changed}
-use Rattle.semantics.specs.Task.{Task, Target, Declared, Assigned, Tested, Dropped, VariableKind, ScalarKind, ReferenceKind, FieldKind, MethodKind, BufferKind}
+use Rattle.semantics.specs.declared.variable_kind.VariableKind.{VariableKind}
+use Rattle.semantics.specs.declared.variable_kind.VariableKind.TheVariants as kinds
+use Rattle.semantics.specs.Task.{Task, Target, Declared, Assigned, Tested, Dropped}
 use Rattle.semantics.specs.Thread.{Thread, Shared, Frame}
 use Rattle.semantics.specs.Variable.{Variable, LocalRef, Elements, Buffer, Variables, Statics, assign}
 use Rattle.semantics_safety.specs.Owners.{Owners, is_target}
@@ -177,12 +179,12 @@ module _ (s : Shared) (t : Thread) (rest : List Task) (frame : Frame) (below : L
   with_it = record t { frames = with_local n (frame ∷ below); tasks = Some rest }
 
   declared : (kind : VariableKind) (x : Identifier) (get : Option (Access × Option Identifier)) → DeclaresResult p kind x NewLocal get (GoesOn rest) → Lands weak (with_target (Declared kind x) p.regions.frames own) s.statics (put (Declared kind x) (ReferenceResult (Some n)) s with_it)
-  declared ReferenceKind x get (new, g) =
+  declared kinds.Reference x get (new, g) =
       ((at (named p x types.Ref) (with_new p.regions x (ReferenceAt p.regions.frames true)), stands_declared s.statics t.variables frame below p stands n x (λ y other. ap (λ (b : Bool). if b then Some p.regions.frames else own y) (name_other x y other)) (ap (λ (b : Bool). if b then Some p.regions.frames else own x) (is_same x)) new, g), same_statics s.statics)
-  declared ScalarKind x get h = absurd h
-  declared FieldKind x get h = absurd h
-  declared MethodKind x get h = absurd h
-  declared (BufferKind u) x get h = absurd h
+  declared kinds.Number x get h = absurd h
+  declared kinds.Field x get h = absurd h
+  declared kinds.Method x get h = absurd h
+  declared (kinds.Buffer u) x get h = absurd h
 
   assigned : (x : Identifier) (o : Option ExprType) (get : Option (Access × Option Identifier)) → type_in p.names x ≡ o → AssignsResult p o x NewLocal get (GoesOn rest) → Lands weak (with_target (Assigned x) p.regions.frames own) s.statics (put_assigned x (ReferenceResult (Some n)) s with_it (lookup x t.variables))
   assigned x (Some types.Ref) get e (may, g) =

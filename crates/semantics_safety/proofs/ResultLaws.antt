@@ -16,7 +16,9 @@ use Rattle.semantics.specs.Object.{Reference}
 use Rattle.semantics.specs.CallEffects.{CallResult, NoResult, NullResult, ScalarResult, ReferenceResult, WeakResult, FieldResult, MethodResult}
 use Rattle.semantics.specs.CallStep.{put, put_assigned, static_result}
 use Rattle.semantics.specs.Method.{MethodId}
-use Rattle.semantics.specs.Task.{Task, Target, Declared, Assigned, Tested, Dropped, VariableKind, ScalarKind, ReferenceKind, FieldKind, MethodKind, BufferKind}
+use Rattle.semantics.specs.declared.variable_kind.VariableKind.{VariableKind}
+use Rattle.semantics.specs.declared.variable_kind.VariableKind.TheVariants as kinds
+use Rattle.semantics.specs.Task.{Task, Target, Declared, Assigned, Tested, Dropped}
 use Rattle.semantics.specs.Thread.{Thread, Shared, BuffersInUse}
 use Rattle.semantics.specs.ThreadStep.{with_tasks}
 use Rattle.semantics.specs.Value.{Value, Int, Flag}
@@ -70,31 +72,31 @@ module _ (unit : SourceUnit) (classes : Classes) (in_use : BuffersInUse) (k : �
   stay x r e = (r, e)
 
   declared : (kind : VariableKind) (x : Identifier) (result : ResultKind) (given : CallResult) (get : Option (Access × Option Identifier)) → Simple result given → DeclaresResult p kind x result get (GoesOn rest) → Lands weak own s.statics (put (Declared kind x) given s (with_tasks t rest))
-  declared ScalarKind x result given get (AnInt z) (new, g) =
+  declared kinds.Number x result given get (AnInt z) (new, g) =
       ((named p x types.Jint, stands_new s.statics t.variables t.frames p stands x (Scalar (Int z)) types.Jint new tt (Int z, refl, refl) (λ u b c. absurd (scalar_no_buffer (Int z) u b c)), g), stay)
-  declared ScalarKind x result given get (AFlag b) (new, g) =
+  declared kinds.Number x result given get (AFlag b) (new, g) =
       ((named p x types.Flag, stands_new s.statics t.variables t.frames p stands x (Scalar (Flag b)) types.Flag new tt (Flag b, refl, refl) (λ u c d. absurd (scalar_no_buffer (Flag b) u c d)), g), stay)
-  declared FieldKind x result given get (AField f) (new, g) =
+  declared kinds.Field x result given get (AField f) (new, g) =
       ((named p x types.FieldId, stands_new s.statics t.variables t.frames p stands x (FieldHandle f) types.FieldId new tt (f, refl) (λ u b c. absurd (field_no_buffer f u b c)), g), stay)
-  declared MethodKind x result given get (AMethod f) (new, g) =
+  declared kinds.Method x result given get (AMethod f) (new, g) =
       ((named p x types.MethodId, stands_new s.statics t.variables t.frames p stands x (MethodHandle f) types.MethodId new tt (f, refl) (λ u b c. absurd (method_no_buffer f u b c)), g), stay)
-  declared FieldKind x result given get NoField h = null_lands unit classes in_use k s t rest p stands (Declared FieldKind x) h
-  declared MethodKind x result given get NoMethod h = null_lands unit classes in_use k s t rest p stands (Declared MethodKind x) h
-  declared ReferenceKind x result given get NoLocal h = null_lands unit classes in_use k s t rest p stands (Declared ReferenceKind x) h
-  declared ReferenceKind x result given get NullLocal h = null_lands unit classes in_use k s t rest p stands (Declared ReferenceKind x) h
-  declared (BufferKind u) x result given get (AnInt z) h = absurd h
-  declared (BufferKind u) x result given get (AFlag b) h = absurd h
-  declared (BufferKind u) x result given get (AField f) h = absurd h
-  declared (BufferKind u) x result given get (AMethod f) h = absurd h
-  declared (BufferKind u) x result given get NoField h = absurd h
-  declared (BufferKind u) x result given get NoMethod h = absurd h
-  declared (BufferKind u) x result given get (AGlobal r) h = absurd h
-  declared (BufferKind u) x result given get NoGlobal h = absurd h
-  declared (BufferKind u) x result given get (AWeak r) h = absurd h
-  declared (BufferKind u) x result given get NoWeak h = absurd h
-  declared (BufferKind u) x result given get NoLocal h = absurd h
-  declared (BufferKind u) x result given get NullLocal h = absurd h
-  declared (BufferKind u) x result given get NoResultThere h = absurd h
+  declared kinds.Field x result given get NoField h = null_lands unit classes in_use k s t rest p stands (Declared kinds.Field x) h
+  declared kinds.Method x result given get NoMethod h = null_lands unit classes in_use k s t rest p stands (Declared kinds.Method x) h
+  declared kinds.Reference x result given get NoLocal h = null_lands unit classes in_use k s t rest p stands (Declared kinds.Reference x) h
+  declared kinds.Reference x result given get NullLocal h = null_lands unit classes in_use k s t rest p stands (Declared kinds.Reference x) h
+  declared (kinds.Buffer u) x result given get (AnInt z) h = absurd h
+  declared (kinds.Buffer u) x result given get (AFlag b) h = absurd h
+  declared (kinds.Buffer u) x result given get (AField f) h = absurd h
+  declared (kinds.Buffer u) x result given get (AMethod f) h = absurd h
+  declared (kinds.Buffer u) x result given get NoField h = absurd h
+  declared (kinds.Buffer u) x result given get NoMethod h = absurd h
+  declared (kinds.Buffer u) x result given get (AGlobal r) h = absurd h
+  declared (kinds.Buffer u) x result given get NoGlobal h = absurd h
+  declared (kinds.Buffer u) x result given get (AWeak r) h = absurd h
+  declared (kinds.Buffer u) x result given get NoWeak h = absurd h
+  declared (kinds.Buffer u) x result given get NoLocal h = absurd h
+  declared (kinds.Buffer u) x result given get NullLocal h = absurd h
+  declared (kinds.Buffer u) x result given get NoResultThere h = absurd h
   declared kind x result given get simple h = absurd h
 
   number_put : (x : Identifier) (r : ExprType) (v : Value) (o : Option Variable) → type_in p.names x ≡ Some r → lookup x t.variables ≡ o → (old : Value) × (o ≡ Some (Scalar old)) → VariableFits r (Some (Scalar v)) (lookup x s.statics) → GoesOn rest p → Lands weak own s.statics (put_assigned x (ScalarResult v) s (with_tasks t rest) o)

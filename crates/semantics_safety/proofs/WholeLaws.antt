@@ -18,7 +18,9 @@ use Rattle.type_rules.specs.TypeGroups.{IsNumberType}
 use Rattle.semantics.specs.Arguments.{Actual, look_up, actuals, address_in_actual}
 use Rattle.semantics.specs.Effect.{Effect, Sets, SetsNull, MakesArray, Calls}
 use Rattle.semantics.specs.Sight.{Sight}
-use Rattle.semantics.specs.Task.{Task, VariableKind, ScalarKind, ReferenceKind, FieldKind, MethodKind, BufferKind, Target, Declared, Assigned, Tested, Dropped, Operand, Given, Invoke}
+use Rattle.semantics.specs.declared.variable_kind.VariableKind.{VariableKind}
+use Rattle.semantics.specs.declared.variable_kind.VariableKind.TheVariants as kinds
+use Rattle.semantics.specs.Task.{Task, Target, Declared, Assigned, Tested, Dropped, Operand, Given, Invoke}
 use Rattle.semantics.specs.Thread.{Frame}
 use Rattle.semantics.specs.Value.{Value}
 use Rattle.semantics.specs.Variable.{Variable, Scalar, LocalRef, FieldHandle, MethodHandle, Elements, StaticReference, Variables, Statics}
@@ -93,11 +95,11 @@ module _ (ss : Statics) (vs : Variables) (frames : List Frame) (p : Point) {weak
   -- ---- NULL
 
   null_declared : (kind : VariableKind) (x : Identifier) (k : Point → Type 0) → DeclaresNull p kind x k → Nothing x
-  null_declared ScalarKind x k h = absurd h
-  null_declared ReferenceKind x k h = new_holds x h.0
-  null_declared FieldKind x k h = new_holds x h.0
-  null_declared MethodKind x k h = new_holds x h.0
-  null_declared (BufferKind t) x k h = new_holds x h.0
+  null_declared kinds.Number x k h = absurd h
+  null_declared kinds.Reference x k h = new_holds x h.0
+  null_declared kinds.Field x k h = new_holds x h.0
+  null_declared kinds.Method x k h = new_holds x h.0
+  null_declared (kinds.Buffer t) x k h = new_holds x h.0
 
   null_assigned : (o : Option ExprType) (x : Identifier) (k : Point → Type 0) → type_in p.names x ≡ o → AssignsNull p o x k → Nothing x
   null_assigned (Some types.Ref) x k e h = reference_there x e
@@ -116,12 +118,12 @@ module _ (ss : Statics) (vs : Variables) (frames : List Frame) (p : Point) {weak
   -- ---- results
 
   result_declared : (kind : VariableKind) (x : Identifier) (result : ResultKind) (get : _) (k : Point → Type 0) → DeclaresResult p kind x result get k → Nothing x
-  result_declared ScalarKind x GivesInt get k h = new_holds x h.0
-  result_declared ScalarKind x GivesFlag get k h = new_holds x h.0
-  result_declared ReferenceKind x NewLocal get k h = new_holds x h.0
-  result_declared FieldKind x GivesField get k h = new_holds x h.0
-  result_declared MethodKind x GivesMethod get k h = new_holds x h.0
-  result_declared (BufferKind t) x (GivesBuffer access) get k h = new_holds x h.0
+  result_declared kinds.Number x GivesInt get k h = new_holds x h.0
+  result_declared kinds.Number x GivesFlag get k h = new_holds x h.0
+  result_declared kinds.Reference x NewLocal get k h = new_holds x h.0
+  result_declared kinds.Field x GivesField get k h = new_holds x h.0
+  result_declared kinds.Method x GivesMethod get k h = new_holds x h.0
+  result_declared (kinds.Buffer t) x (GivesBuffer access) get k h = new_holds x h.0
   result_declared kind x result get k h = absurd h
 
   result_assigned : (o : Option ExprType) (x : Identifier) (result : ResultKind) (get : _) (k : Point → Type 0) → type_in p.names x ≡ o → AssignsResult p o x result get k → Nothing x
@@ -144,11 +146,11 @@ module _ (ss : Statics) (vs : Variables) (frames : List Frame) (p : Point) {weak
 -- ---- calls
 
 no_result : (q : Point) (target : Target) (get : _) (k : Point → Type 0) (x : Identifier) → is_target target x ≡ true → ResultGoes target GivesNothing get k q → ⊥
-no_result q (Declared ScalarKind y) get k x is h = h
-no_result q (Declared ReferenceKind y) get k x is h = h
-no_result q (Declared FieldKind y) get k x is h = h
-no_result q (Declared MethodKind y) get k x is h = h
-no_result q (Declared (BufferKind t) y) get k x is h = h
+no_result q (Declared kinds.Number y) get k x is h = h
+no_result q (Declared kinds.Reference y) get k x is h = h
+no_result q (Declared kinds.Field y) get k x is h = h
+no_result q (Declared kinds.Method y) get k x is h = h
+no_result q (Declared (kinds.Buffer t) y) get k x is h = h
 no_result q (Assigned y) get k x is h = on_type (type_in q.names y) h
   where
     on_type : (o : Option ExprType) → AssignsResult q o y GivesNothing get k → ⊥

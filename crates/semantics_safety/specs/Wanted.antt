@@ -20,7 +20,9 @@ use Rattle.region_rules.specs.RegionRules.{is_critical_call}
 use Rattle.region_rules.specs.RegionStates.{RegionState, VariableState, Free, Untested, Usable, ReferenceAt, BufferIn, state_of, with_new, with_changed, made_free, after_call, get_of, buffer_from, has_commit, FunctionCall}
 use Rattle.region_rules.specs.Regions.{made_usable}
 use Rattle.semantics.specs.Task as task
-use Rattle.semantics.specs.Task.{Task, SetScalar, SetElement, SetNull, MakeArray, Invoke, Print, Branch, EndIf, Loop, EndTurn, Target, Declared, Assigned, Tested, Dropped, VariableKind, ScalarKind, ReferenceKind, FieldKind, MethodKind, BufferKind, Operand, NumberOperand, PassedName, Given, task_of}
+use Rattle.semantics.specs.declared.variable_kind.VariableKind.{VariableKind}
+use Rattle.semantics.specs.declared.variable_kind.VariableKind.TheVariants as kinds
+use Rattle.semantics.specs.Task.{Task, SetScalar, SetElement, SetNull, MakeArray, Invoke, Print, Branch, EndIf, Loop, EndTurn, Target, Declared, Assigned, Tested, Dropped, Operand, NumberOperand, PassedName, Given, task_of}
 use Rattle.semantics.specs.Term.{Term, Done, Read, IsNull, term_of}
 use Rattle.semantics.specs.Term as term
 use Rattle.semantics.specs.Value.{Value}
@@ -89,11 +91,11 @@ call_seen f operands = Some (f, map operand_argument operands)
 
 -- a declared variable of this kind gets NULL
 abbrev pub DeclaresNull : Point → VariableKind → Identifier → (Point → Type 0) → Type 0
-DeclaresNull p ScalarKind x k = ⊥
-DeclaresNull p ReferenceKind x k = IsNew p x × k (at (named p x Ref) (with_new p.regions x (ReferenceAt p.regions.frames true)))
-DeclaresNull p FieldKind x k = IsNew p x × k (named p x types.FieldId)
-DeclaresNull p MethodKind x k = IsNew p x × k (named p x types.MethodId)
-DeclaresNull p (BufferKind t) x k = IsNew p x × ((writable : Bool) × k (at (named p x (Buffer t writable)) (with_new p.regions x (BufferIn Free))))
+DeclaresNull p kinds.Number x k = ⊥
+DeclaresNull p kinds.Reference x k = IsNew p x × k (at (named p x Ref) (with_new p.regions x (ReferenceAt p.regions.frames true)))
+DeclaresNull p kinds.Field x k = IsNew p x × k (named p x types.FieldId)
+DeclaresNull p kinds.Method x k = IsNew p x × k (named p x types.MethodId)
+DeclaresNull p (kinds.Buffer t) x k = IsNew p x × ((writable : Bool) × k (at (named p x (Buffer t writable)) (with_new p.regions x (BufferIn Free))))
 
 -- a reference is set where the frames are those of its declaration, and no buffer is of it
 pub record MaySet (p : Point) (x : Identifier) : Type 0 where
@@ -123,12 +125,12 @@ SetsNullThere p target k = ⊥
 
 -- a declared variable of this kind gets a call's result
 abbrev pub DeclaresResult : Point → VariableKind → Identifier → ResultKind → Option (Access × Option Identifier) → (Point → Type 0) → Type 0
-DeclaresResult p ScalarKind x GivesInt get k = IsNew p x × k (named p x Jint)
-DeclaresResult p ScalarKind x GivesFlag get k = IsNew p x × k (named p x Flag)
-DeclaresResult p ReferenceKind x NewLocal get k = IsNew p x × k (at (named p x Ref) (with_new p.regions x (ReferenceAt p.regions.frames true)))
-DeclaresResult p FieldKind x GivesField get k = IsNew p x × k (named p x types.FieldId)
-DeclaresResult p MethodKind x GivesMethod get k = IsNew p x × k (named p x types.MethodId)
-DeclaresResult p (BufferKind t) x (GivesBuffer access) get k =
+DeclaresResult p kinds.Number x GivesInt get k = IsNew p x × k (named p x Jint)
+DeclaresResult p kinds.Number x GivesFlag get k = IsNew p x × k (named p x Flag)
+DeclaresResult p kinds.Reference x NewLocal get k = IsNew p x × k (at (named p x Ref) (with_new p.regions x (ReferenceAt p.regions.frames true)))
+DeclaresResult p kinds.Field x GivesField get k = IsNew p x × k (named p x types.FieldId)
+DeclaresResult p kinds.Method x GivesMethod get k = IsNew p x × k (named p x types.MethodId)
+DeclaresResult p (kinds.Buffer t) x (GivesBuffer access) get k =
     IsNew p x × ((writable : Bool) × (is_buffer_for access (Some (Buffer t writable)) ≡ true)
     × k (at (named p x (Buffer t writable)) (with_new p.regions x (BufferIn (buffer_from get)))))
 DeclaresResult p kind x result get k = ⊥

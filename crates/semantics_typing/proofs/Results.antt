@@ -16,7 +16,9 @@ use Rattle.semantics.specs.CallStep.{blank, filled, is_zero, put, put_assigned, 
 use Rattle.semantics.specs.Effect.{tasks_after}
 use Rattle.semantics.specs.Heap.{Heap, next_name}
 use Rattle.semantics.specs.Object.{Object}
-use Rattle.semantics.specs.Task.{Task, VariableKind, ScalarKind, ReferenceKind, FieldKind, MethodKind, BufferKind, Target, Declared, Assigned, Tested, Dropped}
+use Rattle.semantics.specs.declared.variable_kind.VariableKind.{VariableKind}
+use Rattle.semantics.specs.declared.variable_kind.VariableKind.TheVariants as kinds
+use Rattle.semantics.specs.Task.{Task, Target, Declared, Assigned, Tested, Dropped}
 use Rattle.semantics.specs.Thread.{Thread, Shared, BuffersInUse, Advance, Advances, NoAdvance}
 use Rattle.semantics.specs.Value.{Flag}
 use Rattle.semantics.specs.Variable.{Variable, Scalar, LocalRef, FieldHandle, MethodHandle, Elements, LocalArray, Buffer, NoBuffer, Copy, View, Variables, assign}
@@ -73,11 +75,11 @@ filled_typed classes u before heap vs (Elements d b) given h r e = h
 filled_typed classes u before heap vs (LocalArray d zs) given h r e = h
 
 blank_typed : (classes : Classes) (heap : Heap) (kind : VariableKind) (n : ℕ) → IsTypedVariable classes heap (blank kind n)
-blank_typed classes heap ScalarKind n = tt
-blank_typed classes heap ReferenceKind n = tt
-blank_typed classes heap FieldKind n = tt
-blank_typed classes heap MethodKind n = tt
-blank_typed classes heap (BufferKind e) n = tt
+blank_typed classes heap kinds.Number n = tt
+blank_typed classes heap kinds.Reference n = tt
+blank_typed classes heap kinds.Field n = tt
+blank_typed classes heap kinds.Method n = tt
+blank_typed classes heap (kinds.Buffer e) n = tt
 
 -- ---- where a result goes
 
@@ -142,11 +144,11 @@ element_told x (Some y) (Copy n zs) vs v e = flag_other x y true vs v e
 element_told x (Some y) (View n) vs v e = flag_other x y false vs v e
 
 blank_element : (kind : VariableKind) (x : Identifier) (vs : Variables) (n : ℕ) → ElementIs (target_element vs (Declared kind x)) (blank kind n)
-blank_element ScalarKind x vs n = tt
-blank_element ReferenceKind x vs n = tt
-blank_element FieldKind x vs n = tt
-blank_element MethodKind x vs n = tt
-blank_element (BufferKind e) x vs n = refl
+blank_element kinds.Number x vs n = tt
+blank_element kinds.Reference x vs n = tt
+blank_element kinds.Field x vs n = tt
+blank_element kinds.Method x vs n = tt
+blank_element (kinds.Buffer e) x vs n = refl
 
 -- ---- a call's step
 

@@ -37,7 +37,9 @@ use Rattle.semantics.specs.Effect.{Effect, Becomes, Sets, SetsNull, SetsElement,
 use Rattle.semantics.specs.Heap.{Heap, with_value_at}
 use Rattle.semantics.specs.Object.{ObjectValue, Number, Refers, Reference}
 use Rattle.semantics.specs.Sight.{Sight, seen, held_reference}
-use Rattle.semantics.specs.Task.{Task, Invoke, Target, Declared, Assigned, Tested, Dropped, VariableKind, ScalarKind, ReferenceKind, FieldKind, MethodKind, BufferKind, Operand, Given}
+use Rattle.semantics.specs.declared.variable_kind.VariableKind.{VariableKind}
+use Rattle.semantics.specs.declared.variable_kind.VariableKind.TheVariants as kinds
+use Rattle.semantics.specs.Task.{Task, Invoke, Target, Declared, Assigned, Tested, Dropped, Operand, Given}
 use Rattle.semantics.specs.Return.{fitted, given_back, nothing_of, resumed_in, return_by}
 use Rattle.semantics.specs.Thread.{Thread, Caller, Shared, BuffersInUse, Frame, Advance, sight_of}
 use Rattle.semantics.specs.ThreadStep.{set_element, with_tasks, after_effect, after_refused_effect, step_within, thread_step}
@@ -80,11 +82,11 @@ module _ (heap : Heap) (ss : Statics) (vs : Variables) (frames : List Frame) (p 
 
   -- a buffer is got into a variable of its type
   got_declared : (kind : VariableKind) (q : Point) (x : Identifier) (access : Access) (get : _) → DeclaresResult q kind x (GivesBuffer access) get k → (writable : Bool) × (is_buffer_for access (Some (Buffer (target_element vs (Declared kind x)) writable)) ≡ true)
-  got_declared (BufferKind t) q x access get h = (h.1.0, h.1.1)
-  got_declared ScalarKind q x access get h = absurd h
-  got_declared ReferenceKind q x access get h = absurd h
-  got_declared FieldKind q x access get h = absurd h
-  got_declared MethodKind q x access get h = absurd h
+  got_declared (kinds.Buffer t) q x access get h = (h.1.0, h.1.1)
+  got_declared kinds.Number q x access get h = absurd h
+  got_declared kinds.Reference q x access get h = absurd h
+  got_declared kinds.Field q x access get h = absurd h
+  got_declared kinds.Method q x access get h = absurd h
 
   got_assigned : (o : Option ExprType) (q : Point) (x : Identifier) (access : Access) (get : _) → type_in p.names x ≡ o → AssignsResult q o x (GivesBuffer access) get k → (writable : Bool) × (is_buffer_for access (Some (Buffer (element_type (lookup x vs)) writable)) ≡ true)
   got_assigned (Some (types.Buffer t w)) q x access get e h =

@@ -2,12 +2,11 @@ use Rattle.std.proofs.Common.{ℕ, ◌+◌, ◌≤◌, ◌++◌, List, Option, l
 use Rattle.std.specs.Prelude.{flat_map}
 use Rattle.std.proofs.lemmas.List.Concat.{flat_map-cons}
 use Rattle.std.proofs.lemmas.Option.{slice_get_read, slice_get_within}
-use Rattle.base.proofs.Lists.{drop_next}
+use Rattle.base.proofs.Lists.{drop_next, drop_past}
 use Rattle.tables.specs.Locals.{AreStacked}
 use Rattle.machine_scenes.specs.declared.activation.Activation.{Activation}
 use Rattle.machine_collections.specs.Roots.{call_places}
 use Rattle.machine_collections.proofs.Counts.{counted_all, counted_next}
-use Rattle.machine_collections.proofs.MovedRoots.{drop_past}
 use Rattle.machine_collections.proofs.RootNames.{holds_more}
 use Rattle.machine_collections.proofs.roots.push_callers.Goals as goal
 

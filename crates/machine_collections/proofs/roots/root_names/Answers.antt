@@ -1,9 +1,9 @@
 use Rattle.std.proofs.Common.{ℕ, ◌+◌, ◌++◌, List, map, drop, sym, ap, ◌∙◌, arith, append_assoc, append-nil}
+use Rattle.base.proofs.Lists.{drop_past}
 use Rattle.tables.specs.References.{references_in}
 use Rattle.semantics.specs.Views.{names_of}
 use Rattle.machine_collections.specs.Roots.{reference_names}
 use Rattle.machine_scenes.specs.Given.{object_there}
-use Rattle.machine_collections.proofs.MovedRoots.{drop_past}
 use Rattle.machine_collections.proofs.RootNames.{root_next, root_there}
 use Rattle.machine_collections.proofs.roots.root_names.Goals as goal
 

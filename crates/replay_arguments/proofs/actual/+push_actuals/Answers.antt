@@ -1,7 +1,8 @@
 use Rattle.std.proofs.Common.{drop, map, sym, append-nil, arith}
 use Rattle.std.proofs.lemmas.Grind.{common_steps}
+use Rattle.base.proofs.Lists.{drop_past}
 use Rattle.replay_arguments.specs.Actuals.{actual_view}
-use Rattle.replay_arguments.proofs.OperandLists.{no_pairs, none_there, there_are, there_are_none}
+use Rattle.replay_arguments.proofs.OperandLists.{no_pairs, none_there, there_are}
 use Rattle.replay_terms.specs.Views.{operand_ref_view, operands_view}
 use Rattle.replay_arguments.proofs.actual.+push_actuals.Goals as goal
 
@@ -9,7 +10,7 @@ pub returns-then-place-count : goal.returns-then-place-count
 returns-then-place-count t c =
     let os = operands_view c.args.operands.now in
     let ps = c.args.parameters.now in
-    let none = no_pairs ps (drop c.args.place os) (there_are_none os c.args.place (omega (arith, c.count.ensures, c.if-place-count.true))) in
+    let none = no_pairs ps (drop c.args.place os) (drop_past os c.args.place (omega (arith, c.count.ensures, c.if-place-count.true))) in
     rw none (sym (append-nil (map actual_view c.args.actuals.now.items)))
 
 pub returns-in-None : goal.returns-in-None

@@ -8,7 +8,7 @@ use Rattle.semantics.specs.Arguments.{Actual, look_up}
 use Rattle.replay_arguments.specs.Actuals.{actual_view}
 use Rattle.replay_arguments.specs.declared.actual.Actual.{Actual as ActualInMemory}
 use Rattle.replay_arguments.specs.Shares.{shared_view, sight_in}
-use Rattle.replay_arguments.proofs.PassedActuals.{of_all}
+use Rattle.replay_terms.proofs.PassedLemmas.{of_all}
 use Rattle.replay_terms.specs.Views.{operands_view}
 use Rattle.replay_arguments.proofs.actual.actuals.Goals as goal
 

@@ -1,15 +1,12 @@
 use Rattle.std.proofs.Common.{◌≡◌, false, Option, Some, None, sym, refl, ◌∙◌, subst}
 use Rattle.std.specs.Prelude.{is_some}
 use Rattle.std.proofs.lemmas.Result.{IfOk-weaker}
+use Rattle.base.proofs.Options.{none_there}
 use Rattle.replay_arguments.specs.Shares.{shared_view}
 use Rattle.replay_threads.specs.Threads.{WorkInRange}
 use Rattle.replay_threads.proofs.AttemptedSteps.{field_attempted}
 use Rattle.replay_threads.proofs.ThreadLemmas.{range_begun}
 use Rattle.replay_threads.proofs.thread.try_field.Goals as goal
-
-none_there : {A : Type 0} (o : Option A) → is_some o ≡ false → o ≡ None
-none_there None none = refl
-none_there (Some a) none = absurd (cc)
 
 pub attempt_field-requires-clause-range : goal.attempt_field-requires-clause-range
 attempt_field-requires-clause-range c = subst WorkInRange c.in-Some.is c.requires.range.work

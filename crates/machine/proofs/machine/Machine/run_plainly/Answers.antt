@@ -8,7 +8,8 @@ use Rattle.machine.specs.declared.turn.Turn.{Turn}
 use Rattle.semantics.specs.declared.event.Stop.{Stop}
 use Rattle.machine.specs.Run.{CanGoOn, Corresponds, Run, RunsAlong, WentOn, replay_of, seen}
 use Rattle.machine.proofs.Runs.{none_yet}
-use Rattle.machine.proofs.Steps.{awake_here, counted_from, is_live, none_held, not_stopped, thread_there, threads_of}
+use Rattle.semantics.proofs.Endings.{unfinished}
+use Rattle.machine.proofs.Steps.{awake_here, counted_from, none_held, not_stopped, thread_there, threads_of}
 use Rattle.machine.proofs.machine.Machine.run_plainly.Goals as goal
 use Rattle.machine.proofs.machine.Machine.run_plainly.Goals.{After-index_mut-thread, After-is_some, After-take_plainly}
 
@@ -39,7 +40,7 @@ can_go_on c none =
       stands = subst (λ (stop : Option Stop). Corresponds i.program i.world i.store i.threads.items i.printed.items stop i.journal.entries) (not_stopped i.stop (free c none).0) c.self.invariant;
       number = number a;
       at = there a;
-      lives = is_live c.index_mut-thread.result.now.ending (free c none).1;
+      lives = unfinished c.index_mut-thread.result.now.ending (free c none).1;
     }
 
 pub returns-then-is_some-clause-along : goal.returns-then-is_some-clause-along
@@ -73,7 +74,7 @@ returns-clause-ready c is =
     let t = (goal.at.After-is_some at).After-index_mut-thread in
     let w = went a in
     let h = c.take_plainly.ensures.ready is in
-    let lives = is_live c.index_mut-thread.result.now.ending (free at (sym c.is_some.ensures ∙ c.if-is_some.false)).1 in (
+    let lives = unfinished c.index_mut-thread.result.now.ending (free at (sym c.is_some.ensures ∙ c.if-is_some.false)).1 in (
       omega (arith, h.0, c.most_steps-most.ensures.most),
       (
         h.3,

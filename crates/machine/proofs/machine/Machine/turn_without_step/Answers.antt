@@ -13,7 +13,8 @@ use Rattle.machine.specs.declared.turn.Turn.{Turn}
 use Rattle.machine.specs.declared.turn.Turn.TheVariants as turn
 use Rattle.machine.specs.Run.{Run, InState, TurnHolds, Waits, turn_at_rest, replay_of, can_turn}
 use Rattle.machine.proofs.Standings.{waits_known}
-use Rattle.machine.proofs.Steps.{can_turn_here, counted_from, has_ended, is_live, none_held, not_stopped, thread_there, threads_of}
+use Rattle.semantics.proofs.Endings.{unfinished}
+use Rattle.machine.proofs.Steps.{can_turn_here, counted_from, has_ended, none_held, not_stopped, thread_there, threads_of}
 use Rattle.machine.proofs.machine.Machine.turn_without_step.Goals as goal
 use Rattle.machine.proofs.machine.Machine.turn_without_step.Goals.{After-index}
 
@@ -72,12 +73,12 @@ pub returns-then-is_full-clause-some : goal.returns-then-is_full-clause-some
 returns-then-is_full-clause-some c =
     let a = (goal.at.returns-then-is_full-clause-some c).After-index in
     let none = none_held (is_some c.self.inside.stop) (is_unfinished c.index.result.now.ending) (sym c.turn_at_rest.ensures ∙ c.in_default.is) in
-    (refl, leb-true 1000000 _ (sym c.is_full.ensures ∙ c.if-is_full.true), can_step a (not_stopped c.self.inside.stop none.0) (is_live _ none.1) (is_free a c.waits.result c.waits.ensures c.if-waits.false))
+    (refl, leb-true 1000000 _ (sym c.is_full.ensures ∙ c.if-is_full.true), can_step a (not_stopped c.self.inside.stop none.0) (unfinished _ none.1) (is_free a c.waits.result c.waits.ensures c.if-waits.false))
 
 pub returns-clause-none : goal.returns-clause-none
 returns-clause-none c =
     let a = (goal.at.returns-clause-none c).After-index in
     let none = none_held (is_some c.self.inside.stop) (is_unfinished c.index.result.now.ending) (sym c.turn_at_rest.ensures ∙ c.in_default.is) in (
       leb-false 1000000 _ (sym c.is_full.ensures ∙ c.if-is_full.false),
-      can_step a (not_stopped c.self.inside.stop none.0) (is_live _ none.1) (is_free a c.waits.result c.waits.ensures c.if-waits.false),
+      can_step a (not_stopped c.self.inside.stop none.0) (unfinished _ none.1) (is_free a c.waits.result c.waits.ensures c.if-waits.false),
     )
