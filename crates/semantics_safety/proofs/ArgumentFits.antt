@@ -15,14 +15,15 @@ use Rattle.jni.specs.declared.kinds.ParameterKind.{ParameterKind}
 use Rattle.jni.specs.declared.kinds.ParameterKind.TheVariants.{Nullable, NonNull, AnyReference, ClassObject, AnyArray, ObjectArray, StringObject, NumberArray, LocalVariable, StaticVariable, WeakVariable, FieldID, MethodID, Passed, IntNumber, TextBytes, ArrayVariable, BufferVariable, Mode, IsCopy}
 use Rattle.type_rules.specs.declared.ty.ExprType.{ExprType}
 use Rattle.type_rules.specs.declared.ty.ExprType.TheVariants.{Jint, Ref, Global, Weak, Buffer}
-use Rattle.type_rules.specs.ExprTypes.{type_in, type_of, is_jint, is_any_reference, is_reference, is_buffer_for, is_null, name_type, argument_fits, arguments_fit}
+use Rattle.type_rules.specs.ExprTypes.{type_in, type_of, is_jint, is_any_reference, is_reference, is_buffer_for, argument_fits, arguments_fit}
 use Rattle.type_rules.specs.TypeRules.{is_mode, is_mode_parameter, modes_fit}
 use Rattle.type_rules.proofs.TypeTests.{jint_is, flag_is, ref_is, global_is, weak_is, field_is, method_is, array_is}
 use Rattle.region_rules.specs.RegionRules.{is_dead, is_untested, is_free}
 use Rattle.region_rules.specs.RegionStates.{RegionState, state_of}
-use Rattle.semantics.specs.Task.{operand}
+use Rattle.semantics.specs.Task.{NumberOperand, Given, operand}
 use Rattle.semantics.specs.Term.{term_of}
-use Rattle.semantics_safety.specs.Points.{Point, ReferenceFits, AnyReferenceFits, ReferenceArgumentFits, GivenFits, PassedFits, HasType, OperandFits, OperandsFit}
+use Rattle.semantics_safety.specs.Points as rule
+use Rattle.semantics_safety.specs.Points.{Point, ReferenceFits, AnyReferenceFits, PassedFits, TakesReference, OperandFits, OperandsFit}
 use Rattle.semantics_safety.proofs.ExpressionFits.{AreStated, MayRead, is_live, usable_if, expression_fits, none_of_both}
 
 -- ---- expressions together
@@ -89,52 +90,61 @@ module _ (p : Point) (stated : AreStated p) where
   unfree_name : (x : Identifier) → MayReadAll p.regions (Variable x ∷ []) → is_free (state_of p.regions x) ≡ false
   unfree_name x h = (or_parts (is_free (state_of p.regions x)) false h.unfree).0
 
-  -- NULL or a reference
-  null_or_reference : (e : Expr) → (is_null e || is_reference (name_type p.names e)) ≡ true → MayReadAll p.regions (e ∷ []) → ReferenceArgumentFits p (Value e)
-  null_or_reference (Named Null) h read = tt
-  null_or_reference (Variable x) h read = reference_fits x (type_in p.names x) refl h (alive_name x read)
-  null_or_reference e h read = absurd (cc)
+  -- a parameter that takes references asks for the same as the others that do
+  as_nullable : {parameter : ParameterKind} → TakesReference parameter → (a : Argument) → argument_fits p.names parameter a ≡ true → argument_fits p.names Nullable a ≡ true
+  as_nullable rule.nullable a h = h
+  as_nullable rule.non_null (Value e) h = h
+  as_nullable rule.class_object (Value e) h = h
+  as_nullable rule.any_array (Value e) h = h
+  as_nullable rule.object_array (Value e) h = h
+  as_nullable rule.string (Value e) h = h
+  as_nullable rule.number_array (Value e) h = h
+  as_nullable takes a h = absurd (cc)
 
-  reference_argument : (a : Argument) → argument_fits p.names Nullable a ≡ true → MayReadAll p.regions (argument_expressions a) → ReferenceArgumentFits p a
-  reference_argument (Value e) h read = null_or_reference e h read
-  reference_argument (Text t) h read = absurd (cc)
-  reference_argument (AddressOf x) h read = absurd (cc)
+  -- NULL or a reference
+  reference_argument : {parameter : ParameterKind} → TakesReference parameter → (a : Argument) → argument_fits p.names parameter a ≡ true → MayReadAll p.regions (argument_expressions a) → OperandFits p parameter (Given a)
+  reference_argument {parameter} takes a h read = null_or_reference a (as_nullable takes a h) read
+    where
+      null_or_reference : (a : Argument) → argument_fits p.names Nullable a ≡ true → MayReadAll p.regions (argument_expressions a) → OperandFits p parameter (Given a)
+      null_or_reference (Value (Named Null)) h read = rule.reference takes rule.null
+      null_or_reference (Value (Variable x)) h read = rule.reference takes (rule.named (reference_fits x (type_in p.names x) refl h (alive_name x read)))
+      null_or_reference a h read = absurd (cc)
 
   -- the same, weak or not
-  any_argument : (a : Argument) → argument_fits p.names AnyReference a ≡ true → MayReadAll p.regions (argument_expressions a) → GivenFits p AnyReference a
-  any_argument (Value (Named Null)) h read = tt
-  any_argument (Value (Variable x)) h read = any_reference_fits x (type_in p.names x) refl h (alive_name x read)
+  any_argument : (a : Argument) → argument_fits p.names AnyReference a ≡ true → MayReadAll p.regions (argument_expressions a) → OperandFits p AnyReference (Given a)
+  any_argument (Value (Named Null)) h read = rule.any_reference rule.null
+  any_argument (Value (Variable x)) h read = rule.any_reference (rule.named (any_reference_fits x (type_in p.names x) refl h (alive_name x read)))
   any_argument a h read = absurd (cc)
 
-  mode_argument : (a : Argument) → IsRightMode Mode a → GivenFits p Mode a
-  mode_argument (Value (Number n unsigned)) h = tt
-  mode_argument (Value (Named c)) h = tt
+  mode_argument : (a : Argument) → IsRightMode Mode a → OperandFits p Mode (Given a)
+  mode_argument (Value (Number n unsigned)) h = rule.mode_number
+  mode_argument (Value (Named c)) h = rule.mode
   mode_argument a h = absurd (cc)
 
-  local_argument : (a : Argument) → argument_fits p.names LocalVariable a ≡ true → MayReadAll p.regions (argument_expressions a) → GivenFits p LocalVariable a
-  local_argument (Value (Variable x)) h read = is_live p stated x (ref_is (type_in p.names x) h) (alive_name x read)
+  local_argument : (a : Argument) → argument_fits p.names LocalVariable a ≡ true → MayReadAll p.regions (argument_expressions a) → OperandFits p LocalVariable (Given a)
+  local_argument (Value (Variable x)) h read = rule.local (is_live p stated x (ref_is (type_in p.names x) h) (alive_name x read))
   local_argument a h read = absurd (cc)
 
-  static_argument : (a : Argument) → argument_fits p.names StaticVariable a ≡ true → GivenFits p StaticVariable a
-  static_argument (Value (Variable x)) h = global_is (type_in p.names x) h
+  static_argument : (a : Argument) → argument_fits p.names StaticVariable a ≡ true → OperandFits p StaticVariable (Given a)
+  static_argument (Value (Variable x)) h = rule.global (global_is (type_in p.names x) h)
   static_argument a h = absurd (cc)
 
-  weak_argument : (a : Argument) → argument_fits p.names WeakVariable a ≡ true → GivenFits p WeakVariable a
-  weak_argument (Value (Variable x)) h = weak_is (type_in p.names x) h
+  weak_argument : (a : Argument) → argument_fits p.names WeakVariable a ≡ true → OperandFits p WeakVariable (Given a)
+  weak_argument (Value (Variable x)) h = rule.weak (weak_is (type_in p.names x) h)
   weak_argument a h = absurd (cc)
 
-  field_argument : (a : Argument) → argument_fits p.names FieldID a ≡ true → GivenFits p FieldID a
-  field_argument (Value (Named c)) h = tt
-  field_argument (Value (Variable x)) h = field_is (type_in p.names x) h
+  field_argument : (a : Argument) → argument_fits p.names FieldID a ≡ true → OperandFits p FieldID (Given a)
+  field_argument (Value (Named Null)) h = rule.field rule.null
+  field_argument (Value (Variable x)) h = rule.field (rule.named (field_is (type_in p.names x) h))
   field_argument a h = absurd (cc)
 
-  method_argument : (a : Argument) → argument_fits p.names MethodID a ≡ true → GivenFits p MethodID a
-  method_argument (Value (Named c)) h = tt
-  method_argument (Value (Variable x)) h = method_is (type_in p.names x) h
+  method_argument : (a : Argument) → argument_fits p.names MethodID a ≡ true → OperandFits p MethodID (Given a)
+  method_argument (Value (Named Null)) h = rule.method rule.null
+  method_argument (Value (Variable x)) h = rule.method (rule.named (method_is (type_in p.names x) h))
   method_argument a h = absurd (cc)
 
-  array_argument : (t : ElementType) (a : Argument) → argument_fits p.names (ArrayVariable t) a ≡ true → GivenFits p (ArrayVariable t) a
-  array_argument t (Value (Variable x)) h = array_is t (type_in p.names x) h
+  array_argument : (t : ElementType) (a : Argument) → argument_fits p.names (ArrayVariable t) a ≡ true → OperandFits p (ArrayVariable t) (Given a)
+  array_argument t (Value (Variable x)) h = rule.array (array_is t (type_in p.names x) h).1
   array_argument t a h = absurd (cc)
 
   no_access : (access : Access) → is_buffer_for access None ≡ true → ⊥
@@ -143,11 +153,11 @@ module _ (p : Point) (stated : AreStated p) where
   no_access CharsCopy h = cc
   no_access CharsView h = cc
 
-  buffer_argument : (access : Access) (a : Argument) → argument_fits p.names (BufferVariable access) a ≡ true → MayReadAll p.regions (argument_expressions a) → BufferTested p (BufferVariable access) a → GivenFits p (BufferVariable access) a
+  buffer_argument : (access : Access) (a : Argument) → argument_fits p.names (BufferVariable access) a ≡ true → MayReadAll p.regions (argument_expressions a) → BufferTested p (BufferVariable access) a → OperandFits p (BufferVariable access) (Given a)
   buffer_argument access (Value (Variable x)) h read tested =
       let is = buffer_for access (type_in p.names x) h in
       let found = stated.buffer x is.0 is.1 is.2 in
-      usable_if p x found.0 found.1 (unfree_name x read) tested
+      rule.buffer (usable_if p x found.0 found.1 (unfree_name x read) tested)
   buffer_argument access (Value (Number n unsigned)) h read tested = absurd (no_access access h)
   buffer_argument access (Value (Named c)) h read tested = absurd (no_access access h)
   buffer_argument access (Value (Element x i)) h read tested = absurd (no_access access h)
@@ -157,27 +167,26 @@ module _ (p : Point) (stated : AreStated p) where
   buffer_argument access (Text t) h read tested = absurd (cc)
   buffer_argument access (AddressOf x) h read tested = absurd (cc)
 
-  copy_argument : (a : Argument) → argument_fits p.names IsCopy a ≡ true → GivenFits p IsCopy a
-  copy_argument (Value (Named c)) h = tt
-  copy_argument (AddressOf x) h = flag_is (type_in p.names x) h
+  copy_argument : (a : Argument) → argument_fits p.names IsCopy a ≡ true → OperandFits p IsCopy (Given a)
+  copy_argument (Value (Named Null)) h = rule.not_told
+  copy_argument (AddressOf x) h = rule.told (flag_is (type_in p.names x) h)
   copy_argument a h = absurd (cc)
 
-  text_argument : (a : Argument) → argument_fits p.names TextBytes a ≡ true → GivenFits p TextBytes a
-  text_argument (Text t) h = tt
+  text_argument : (a : Argument) → argument_fits p.names TextBytes a ≡ true → OperandFits p TextBytes (Given a)
+  text_argument (Text t) h = rule.text
   text_argument a h = absurd (cc)
 
   number_argument : (a : Argument) → argument_fits p.names IntNumber a ≡ true → MayReadAll p.regions (argument_expressions a) → OperandFits p IntNumber (operand (IntNumber, a))
-  number_argument (Value e) h read = expression_fits p stated e Jint (first_read p.regions e [] read).0 (jint_is (type_of p.names e) h) tt
-  number_argument (Text t) h read = absurd (cc)
-  number_argument (AddressOf x) h read = absurd (cc)
+  number_argument (Value e) h read = rule.number (expression_fits p stated e Jint (first_read p.regions e [] read).0 (jint_is (type_of p.names e) h) tt)
+  number_argument a h read = absurd (cc)
 
   -- what a method is passed: NULL, a name, or a number
   no_reference : (b : Bool) → (b || false || false) ≡ true → b ≡ true
   no_reference true h = refl
   no_reference false h = absurd (cc)
 
-  passed_number : (e : Expr) → is_jint (type_of p.names e) ≡ true → MayReadAll p.regions (e ∷ []) → HasType p (term_of e) Jint
-  passed_number e h read = expression_fits p stated e Jint (first_read p.regions e [] read).0 (jint_is (type_of p.names e) h) tt
+  passed_number : (e : Expr) → is_jint (type_of p.names e) ≡ true → MayReadAll p.regions (e ∷ []) → OperandFits p Passed (NumberOperand (term_of e))
+  passed_number e h read = rule.passed_number (expression_fits p stated e Jint (first_read p.regions e [] read).0 (jint_is (type_of p.names e) h) tt)
 
   passed_name : (x : Identifier) (o : Option ExprType) → type_in p.names x ≡ o → (is_jint o || false || is_reference o) ≡ true → is_dead (state_of p.regions x) ≡ false → PassedFits p x o
   passed_name x (Some Jint) e h alive = tt
@@ -186,8 +195,8 @@ module _ (p : Point) (stated : AreStated p) where
   passed_name x o e h alive = absurd (cc)
 
   passed_argument : (a : Argument) → argument_fits p.names Passed a ≡ true → MayReadAll p.regions (argument_expressions a) → OperandFits p Passed (operand (Passed, a))
-  passed_argument (Value (Named Null)) h read = tt
-  passed_argument (Value (Variable x)) h read = passed_name x (type_in p.names x) refl h (alive_name x read)
+  passed_argument (Value (Named Null)) h read = rule.passed_null
+  passed_argument (Value (Variable x)) h read = rule.passed_name (passed_name x (type_in p.names x) refl h (alive_name x read))
   passed_argument (Value (Named c)) h read = passed_number (Named c) (no_reference _ h) read
   passed_argument (Value (Number n unsigned)) h read = passed_number (Number n unsigned) (no_reference _ h) read
   passed_argument (Value (Element x i)) h read = passed_number (Element x i) (no_reference _ h) read
@@ -198,43 +207,13 @@ module _ (p : Point) (stated : AreStated p) where
   passed_argument (AddressOf x) h read = absurd (cc)
 
   argument_is : (parameter : ParameterKind) (a : Argument) → argument_fits p.names parameter a ≡ true → IsRightMode parameter a → MayReadAll p.regions (argument_expressions a) → BufferTested p parameter a → OperandFits p parameter (operand (parameter, a))
-  argument_is Nullable a h mode read tested = reference_argument a h read
-  argument_is NonNull a h mode read tested = reference_argument a (same_as_nullable a h) read
-    where
-      same_as_nullable : (a : Argument) → argument_fits p.names NonNull a ≡ true → argument_fits p.names Nullable a ≡ true
-      same_as_nullable (Value e) h = h
-      same_as_nullable (Text t) h = h
-      same_as_nullable (AddressOf x) h = h
-  argument_is ClassObject a h mode read tested = reference_argument a (same_as_nullable a h) read
-    where
-      same_as_nullable : (a : Argument) → argument_fits p.names ClassObject a ≡ true → argument_fits p.names Nullable a ≡ true
-      same_as_nullable (Value e) h = h
-      same_as_nullable (Text t) h = h
-      same_as_nullable (AddressOf x) h = h
-  argument_is AnyArray a h mode read tested = reference_argument a (same_as_nullable a h) read
-    where
-      same_as_nullable : (a : Argument) → argument_fits p.names AnyArray a ≡ true → argument_fits p.names Nullable a ≡ true
-      same_as_nullable (Value e) h = h
-      same_as_nullable (Text t) h = h
-      same_as_nullable (AddressOf x) h = h
-  argument_is ObjectArray a h mode read tested = reference_argument a (same_as_nullable a h) read
-    where
-      same_as_nullable : (a : Argument) → argument_fits p.names ObjectArray a ≡ true → argument_fits p.names Nullable a ≡ true
-      same_as_nullable (Value e) h = h
-      same_as_nullable (Text t) h = h
-      same_as_nullable (AddressOf x) h = h
-  argument_is StringObject a h mode read tested = reference_argument a (same_as_nullable a h) read
-    where
-      same_as_nullable : (a : Argument) → argument_fits p.names StringObject a ≡ true → argument_fits p.names Nullable a ≡ true
-      same_as_nullable (Value e) h = h
-      same_as_nullable (Text t) h = h
-      same_as_nullable (AddressOf x) h = h
-  argument_is (NumberArray u) a h mode read tested = reference_argument a (same_as_nullable a h) read
-    where
-      same_as_nullable : (a : Argument) → argument_fits p.names (NumberArray u) a ≡ true → argument_fits p.names Nullable a ≡ true
-      same_as_nullable (Value e) h = h
-      same_as_nullable (Text t) h = h
-      same_as_nullable (AddressOf x) h = h
+  argument_is Nullable a h mode read tested = reference_argument rule.nullable a h read
+  argument_is NonNull a h mode read tested = reference_argument rule.non_null a h read
+  argument_is ClassObject a h mode read tested = reference_argument rule.class_object a h read
+  argument_is AnyArray a h mode read tested = reference_argument rule.any_array a h read
+  argument_is ObjectArray a h mode read tested = reference_argument rule.object_array a h read
+  argument_is StringObject a h mode read tested = reference_argument rule.string a h read
+  argument_is (NumberArray u) a h mode read tested = reference_argument rule.number_array a h read
   argument_is LocalVariable a h mode read tested = local_argument a h read
   argument_is StaticVariable a h mode read tested = static_argument a h
   argument_is WeakVariable a h mode read tested = weak_argument a h
@@ -259,7 +238,7 @@ module _ (p : Point) (stated : AreStated p) where
 
   pub operands_fit : (parameters : List ParameterKind) (arguments : List Argument) → length arguments ≡ length parameters → arguments_fit p.names parameters arguments ≡ true → modes_fit parameters arguments ≡ true
       → MayReadAll p.regions (flat_map argument_expressions arguments) → BuffersTested parameters arguments → OperandsFit p parameters (map operand (zip parameters arguments))
-  operands_fit [] [] count fit modes read tested = tt
+  operands_fit [] [] count fit modes read tested = rule.done
   operands_fit [] (a ∷ arguments) count fit modes read tested = absurd (cc)
   operands_fit (parameter ∷ parameters) [] count fit modes read tested = absurd (cc)
   operands_fit (parameter ∷ parameters) (a ∷ arguments) count fit modes read tested =
@@ -267,4 +246,4 @@ module _ (p : Point) (stated : AreStated p) where
       let right = and_parts (not (is_mode_parameter parameter) || is_mode a) (modes_fit parameters arguments) modes in
       let reads = both_read p.regions (argument_expressions a) (flat_map argument_expressions arguments) read in
       let later : length arguments ≡ length parameters = cc in
-      (argument_is parameter a fits.0 right.0 reads.0 tested.0, operands_fit parameters arguments later fits.1 right.1 reads.1 tested.1)
+      rule.next (argument_is parameter a fits.0 right.0 reads.0 tested.0) (operands_fit parameters arguments later fits.1 right.1 reads.1 tested.1)

@@ -20,7 +20,7 @@ use Rattle.jni.specs.declared.function.JniFunction.{JniFunction}
 use Rattle.jni.specs.declared.function.JniFunction.TheVariants.{GetBuffer, ReleaseBuffer, DeleteLocalRef, PopLocalFrame}
 use Rattle.jni.specs.JniFunction.{calls_method, parameters_for, takes_count, prototype}
 use Rattle.jni.specs.declared.kinds.ParameterKind.{ParameterKind}
-use Rattle.jni.specs.declared.kinds.ParameterKind.TheVariants.{IntNumber, Passed, BufferVariable, Mode}
+use Rattle.jni.specs.declared.kinds.ParameterKind.TheVariants.{IntNumber, LocalVariable, Passed, BufferVariable, Mode}
 use Rattle.jni.specs.Prototype.{owner, release_mode}
 use Rattle.type_rules.specs.ExprTypes.{arguments_fit}
 use Rattle.type_rules.specs.TypeRules.{modes_fit}
@@ -31,8 +31,8 @@ use Rattle.region_rules.specs.declared.rule.RegionRule.TheVariants.{CallWhileCri
 use Rattle.region_rules.specs.RegionRules.{is_put_jint, is_critical_call, is_dead, is_reference_now, is_untested, is_free, is_mismatched, is_array_in_use, is_level, breaks_region_rule, Obeys}
 use Rattle.region_rules.specs.RegionStates.{VariableState, BufferState, Untested, Usable, ReferenceAt, BufferIn, RegionState, state_of, buffer_of, held_by, held_buffers, FunctionCall, function_called, argument_name, get_of, has_commit, Release, release_of, deleted_name, pops, after_call}
 use Rattle.region_rules.proofs.KeptRules.{kept}
-use Rattle.semantics.specs.Task.{Operand, operand}
-use Rattle.semantics_safety.specs.Points.{Point, IsLive, IsUsable, NameFits, OperandsFit}
+use Rattle.semantics.specs.Task.{Operand, operand, Given}
+use Rattle.semantics_safety.specs.Points.{Point, OperandFits, OperandsFit, next, done, local, buffer, reference}
 use Rattle.semantics_safety.specs.Wanted.{Holds, CallKeeps, MeetsViews, CallFits, operand_argument, call_seen}
 use Rattle.semantics_safety.proofs.ArgumentFits.{MayReadAll, both_read, BufferTested, BuffersTested, operands_fit}
 use Rattle.semantics_safety.proofs.ExpressionFits.{AreStated, none_of_both}
@@ -263,10 +263,10 @@ module _ (p : Point) where
       let alive = (or_parts (is_dead (state_of p.regions found.0)) false own.alive).0 in
       subst (λ (b : Argument). CallKeeps p (GetBuffer access) (b ∷ rest)) (sym found.1) (live_now (state_of p.regions found.0) found.2 alive)
 
-  release_keeps : (access : Access) (o b : Argument) (modes : List Argument) → NameFits (IsUsable p) b
+  release_keeps : (access : Access) (o : Argument) {b : Argument} (modes : List Argument) → OperandFits p (BufferVariable access) (Given b)
       → some_passes (λ release. (release.commits && is_critical release.access) || some_passes (λ x. is_mismatched release (state_of p.regions x)) release.buffer) (release_of (Some (ReleaseBuffer access, o ∷ b ∷ modes))) ≡ false
       → CallKeeps p (ReleaseBuffer access) (o ∷ b ∷ modes)
-  release_keeps access o (Value (Variable x)) modes (own, a, at) rule =
+  release_keeps access o modes (buffer {x = x} (own, a, at)) rule =
       let release : Release = record { access = access; object = argument_name o; buffer = Some x; commits = has_commit modes } in
       let both = or_parts (has_commit modes && is_critical access) (is_mismatched release (state_of p.regions x)) rule in
       let matched : is_mismatched release (Some (BufferIn (Usable own a))) ≡ false = subst (λ (v : Option VariableState). is_mismatched release v ≡ false) at both.1 in
@@ -277,11 +277,11 @@ module _ (p : Point) where
       let held : state_of p.regions x ≡ Some (BufferIn (Usable access found.0)) =
       at ∙ ap (λ (c : Access). Some (BufferIn (Usable c a))) same ∙ ap (λ (y : Identifier). Some (BufferIn (Usable access y))) array in
       subst (λ (c : Argument). CallKeeps p (ReleaseBuffer access) (c ∷ Value (Variable x) ∷ modes)) (sym found.1) (held, λ commits. second_fails (has_commit modes) (is_critical access) both.0 commits)
-  release_keeps access o b modes h rule = absurd h
+  release_keeps access o modes (reference takes h) rule = elim takes [ ]
 
-  delete_keeps : (a : Argument) → NameFits (IsLive p) a → some_passes (is_array_in_use p.regions) (deleted_name (Some (DeleteLocalRef, a ∷ []))) ≡ false → CallKeeps p DeleteLocalRef (a ∷ [])
-  delete_keeps (Value (Variable x)) h rule = λ y access held. none_holds p (λ e. bytes_eq e.1 x) rule y access x held ((bytes_eq-Decides x x).1 refl)
-  delete_keeps a h rule = absurd h
+  delete_keeps : {a : Argument} → OperandFits p LocalVariable (Given a) → some_passes (is_array_in_use p.regions) (deleted_name (Some (DeleteLocalRef, a ∷ []))) ≡ false → CallKeeps p DeleteLocalRef (a ∷ [])
+  delete_keeps (local {x = x} h) rule = λ y access held. none_holds p (λ e. bytes_eq e.1 x) rule y access x held ((bytes_eq-Decides x x).1 refl)
+  delete_keeps (reference takes h) rule = elim takes [ ]
 
   pop_keeps : (arguments : List Argument) → (true && list_any (λ held. is_level p.regions.frames (state_of p.regions held.1)) (held_buffers p.regions)) ≡ false → (true && nat_le p.regions.frames 1) ≡ false → CallKeeps p PopLocalFrame arguments
   pop_keeps arguments level last = (
@@ -296,11 +296,11 @@ module _ (p : Point) where
       → some_passes (is_array_in_use p.regions) (deleted_name (Some (f, arguments))) ≡ false
       → (pops (Some (f, arguments)) && list_any (λ held. is_level p.regions.frames (state_of p.regions held.1)) (held_buffers p.regions)) ≡ false → (pops (Some (f, arguments)) && nat_le p.regions.frames 1) ≡ false → CallKeeps p f arguments
   call_keeps (GetBuffer access) arguments count fits read get release deleted popped last = get_keeps access arguments read get
-  call_keeps (ReleaseBuffer access) [] count fits read get release deleted popped last = absurd fits
-  call_keeps (ReleaseBuffer access) (o ∷ []) count fits read get release deleted popped last = absurd (fits.1)
-  call_keeps (ReleaseBuffer access) (o ∷ b ∷ modes) count fits read get release deleted popped last = release_keeps access o b modes fits.1.0 release
-  call_keeps DeleteLocalRef [] count fits read get release deleted popped last = absurd fits
-  call_keeps DeleteLocalRef (a ∷ []) count fits read get release deleted popped last = delete_keeps a fits.0 deleted
+  call_keeps (ReleaseBuffer access) (o ∷ b ∷ modes) count (next owner (next fits more)) read get release deleted popped last = release_keeps access o modes fits release
+  call_keeps (ReleaseBuffer access) (o ∷ []) count (next owner fits) read get release deleted popped last = elim fits [ ]
+  call_keeps (ReleaseBuffer access) [] count fits read get release deleted popped last = elim fits [ ]
+  call_keeps DeleteLocalRef (a ∷ []) count (next fits done) read get release deleted popped last = delete_keeps fits deleted
+  call_keeps DeleteLocalRef [] count fits read get release deleted popped last = elim fits [ ]
   call_keeps DeleteLocalRef (a ∷ b ∷ rest) count fits read get release deleted popped last = absurd (cc)
   call_keeps PopLocalFrame arguments count fits read get release deleted popped last = pop_keeps arguments popped last
   call_keeps f arguments count fits read get release deleted popped last = tt

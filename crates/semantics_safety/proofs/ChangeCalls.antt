@@ -6,7 +6,6 @@ use Rattle.std.proofs.lemmas.Slice.Eq.{bytes_eq-Decides}
 use Rattle.base.specs.Bytes.{Identifier, ByName, lookup}
 use Rattle.base.specs.declared.element.ElementType.{ElementType}
 use Rattle.syntax.specs.Tree.{SourceUnit}
-use Rattle.syntax.specs.Tree as tree
 use Rattle.class_rules.specs.Class.{Classes}
 use Rattle.jni.specs.declared.access.Access.{Access}
 use Rattle.jni.specs.declared.function.JniFunction.{JniFunction}
@@ -23,7 +22,7 @@ use Rattle.semantics.specs.Arguments.{Actual, actuals, look_up, variable_given}
 use Rattle.semantics.specs.CallEffects.{Throws, Leaves, NoResult, without_one, begun_with, overwritten, CallEffect}
 use Rattle.semantics.specs.CallStep.{failure}
 use Rattle.semantics.specs.Heap.{numbers_of}
-use Rattle.semantics.specs.Task.{Task, Target, Declared, Assigned, Tested, Dropped, Operand, Given, Invoke}
+use Rattle.semantics.specs.Task.{Task, Target, Declared, Assigned, Tested, Dropped, Operand, Invoke}
 use Rattle.semantics.specs.declared.event.Event.{Event}
 use Rattle.semantics.specs.Thread.{Thread, Shared, BuffersInUse, Advance, Advances, NoAdvance, sight_of}
 use Rattle.semantics.specs.Variable.{LocalRef, Elements, LocalArray, Buffer, StaticReference, Weakly, Variables, Statics, Deleted, assign, change}
@@ -31,6 +30,7 @@ use Rattle.semantics.proofs.AnswerKinds.{AnswersAs, EndingGlobal, EndingNoStatic
 use Rattle.semantics_safety.proofs.StepLaws.{LandsBy}
 use Rattle.semantics_safety.proofs.OwnerLaws.{CallLands, AnswerLands}
 use Rattle.semantics_safety.specs.Owners.{Owners, left_by}
+use Rattle.semantics_safety.specs.Points as rule
 use Rattle.semantics_safety.specs.Points.{Point, OperandsFit}
 use Rattle.semantics_safety.specs.Stands.{Goes, Stands}
 use Rattle.semantics_safety.specs.Wanted.{CallFits, Runs, ResultGoes, GoesOn}
@@ -112,15 +112,10 @@ module _ (unit : SourceUnit) (classes : Classes) (in_use : BuffersInUse) (k : �
     region_lands u size e is goes (Halting trap) = (whole, λ x r g. (r, g))
 
   -- the array is the last argument
-  array_last : (owner : ParameterKind) (u : ElementType) (operands : List Operand) → OperandsFit p (owner ∷ IntNumber ∷ IntNumber ∷ ArrayVariable u ∷ []) operands
+  array_last : (owner : ParameterKind) (u : ElementType) {operands : List Operand} → OperandsFit p (owner ∷ IntNumber ∷ IntNumber ∷ ArrayVariable u ∷ []) operands
       → (size : ℕ) × (type_in p.names (variable_given (map (look_up (sight_of s t)) (zip (owner ∷ IntNumber ∷ IntNumber ∷ ArrayVariable u ∷ []) operands)) 3) ≡ Some (types.Array u size))
-  array_last owner u (a ∷ b ∷ c ∷ Given (tree.Value (tree.Variable x)) ∷ []) fit = fit.1.1.1.0
-  array_last owner u (a ∷ b ∷ c ∷ Given (tree.Value (tree.Variable x)) ∷ o ∷ more) fit = absurd fit.1.1.1.1
-  array_last owner u (a ∷ b ∷ c ∷ o ∷ more) fit = absurd fit.1.1.1.0
-  array_last owner u (a ∷ b ∷ c ∷ []) fit = absurd fit.1.1.1
-  array_last owner u (a ∷ b ∷ []) fit = absurd fit.1.1
-  array_last owner u (a ∷ []) fit = absurd fit.1
-  array_last owner u [] fit = absurd fit
+  array_last owner u (rule.next a (rule.next b (rule.next c (rule.next (rule.array {size = size} is) rule.done)))) = (size, is)
+  array_last owner u (rule.next a (rule.next b (rule.next c (rule.next (rule.reference takes d) rule.done)))) = elim takes [ ]
 
   module _ (f : JniFunction) (target : Target) (operands : List Operand) (args : List Actual) where
     call_fits : (target : Target) → Runs (Invoke line target f operands) (GoesOn rest) p → CallFits p f operands
@@ -140,7 +135,7 @@ module _ (unit : SourceUnit) (classes : Classes) (in_use : BuffersInUse) (k : �
     region_call_lands looked is runs =
         let last = filled_last f is in
         let parameters = last.1.1 (length operands) in
-        let array = array_last last.0 last.1.0 operands (subst (λ (l : List ParameterKind). OperandsFit p l operands) parameters (call_fits target runs).types) in
+        let array = array_last last.0 last.1.0 (subst (λ (l : List ParameterKind). OperandsFit p l operands) parameters (call_fits target runs).types) in
         let given : args ≡ map (look_up (sight_of s t)) (zip (last.0 ∷ IntNumber ∷ IntNumber ∷ ArrayVariable last.1.0 ∷ []) operands) =
         looked ∙ ap (λ (l : List ParameterKind). map (look_up (sight_of s t)) (zip l operands)) parameters in
         plain_call_lands unit classes in_use k s t line f args rest p stands (subst IsPlain (sym is) tt) whole target operands (λ get away room goes.

@@ -6,15 +6,11 @@ use Rattle.std.specs.Str.{bytes_eq}
 use Rattle.std.proofs.lemmas.Bool.Decides.{nat_tests}
 use Rattle.std.proofs.lemmas.Slice.Eq.{bytes_eq-Decides}
 use Rattle.base.specs.Bytes.{Identifier, ByName, lookup}
-use Rattle.syntax.specs.Tree as tree
 use Rattle.syntax.specs.declared.expr.Constant.TheVariants as constants
-use Rattle.syntax.specs.Tree.{Argument}
 use Rattle.jni.specs.declared.access.Access.{Access}
 use Rattle.jni.specs.Access.{is_critical}
 use Rattle.jni.specs.declared.function.JniFunction.{JniFunction}
-use Rattle.jni.specs.JniFunction.{parameters_for}
 use Rattle.jni.specs.declared.kinds.ParameterKind.{ParameterKind}
-use Rattle.jni.specs.declared.kinds.ParameterKind.TheVariants.{FieldID, IntNumber, TextBytes, AnyReference, LocalVariable, StaticVariable, WeakVariable, ArrayVariable, BufferVariable, Mode, IsCopy, MethodID, Passed}
 use Rattle.type_rules.specs.declared.ty.ExprType.{ExprType}
 use Rattle.type_rules.specs.ExprTypes.{type_in}
 use Rattle.type_rules.specs.declared.ty.ExprType.TheVariants as types
@@ -23,16 +19,17 @@ use Rattle.semantics.specs.Object.{Reference}
 use Rattle.region_rules.specs.RegionRules.{is_critical_call}
 use Rattle.region_rules.specs.RegionStates.{VariableState, Untested, Usable, ReferenceAt, BufferIn, state_of}
 use Rattle.semantics.specs.Task as task
-use Rattle.semantics.specs.Task.{Task, SetScalar, SetElement, Invoke, Print, Branch, Loop, Target, Declared, Assigned, Tested, Dropped, Operand, NumberOperand, Given, PassedName}
+use Rattle.semantics.specs.Task.{Task, SetScalar, SetElement, Invoke, Print, Branch, Loop, Target, Declared, Assigned, Tested, Dropped, Operand}
 use Rattle.semantics.specs.Term as term
 use Rattle.semantics.specs.Term.{Term, Done, Read, IsNull, Prefix, And, Or, Binary}
 use Rattle.semantics.specs.Thread.{Frame}
 use Rattle.semantics.specs.Variable.{Variable, LocalRef, Elements, Buffer, NoBuffer, Copy, View, StaticReference, Variables, Statics, viewed}
 use Rattle.semantics_safety.specs.Owners.{Owners, IsOwn}
-use Rattle.semantics_safety.specs.Points.{Point, AreOnce, IsLive, IsUsable, NullTestFits, ElementsFit, ReferenceFits, AnyReferenceFits, HasType, ReferenceArgumentFits, AnyReferenceArgumentFits, NameFits, FieldArgumentFits, ModeFits, CopyFits, TextFits, GivenFits, OperandFits, OperandsFit, is_copy, owns, owners, PassedFits, NullFits, MethodArgumentFits}
+use Rattle.semantics_safety.specs.Points as rule
+use Rattle.semantics_safety.specs.Points.{Point, AreOnce, IsLive, IsUsable, NullTestFits, ElementsFit, ReferenceFits, AnyReferenceFits, HasType, PassedFits, OperandFits, OperandsFit, is_copy, owns, owners}
 use Rattle.semantics_safety.specs.StepSafe.{MayMeetView, is_lent, references_at, IsAlive}
 use Rattle.semantics_safety.specs.Stands.{VariableFits, IsOf, Shows, Stands}
-use Rattle.semantics_safety.specs.Used.{term_names, argument_names, operand_names, task_names}
+use Rattle.semantics_safety.specs.Used.{term_names, operand_names, task_names}
 use Rattle.semantics_safety.specs.Wanted.{Holds, HasNoView, MeetsViews, MayReturnFrom, ReturnedFits, ReturnFits, Runs}
 use Rattle.semantics_safety.specs.WeakNames.{WeakNames}
 use Rattle.semantics_safety.proofs.NameLaws.{front_same, front_other}
@@ -250,39 +247,11 @@ module _ (ss : Statics) (vs : Variables) (frames : List Frame) (p : Point) {weak
 
   -- ---- arguments
 
-  named_alive : (ok : Identifier → Type 0) (a : Argument) → ((x : Identifier) → ok x → Alive x) → NameFits ok a → AllByRecursion Alive (argument_names a)
-  named_alive ok (tree.Value (tree.Variable x)) live h = (live x h, tt)
-  named_alive ok a live h = absurd h
-
-  reference_argument_alive : (a : Argument) → ReferenceArgumentFits p a → AllByRecursion Alive (argument_names a)
-  reference_argument_alive (tree.Value (tree.Named constants.Null)) h = tt
-  reference_argument_alive (tree.Value (tree.Variable x)) h = (reference_alive x (type_in p.names x) refl h, tt)
-  reference_argument_alive a h = absurd h
-
-  any_argument_alive : (a : Argument) → AnyReferenceArgumentFits p a → AllByRecursion Alive (argument_names a)
-  any_argument_alive (tree.Value (tree.Named constants.Null)) h = tt
-  any_argument_alive (tree.Value (tree.Variable x)) h = (any_reference_alive x (type_in p.names x) refl h, tt)
-  any_argument_alive a h = absurd h
-
   type_alive : (x : Identifier) (s : ExprType) → (s ≡ types.Ref → ⊥) → type_in p.names x ≡ Some s → Alive x
   type_alive x s away e = other_alive x s (lookup x vs) (lookup x ss) away (stands.types x s e)
 
   usable_alive : (x : Identifier) → IsUsable p x → Alive x
   usable_alive x (access, a, e) = let shown = stands.shows x _ e in subst (Serves x) (sym shown.2) (tt, tt)
-
-  field_argument_alive : (a : Argument) → FieldArgumentFits p a → AllByRecursion Alive (argument_names a)
-  field_argument_alive (tree.Value (tree.Named c)) h = tt
-  field_argument_alive (tree.Value (tree.Variable x)) h = (type_alive x types.FieldId (λ c. cc) h, tt)
-  field_argument_alive a h = absurd h
-
-  method_argument_alive : (a : Argument) → MethodArgumentFits p a → AllByRecursion Alive (argument_names a)
-  method_argument_alive (tree.Value (tree.Named c)) h = tt
-  method_argument_alive (tree.Value (tree.Variable x)) h = (type_alive x types.MethodId (λ c. cc) h, tt)
-  method_argument_alive a h = absurd h
-
-  null_argument_alive : (a : Argument) → NullFits a → AllByRecursion Alive (argument_names a)
-  null_argument_alive (tree.Value (tree.Named constants.Null)) h = tt
-  null_argument_alive a h = absurd h
 
   passed_alive : (x : Identifier) (o : Option ExprType) → type_in p.names x ≡ o → PassedFits p x o → Alive x
   passed_alive x (Some types.Jint) e h = type_alive x types.Jint (λ c. cc) e
@@ -290,49 +259,28 @@ module _ (ss : Statics) (vs : Variables) (frames : List Frame) (p : Point) {weak
   passed_alive x (Some types.Global) e h = type_alive x types.Global (λ c. cc) e
   passed_alive x o e h = absurd h
 
-  mode_alive : (a : Argument) → ModeFits a → AllByRecursion Alive (argument_names a)
-  mode_alive (tree.Value (tree.Number n unsigned)) h = tt
-  mode_alive (tree.Value (tree.Named c)) h = tt
-  mode_alive a h = absurd h
+  typed_alive : (x : Identifier) {s : ExprType} → (s ≡ types.Ref → ⊥) → type_in p.names x ≡ Some s → AllByRecursion Alive (x ∷ [])
+  typed_alive x {s} away e = (type_alive x s away e, tt)
 
-  copy_alive : (a : Argument) → CopyFits p a → AllByRecursion Alive (argument_names a)
-  copy_alive (tree.Value (tree.Named c)) h = tt
-  copy_alive (tree.AddressOf x) h = (type_alive x types.Flag (λ c. cc) h, tt)
-  copy_alive a h = absurd h
+  operand_alive : {parameter : ParameterKind} {o : Operand} → OperandFits p parameter o → AllByRecursion Alive (operand_names o)
+  operand_alive (rule.number {t = t} h) = term_alive t types.Jint h
+  operand_alive (rule.passed_number {t = t} h) = term_alive t types.Jint h
+  operand_alive (rule.passed_name {x = x} h) = (passed_alive x (type_in p.names x) refl h, tt)
+  operand_alive (rule.reference takes (rule.named {x = x} h)) = (reference_alive x (type_in p.names x) refl h, tt)
+  operand_alive (rule.any_reference (rule.named {x = x} h)) = (any_reference_alive x (type_in p.names x) refl h, tt)
+  operand_alive (rule.local {x = x} h) = (live_alive x h, tt)
+  operand_alive (rule.buffer {x = x} h) = (usable_alive x h, tt)
+  operand_alive (rule.global {x = x} e) = typed_alive x (λ c. cc) e
+  operand_alive (rule.weak {x = x} e) = typed_alive x (λ c. cc) e
+  operand_alive (rule.array {x = x} e) = typed_alive x (λ c. cc) e
+  operand_alive (rule.field (rule.named {x = x} e)) = typed_alive x (λ c. cc) e
+  operand_alive (rule.method (rule.named {x = x} e)) = typed_alive x (λ c. cc) e
+  operand_alive (rule.told {x = x} e) = typed_alive x (λ c. cc) e
+  operand_alive h = tt
 
-  text_alive : (a : Argument) → TextFits a → AllByRecursion Alive (argument_names a)
-  text_alive (tree.Text bytes) h = tt
-  text_alive a h = absurd h
-
-  given_alive : (parameter : ParameterKind) (a : Argument) → GivenFits p parameter a → AllByRecursion Alive (argument_names a)
-  given_alive IntNumber a h = absurd h
-  given_alive TextBytes a h = text_alive a h
-  given_alive LocalVariable a h = named_alive (IsLive p) a live_alive h
-  given_alive StaticVariable a h = named_alive (λ x. type_in p.names x ≡ Some types.Global) a (λ x e. type_alive x types.Global (λ c. cc) e) h
-  given_alive WeakVariable a h = named_alive (λ x. type_in p.names x ≡ Some types.Weak) a (λ x e. type_alive x types.Weak (λ c. cc) e) h
-  given_alive AnyReference a h = any_argument_alive a h
-  given_alive FieldID a h = field_argument_alive a h
-  given_alive MethodID a h = method_argument_alive a h
-  given_alive Passed a h = null_argument_alive a h
-  given_alive (ArrayVariable t) a h = named_alive (λ x. (size : ℕ) × (type_in p.names x ≡ Some (types.Array t size))) a (λ x e. type_alive x (types.Array t e.0) (λ c. cc) e.1) h
-  given_alive (BufferVariable access) a h = named_alive (IsUsable p) a usable_alive h
-  given_alive Mode a h = mode_alive a h
-  given_alive IsCopy a h = copy_alive a h
-  given_alive parameter a h = reference_argument_alive a h
-
-  operand_alive : (parameter : ParameterKind) (o : Operand) → OperandFits p parameter o → AllByRecursion Alive (operand_names o)
-  operand_alive IntNumber (NumberOperand t) h = term_alive t types.Jint h
-  operand_alive Passed (NumberOperand t) h = term_alive t types.Jint h
-  operand_alive Passed (PassedName x) h = (passed_alive x (type_in p.names x) refl h, tt)
-  operand_alive parameter (NumberOperand t) h = absurd h
-  operand_alive parameter (PassedName x) h = absurd h
-  operand_alive parameter (Given a) h = given_alive parameter a h
-
-  operands_alive : (parameters : List ParameterKind) (operands : List Operand) → OperandsFit p parameters operands → AllByRecursion Alive (flat_map operand_names operands)
-  operands_alive [] [] h = tt
-  operands_alive [] (o ∷ operands) h = absurd h
-  operands_alive (parameter ∷ parameters) [] h = absurd h
-  operands_alive (parameter ∷ parameters) (o ∷ operands) h = both_alive (operand_names o) (flat_map operand_names operands) (operand_alive parameter o h.0) (operands_alive parameters operands h.1)
+  operands_alive : {parameters : List ParameterKind} {operands : List Operand} → OperandsFit p parameters operands → AllByRecursion Alive (flat_map operand_names operands)
+  operands_alive rule.done = tt
+  operands_alive (rule.next {o = o} {operands = operands} h rest) = both_alive (operand_names o) (flat_map operand_names operands) (operand_alive h) (operands_alive rest)
 
   returned_alive : (x : Identifier) (o : Option ExprType) → type_in p.names x ≡ o → ReturnedFits p x o → Alive x
   returned_alive x (Some types.Ref) e h = live_alive x h
@@ -356,10 +304,10 @@ module _ (ss : Statics) (vs : Variables) (frames : List Frame) (p : Point) {weak
   return_alive (Binary op a b) h = term_alive (Binary op a b) types.Jint h
 
   call_alive : (line : ℕ) (target : Target) (f : JniFunction) (operands : List Operand) (k : Point → Type 0) → Runs (Invoke line target f operands) k p → AllByRecursion Alive (flat_map operand_names operands)
-  call_alive line (Tested a b) f operands k r = operands_alive (parameters_for f (length operands)) operands (r.0).types
-  call_alive line (Declared kind x) f operands k r = operands_alive (parameters_for f (length operands)) operands (r.0).types
-  call_alive line (Assigned x) f operands k r = operands_alive (parameters_for f (length operands)) operands (r.0).types
-  call_alive line Dropped f operands k r = operands_alive (parameters_for f (length operands)) operands (r.0).types
+  call_alive line (Tested a b) f operands k r = operands_alive (r.0).types
+  call_alive line (Declared kind x) f operands k r = operands_alive (r.0).types
+  call_alive line (Assigned x) f operands k r = operands_alive (r.0).types
+  call_alive line Dropped f operands k r = operands_alive (r.0).types
 
   -- each name that a step uses
   each_used : (t : Task) (k : Point → Type 0) → Runs t k p → AllByRecursion Alive (task_names t)

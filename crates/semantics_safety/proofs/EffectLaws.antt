@@ -28,6 +28,7 @@ use Rattle.semantics.specs.Thread.{Frame}
 use Rattle.semantics.specs.Value.{Value, Int, Truth, Outcome, Gives, Traps, Stuck, outcome_map}
 use Rattle.semantics.specs.Variable.{StaticReference, Variable, LocalRef, Variables, Statics}
 use Rattle.semantics_safety.specs.Owners.{Owners}
+use Rattle.semantics_safety.specs.Points as rule
 use Rattle.semantics_safety.specs.Points.{Point, value_type, ElementsFit, HasType, OperandFits, OperandsFit, PassedFits}
 use Rattle.semantics_safety.specs.Stands.{Stands}
 use Rattle.semantics_safety.specs.Wanted.{at, Teaches, Nothing, ForNull, ForOther, IsTrueNow, IsFalseNow, Closes, Outside, MayReturnFrom, ReturnedFits, ReturnFits, SetsNumber, ResultGoes, CallFits, CallKeeps, operand_argument, call_seen, RunsTest, RunsBlock, Turns, Runs, GoesOn}
@@ -203,33 +204,23 @@ module _ (heap : Heap) (ss : Statics) (vs : Variables) (frames : List Frame) (p 
   OperandsGo parameters before (Traps trap) = Unit {0}
   OperandsGo parameters before Stuck = ⊥
 
-  after_go : (parameter : ParameterKind) (parameters : List ParameterKind) (o : Operand) (before : List Operand) (further : Outcome (List Operand)) → OperandFits p parameter o → OperandsGo parameters before further → OperandsGo (parameter ∷ parameters) (o ∷ before) (outcome_map (λ os. o ∷ os) further)
-  after_go parameter parameters o before (Gives after) h g = ((h, g.0), ap (λ (l : List Argument). operand_argument o ∷ l) g.1)
-  after_go parameter parameters o before (Traps trap) h g = tt
-  after_go parameter parameters o before Stuck h g = g
+  after_go : {parameter : ParameterKind} (parameters : List ParameterKind) {o : Operand} (before : List Operand) (further : Outcome (List Operand)) → OperandFits p parameter o → OperandsGo parameters before further → OperandsGo (parameter ∷ parameters) (o ∷ before) (outcome_map (λ os. o ∷ os) further)
+  after_go parameters {o} before (Gives after) h g = (rule.next h g.0, ap (λ (l : List Argument). operand_argument o ∷ l) g.1)
+  after_go parameters before (Traps trap) h g = tt
+  after_go parameters before Stuck h g = g
 
   -- a number takes a step, whatever is to be given
-  number_type : (parameter : ParameterKind) (t : Term) → OperandFits p parameter (NumberOperand t) → HasType p t types.Jint
-  number_type IntNumber t h = h
-  number_type Passed t h = h
-  number_type parameter t h = absurd h
-
-  number_fits : (parameter : ParameterKind) (t : Term) → OperandFits p parameter (NumberOperand t) → (u : Term) → HasType p u types.Jint → OperandFits p parameter (NumberOperand u)
-  number_fits IntNumber t h u is = is
-  number_fits Passed t h u is = is
-  number_fits parameter t h u is = absurd h
-
   number_go : (parameter : ParameterKind) (parameters : List ParameterKind) (e : Term) (before : List Operand) (o : Reduction) → ((u : Term) → HasType p u types.Jint → OperandFits p parameter (NumberOperand u)) → TermFits p types.Jint o → OperandsFit p parameters before
       → OperandsGo (parameter ∷ parameters) (NumberOperand e ∷ before) (outcome_map (λ (u : Term). NumberOperand u ∷ before) o)
-  number_go parameter parameters e before (Gives u) fits h g = ((fits u h, g), refl)
+  number_go parameter parameters e before (Gives u) fits h g = (rule.next (fits u h) g, refl)
   number_go parameter parameters e before (Traps trap) fits h g = tt
   number_go parameter parameters e before Stuck fits h g = h
 
-  number_steps : (parameter : ParameterKind) (parameters : List ParameterKind) (e : Term) (before : List Operand) → OperandFits p parameter (NumberOperand e) → OperandsFit p parameters before → (is_ready sight.number before ≡ false → OperandsGo parameters before (reduce_first sight before)) → (is_given sight.number (NumberOperand e) && is_ready sight.number before) ≡ false
+  number_steps : (parameter : ParameterKind) (parameters : List ParameterKind) (e : Term) (before : List Operand) → ((u : Term) → HasType p u types.Jint → OperandFits p parameter (NumberOperand u)) → HasType p e types.Jint → OperandsFit p parameters before → (is_ready sight.number before ≡ false → OperandsGo parameters before (reduce_first sight before)) → (is_given sight.number (NumberOperand e) && is_ready sight.number before) ≡ false
       → OperandsGo (parameter ∷ parameters) (NumberOperand e ∷ before) (reduce_number e before (reduce sight e) (reduce_first sight before))
-  number_steps parameter parameters (Done v) before h g further e = after_go parameter parameters (NumberOperand (Done v)) before (reduce_first sight before) h (further e)
-  number_steps parameter parameters t before h g further e =
-      number_go parameter parameters t before (reduce sight t) (number_fits parameter t h) (reduce_fits p sight (sees ss vs frames p heap stands) t types.Jint (number_type parameter t h) tt) g
+  number_steps parameter parameters (Done v) before fits h g further e = after_go parameters before (reduce_first sight before) (fits (Done v) h) (further e)
+  number_steps parameter parameters t before fits h g further e =
+      number_go parameter parameters t before (reduce sight t) fits (reduce_fits p sight (sees ss vs frames p heap stands) t types.Jint h tt) g
 
   -- a name that a method is given is that of a number, or of a reference
   abbrev PassedValue : Outcome Value → Type 0
@@ -247,26 +238,18 @@ module _ (heap : Heap) (ss : Statics) (vs : Variables) (frames : List Frame) (p 
   name_passed x (Some types.Global) e h = let there = stands.types x types.Global e in subst (λ (v : Option Variable). PassedValue (scalar v)) (sym there.0) tt
   name_passed x o e h = absurd h
 
-  name_kind : (parameter : ParameterKind) (x : Identifier) → OperandFits p parameter (PassedName x) → (parameter ≡ Passed) × PassedFits p x (type_in p.names x)
-  name_kind Passed x h = (refl, h)
-  name_kind parameter x h = absurd h
-
   name_steps : (parameters : List ParameterKind) (x : Identifier) (before : List Operand) (o : Outcome Value) → PassedValue o → PassedFits p x (type_in p.names x) → OperandsFit p parameters before → (is_ready sight.number before ≡ false → OperandsGo parameters before (reduce_first sight before)) → (is_no_number o && is_ready sight.number before) ≡ false
       → OperandsGo (Passed ∷ parameters) (PassedName x ∷ before) (reduce_name x before o (reduce_first sight before))
-  name_steps parameters x before (Gives v) is h g further e = ((is, g), refl)
-  name_steps parameters x before (Traps trap) is h g further e = after_go Passed parameters (PassedName x) before (reduce_first sight before) h (further e)
-  name_steps parameters x before Stuck is h g further e = after_go Passed parameters (PassedName x) before (reduce_first sight before) h (further e)
+  name_steps parameters x before (Gives v) is h g further e = (rule.next (rule.passed_number is) g, refl)
+  name_steps parameters x before (Traps trap) is h g further e = after_go parameters before (reduce_first sight before) (rule.passed_name h) (further e)
+  name_steps parameters x before Stuck is h g further e = after_go parameters before (reduce_first sight before) (rule.passed_name h) (further e)
 
-  operands_go : (parameters : List ParameterKind) (operands : List Operand) → OperandsFit p parameters operands → is_ready sight.number operands ≡ false → OperandsGo parameters operands (reduce_first sight operands)
-  operands_go [] [] h e = absurd (cc)
-  operands_go [] (o ∷ operands) h e = absurd h
-  operands_go (parameter ∷ parameters) [] h e = absurd h
-  operands_go (parameter ∷ parameters) (NumberOperand t ∷ operands) h e = number_steps parameter parameters t operands h.0 h.1 (operands_go parameters operands h.1) e
-  operands_go (parameter ∷ parameters) (PassedName x ∷ operands) h e =
-      let kind = name_kind parameter x h.0 in
-      subst (λ (q : ParameterKind). OperandsGo (q ∷ parameters) (PassedName x ∷ operands) (reduce_first sight (PassedName x ∷ operands))) (sym kind.0)
-      (name_steps parameters x operands (sight.number x) (name_passed x (type_in p.names x) refl kind.1) kind.1 h.1 (operands_go parameters operands h.1) e)
-  operands_go (parameter ∷ parameters) (Given a ∷ operands) h e = after_go parameter parameters (Given a) operands (reduce_first sight operands) h.0 (operands_go parameters operands h.1 e)
+  operands_go : {parameters : List ParameterKind} {operands : List Operand} → OperandsFit p parameters operands → is_ready sight.number operands ≡ false → OperandsGo parameters operands (reduce_first sight operands)
+  operands_go rule.done e = absurd (cc)
+  operands_go (rule.next {kinds = kinds} {operands = operands} (rule.number {t = t} h) g) e = number_steps IntNumber kinds t operands (λ u is. rule.number is) h g (operands_go g) e
+  operands_go (rule.next {kinds = kinds} {operands = operands} (rule.passed_number {t = t} h) g) e = number_steps Passed kinds t operands (λ u is. rule.passed_number is) h g (operands_go g) e
+  operands_go (rule.next {kinds = kinds} {operands = operands} (rule.passed_name {x = x} h) g) e = name_steps kinds x operands (sight.number x) (name_passed x (type_in p.names x) refl h) h g (operands_go g) e
+  operands_go (rule.next {kinds = kinds} {operands = operands} h g) e = after_go kinds operands (reduce_first sight operands) h (operands_go g e)
 
   -- as many
   same_count : (before after : List Operand) → map operand_argument after ≡ map operand_argument before → length after ≡ length before
@@ -314,7 +297,7 @@ module _ (heap : Heap) (ss : Statics) (vs : Variables) (frames : List Frame) (p 
   calls line target f operands r =
       cond_both (is_ready sight.number operands) (Calls line target f (actuals sight f operands)) (goes_on line (Invoke line target f) (reduce_first sight operands)) Goes
       (λ e. (operands, refl, e, r))
-      (λ e. operands_stepped line target f operands (reduce_first sight operands) r (operands_go (parameters_for f (length operands)) operands ((call_fits line target f operands r).types) e))
+      (λ e. operands_stepped line target f operands (reduce_first sight operands) r (operands_go (call_fits line target f operands r).types e))
 
   -- ---- all tasks
 

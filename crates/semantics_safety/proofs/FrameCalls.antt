@@ -34,6 +34,7 @@ use Rattle.std.specs.Str.{bytes_eq}
 use Rattle.semantics.proofs.AnswerKinds.{AnswersAs, EndingLocal, EndingNoLocal, EndsLocal, Halting, PopsFrame, Popping, Pushing, PushingNone, PushesFrame, answers_as}
 use Rattle.semantics_safety.proofs.OwnerLaws.{quiet_by, stands_with, AnswerLands, CallLands}
 use Rattle.semantics_safety.specs.Owners.{Owners, after_answer, left_by, other_than, answer_to}
+use Rattle.semantics_safety.specs.Points as rule
 use Rattle.semantics_safety.specs.Points.{Point, OperandsFit, owners}
 use Rattle.semantics_safety.specs.StepSafe.{references_at}
 use Rattle.semantics_safety.specs.Stands.{copies, Goes, Stands, IsOwned}
@@ -112,13 +113,11 @@ module _ (unit : SourceUnit) (classes : Classes) (in_use : BuffersInUse) (k : �
           (deleted x level shown.0 target args get away e shown.1 goes refl (reference_is x level shown.0 shown.1) (answers_as unit classes k (sight_of_call s t DeleteLocalRef args) DeleteLocalRef))
       by_trap (Some trap) = (whole, λ x r g. (r, g))
 
-  delete_operands : (target : Target) (operands : List Operand) → IsNoTest target → OperandsFit p (LocalVariable ∷ []) operands
+  delete_operands : (target : Target) {operands : List Operand} → IsNoTest target → OperandsFit p (LocalVariable ∷ []) operands
       → ResultGoes target GivesNothing (get_of (call_seen DeleteLocalRef operands)) (GoesOn rest) (at p (states.after_call p.regions (call_seen DeleteLocalRef operands)))
       → CallLands unit classes in_use k s t line rest weak own target DeleteLocalRef (actuals (sight_of s t) DeleteLocalRef operands)
-  delete_operands target (Given (tree.Value (tree.Variable x)) ∷ []) away h goes = delete_known x h.0.0 target _ away h.0.1 goes
-  delete_operands target (Given (tree.Value (tree.Variable x)) ∷ o ∷ operands) away h goes = absurd h.1
-  delete_operands target [] away h goes = absurd h
-  delete_operands target (o ∷ operands) away h goes = absurd h.0
+  delete_operands target away (rule.next (rule.local {x = x} (level, live)) rule.done) goes = delete_known x level target _ away live goes
+  delete_operands target away (rule.next (rule.reference takes fits) rule.done) goes = elim takes [ ]
 
   -- DeleteLocalRef
   pub delete_lands : (target : Target) (operands : List Operand) → Runs (Invoke line target DeleteLocalRef operands) (GoesOn rest) p
@@ -127,9 +126,9 @@ module _ (unit : SourceUnit) (classes : Classes) (in_use : BuffersInUse) (k : �
     where
       no_push : DeleteLocalRef ≡ PushLocalFrame → ⊥
       no_push e = cc
-  delete_lands (Declared kind x) operands r = delete_operands (Declared kind x) operands tt r.0.types r.2
-  delete_lands (Assigned x) operands r = delete_operands (Assigned x) operands tt r.0.types r.2
-  delete_lands Dropped operands r = delete_operands Dropped operands tt r.0.types r.2
+  delete_lands (Declared kind x) operands r = delete_operands (Declared kind x) tt r.0.types r.2
+  delete_lands (Assigned x) operands r = delete_operands (Assigned x) tt r.0.types r.2
+  delete_lands Dropped operands r = delete_operands Dropped tt r.0.types r.2
 
   -- ---- a frame begins
 

@@ -43,6 +43,7 @@ use Rattle.semantics.proofs.CheckLaws.{passed}
 use Rattle.semantics.proofs.AnswerKinds.{AnswersAs, Copying, GetsBuffer, Halting, Viewing, answers_as}
 use Rattle.semantics_safety.proofs.OwnerLaws.{put_by, AnswerLands, CallLands}
 use Rattle.semantics_safety.specs.Owners.{Owners, left_by, answer_to}
+use Rattle.semantics_safety.specs.Points as rule
 use Rattle.semantics_safety.specs.Points.{Point, OperandFits, OperandsFit, is_copy, owns}
 use Rattle.semantics_safety.specs.Stands.{VariableFits, IsOf, Lends, Shows, Goes, Stands}
 use Rattle.semantics_safety.specs.Wanted.{Holds, IsNew, DeclaresResult, AssignsResult, ResultGoes, Runs, GoesOn, CallKeeps, call_seen, operand_argument, at, named}
@@ -240,10 +241,10 @@ module _ (unit : SourceUnit) (classes : Classes) (in_use : BuffersInUse) (k : �
   abbrev told_in : Operand → Option Identifier
   told_in c = address_in_actual (Some (look_up (sight_of s t) (IsCopy, c)))
 
-  told_fits : (c : Operand) → OperandFits p IsCopy c → (told_in c ≡ None) ⊎ ((x : Identifier) × (told_in c ≡ Some x) × (type_in p.names x ≡ Some types.Flag))
-  told_fits (Given (tree.Value (tree.Named n))) fit = inl refl
-  told_fits (Given (tree.AddressOf y)) fit = inr (y, refl, fit)
-  told_fits c fit = absurd fit
+  told_fits : {c : Operand} → OperandFits p IsCopy c → (told_in c ≡ None) ⊎ ((x : Identifier) × (told_in c ≡ Some x) × (type_in p.names x ≡ Some types.Flag))
+  told_fits rule.not_told = inl refl
+  told_fits (rule.told {x = y} flag) = inr (y, refl, flag)
+  told_fits (rule.reference takes fits) = elim takes [ ]
 
   -- the arguments of such a call
   abbrev got_with : Access → Identifier → Operand → List Actual
@@ -279,7 +280,7 @@ module _ (unit : SourceUnit) (classes : Classes) (in_use : BuffersInUse) (k : �
     buffer_given answer left b lent =
         put_by weak target _ (left_by answer (got_with access a c) (length t.frames) own) own (λ vs. refl) (λ y other. left y) s.statics target (BufferResult b) _ _
         (subst (λ (y : Option Identifier). Lands weak own s.statics (put target (BufferResult b) (record s { heap = s.heap ++ [] }) (record t { tasks = Some (tasks_after line target false ++ rest); variables = tell_copy y (BufferResult b) t.variables }))) (sym (told_is access a c))
-        (got access a level here_a (Some n) at_a target away goes (record s { heap = s.heap ++ [] }) refl b lent (told_in c) (told_fits c fit)))
+        (got access a level here_a (Some n) at_a target away goes (record s { heap = s.heap ++ [] }) refl b lent (told_in c) (told_fits fit)))
 
     same_object : object_given (got_with access a c) 0 ≡ n
     same_object = got_of access a c ∙ ap (object_of a) at_a
@@ -302,11 +303,9 @@ module _ (unit : SourceUnit) (classes : Classes) (in_use : BuffersInUse) (k : �
   get_operands : (access : Access) (target : Target) (operands : List Operand) → IsNoTest target → CallKeeps p (GetBuffer access) (map operand_argument operands) → OperandsFit p (owner access ∷ IsCopy ∷ []) operands
       → ResultGoes target (GivesBuffer access) (get_of (call_seen (GetBuffer access) operands)) (GoesOn rest) p
       → CallLands unit classes in_use k s t line rest weak own target (GetBuffer access) (actuals (sight_of s t) (GetBuffer access) operands)
-  get_operands access target (Given (tree.Value (tree.Variable a)) ∷ c ∷ []) away (level, e) fit goes =
+  get_operands access target (Given (tree.Value (tree.Variable a)) ∷ operands) away (level, e) (rule.next object (rule.next {o = c} fit rule.done)) goes =
       let shown = stands.shows a (ReferenceAt level true) e in
-      got_at access a c level shown.0 target away e shown.1 fit.1.0 goes (trap_of_call classes s t target (GetBuffer access) (got_with access a c)) refl
-  get_operands access target (Given (tree.Value (tree.Variable a)) ∷ c ∷ o ∷ operands) away rules fit goes = absurd fit.1.1
-  get_operands access target (Given (tree.Value (tree.Variable a)) ∷ []) away rules fit goes = absurd fit.1
+      got_at access a c level shown.0 target away e shown.1 fit goes (trap_of_call classes s t target (GetBuffer access) (got_with access a c)) refl
   get_operands access target operands away rules fit goes = absurd rules
 
   get_no_push : (access : Access) → GetBuffer access ≡ PushLocalFrame → ⊥

@@ -36,7 +36,8 @@ use Rattle.semantics.proofs.AnswerFacts.{frees_in}
 use Rattle.semantics.proofs.AnswerKinds.{AnswersAs, CopyingBack, Freeing, Halting, ReleasesBuffer, answers_as}
 use Rattle.semantics_safety.proofs.OwnerLaws.{AnswerLands, CallLands}
 use Rattle.semantics_safety.specs.Owners.{Owners, after_answer, left_by, answer_to}
-use Rattle.semantics_safety.specs.Points.{Point, OperandsFit, is_copy}
+use Rattle.semantics_safety.specs.Points as rule
+use Rattle.semantics_safety.specs.Points.{Point, OperandFits, OperandsFit, is_copy}
 use Rattle.semantics_safety.specs.Stands.{VariableFits, Shows, Goes, Stands}
 use Rattle.semantics_safety.specs.Wanted.{Runs, ResultGoes, GoesOn, CallKeeps, operand_argument, call_seen, at}
 use Rattle.semantics_safety.specs.WeakNames.{WeakNames}
@@ -125,12 +126,12 @@ module _ (unit : SourceUnit) (classes : Classes) (in_use : BuffersInUse) (k : �
   given_to access a x modes = actuals (sight_of s t) (ReleaseBuffer access) (Given (tree.Value (tree.Variable a)) ∷ Given (tree.Value (tree.Variable x)) ∷ modes)
 
   -- a mode commits where it gives no buffer up
-  commit_is : (m : Operand) → OperandsFit p (Mode ∷ []) (m ∷ []) → has_commit (operand_argument m ∷ []) ≡ not (frees_in (mode_in_actual (Some (look_up (sight_of s t) (Mode, m)))))
-  commit_is (Given (tree.Value (tree.Number n unsigned))) fit = refl
-  commit_is (Given (tree.Value (tree.Named constants.Commit))) fit = refl
-  commit_is (Given (tree.Value (tree.Named constants.Abort))) fit = refl
-  commit_is (Given (tree.Value (tree.Named c))) fit = refl
-  commit_is m fit = absurd fit.0
+  commit_is : {m : Operand} → OperandFits p Mode m → has_commit (operand_argument m ∷ []) ≡ not (frees_in (mode_in_actual (Some (look_up (sight_of s t) (Mode, m)))))
+  commit_is rule.mode_number = refl
+  commit_is (rule.mode {c = constants.Commit}) = refl
+  commit_is (rule.mode {c = constants.Abort}) = refl
+  commit_is (rule.mode {c = c}) = refl
+  commit_is (rule.reference takes fits) = elim takes [ ]
 
   none_commits : (b : Bool) → (b ≡ true → true ≡ false) → b ≡ false
   none_commits true h = h refl
@@ -138,20 +139,14 @@ module _ (unit : SourceUnit) (classes : Classes) (in_use : BuffersInUse) (k : �
 
   uncommitted : (access : Access) (a x : Identifier) (modes : List Operand) → OperandsFit p (release_mode access) modes → (has_commit (map operand_argument modes) ≡ true → is_critical access ≡ false)
       → ((T : ElementType) → access ≡ ElementsCopy T → frees_in (mode_given (given_to access a x modes) 2) ≡ true) → has_commit (map operand_argument modes) ≡ false
-  uncommitted (ElementsCopy u) a x (m ∷ []) fit commits frees = commit_is m fit ∙ ap not (frees u refl)
-  uncommitted (ElementsCopy u) a x (m ∷ o ∷ modes) fit commits frees = absurd fit.1
-  uncommitted (ElementsCopy u) a x [] fit commits frees = absurd fit
+  uncommitted (ElementsCopy u) a x modes (rule.next fit rule.done) commits frees = commit_is fit ∙ ap not (frees u refl)
   uncommitted ArrayView a x modes fit commits frees = none_commits (has_commit (map operand_argument modes)) commits
-  uncommitted CharsCopy a x [] fit commits frees = refl
-  uncommitted CharsCopy a x (m ∷ modes) fit commits frees = absurd fit
-  uncommitted CharsView a x [] fit commits frees = refl
-  uncommitted CharsView a x (m ∷ modes) fit commits frees = absurd fit
+  uncommitted CharsCopy a x modes rule.done commits frees = refl
+  uncommitted CharsView a x modes rule.done commits frees = refl
 
   committed : (u : ElementType) (a x : Identifier) (modes : List Operand) → OperandsFit p (Mode ∷ []) modes → (frees : Bool) → frees_in (mode_given (given_to (ElementsCopy u) a x modes) 2) ≡ frees
       → has_commit (map operand_argument modes) ≡ not frees
-  committed u a x (m ∷ []) fit frees is = commit_is m fit ∙ ap not is
-  committed u a x (m ∷ o ∷ modes) fit frees is = absurd fit.1
-  committed u a x [] fit frees is = absurd fit
+  committed u a x modes (rule.next fit rule.done) frees is = commit_is fit ∙ ap not is
 
   module _ (a x : Identifier) (modes : List Operand) (target : Target) (away : IsNoTest target) (get : Option (Access × Option Identifier)) (goes : ResultGoes target GivesNothing get (GoesOn rest) (released_point (has_commit (map operand_argument modes)) x)) where
     -- what follows goes by whether the release commits
@@ -178,8 +173,8 @@ module _ (unit : SourceUnit) (classes : Classes) (in_use : BuffersInUse) (k : �
   release_operands : (access : Access) (target : Target) (operands : List Operand) → IsNoTest target → CallKeeps p (ReleaseBuffer access) (map operand_argument operands) → OperandsFit p (prototype (ReleaseBuffer access)).parameters operands
       → ResultGoes target GivesNothing None (GoesOn rest) (at p (states.after_call p.regions (call_seen (ReleaseBuffer access) operands)))
       → CallLands unit classes in_use k s t line rest weak own target (ReleaseBuffer access) (actuals (sight_of s t) (ReleaseBuffer access) operands)
-  release_operands access target (Given (tree.Value (tree.Variable a)) ∷ Given (tree.Value (tree.Variable x)) ∷ modes) away (usable, commits) fit goes =
-      released_at a x modes target away None goes access (trap_of_call classes s t target (ReleaseBuffer access) (given_to access a x modes)) usable commits fit.1.1
+  release_operands access target (Given (tree.Value (tree.Variable a)) ∷ Given (tree.Value (tree.Variable x)) ∷ modes) away (usable, commits) (rule.next object (rule.next held fit)) goes =
+      released_at a x modes target away None goes access (trap_of_call classes s t target (ReleaseBuffer access) (given_to access a x modes)) usable commits fit
   release_operands access target operands away rules fit goes = absurd rules
 
   -- no more arguments than its own

@@ -1,24 +1,22 @@
 -- At its point a thread names a weak reference in a call of the functions alone that take one.
-use Rattle.std.proofs.Common.{◌≡◌, ◌≢◌, inl, inr, ℕ, Bool, true, false, List, [], ◌∷◌, length, Option, Some, None, refl, sym, ◌∙◌, arith}
+use Rattle.std.proofs.Common.{◌≡◌, ◌≢◌, inl, inr, ℕ, Bool, true, false, List, length, Option, Some, None, refl, sym, ◌∙◌, arith}
 use Rattle.std.specs.List.{list_any, AllByRecursion}
 use Rattle.std.proofs.lemmas.Bool.{or_parts}
 use Rattle.base.specs.Bytes.{Identifier, lookup}
 use Rattle.jni.specs.declared.function.JniFunction.{JniFunction}
-use Rattle.jni.specs.JniFunction.{prototype, parameters_for}
+use Rattle.jni.specs.JniFunction.{prototype}
 use Rattle.jni.specs.declared.kinds.ParameterKind.{ParameterKind}
-use Rattle.jni.specs.declared.kinds.ParameterKind.TheVariants.{FieldID, IntNumber, TextBytes, AnyReference, LocalVariable, StaticVariable, WeakVariable, ArrayVariable, BufferVariable, Mode, IsCopy, MethodID, Passed}
+use Rattle.jni.specs.declared.kinds.ParameterKind.TheVariants.{AnyReference, WeakVariable}
 use Rattle.type_rules.specs.declared.ty.ExprType.{ExprType}
 use Rattle.type_rules.specs.ExprTypes.{type_in}
 use Rattle.type_rules.specs.declared.ty.ExprType.TheVariants as types
-use Rattle.semantics.specs.Task.{Task, Invoke, Target, Declared, Assigned, Tested, Dropped, Operand, NumberOperand, Given, PassedName}
+use Rattle.semantics.specs.Task.{Task, Invoke, Target, Declared, Assigned, Tested, Dropped, Operand}
 use Rattle.semantics.specs.Thread.{Frame}
 use Rattle.semantics.specs.Variable.{Variable, LocalRef, FieldHandle, Elements, LocalArray, Weakly, Variables, Statics, MethodHandle, Scalar}
 use Rattle.semantics.specs.WeakArguments.{takes_weak, NamesNoWeak, WeakAreTaken}
-use Rattle.syntax.specs.Tree as tree
-use Rattle.syntax.specs.declared.expr.Constant.TheVariants as constants
-use Rattle.syntax.specs.Tree.{Argument}
 use Rattle.semantics_safety.specs.Owners.{Owners}
-use Rattle.semantics_safety.specs.Points.{Point, IsLive, IsUsable, ReferenceFits, ReferenceArgumentFits, NameFits, FieldArgumentFits, ModeFits, CopyFits, TextFits, GivenFits, OperandFits, OperandsFit, PassedFits, NullFits, MethodArgumentFits}
+use Rattle.semantics_safety.specs.Points as rule
+use Rattle.semantics_safety.specs.Points.{Point, IsLive, IsUsable, ReferenceFits, PassedFits, OperandFits, OperandsFit}
 use Rattle.semantics_safety.specs.Stands.{Stands}
 use Rattle.semantics_safety.specs.Wanted.{CallFits, Runs}
 use Rattle.semantics_safety.specs.WeakNames.{WeakNames}
@@ -80,74 +78,25 @@ module _ (ss : Statics) (vs : Variables) (frames : List Frame) (p : Point) {weak
 
   -- ---- arguments
 
-  named_strong : (ok : Identifier → Type 0) (a : Argument) → ((x : Identifier) → ok x → IsStrong x) → NameFits ok a → NamesNoWeak vs ss (Given a)
-  named_strong ok (tree.Value (tree.Variable x)) strong h = strong x h
-  named_strong ok a strong h = absurd h
+  operand_strong : {parameter : ParameterKind} {o : Operand} → may_be_weak parameter ≡ false → OperandFits p parameter o → NamesNoWeak vs ss o
+  operand_strong strong (rule.passed_name {x = x} h) = passed_strong x (type_in p.names x) refl h
+  operand_strong strong (rule.reference takes (rule.named {x = x} h)) = reference_strong x (type_in p.names x) refl h
+  operand_strong strong (rule.any_reference h) = absurd (no_kind strong)
+  operand_strong strong (rule.local {x = x} h) = live_strong x h
+  operand_strong strong (rule.global {x = x} e) = static_strong x e
+  operand_strong strong (rule.weak e) = absurd (no_kind strong)
+  operand_strong strong (rule.array {t = t} {size = size} {x = x} e) = array_strong t x (size, e)
+  operand_strong strong (rule.buffer {x = x} h) = usable_strong x h
+  operand_strong strong (rule.field (rule.named {x = x} e)) = field_strong x e
+  operand_strong strong (rule.method (rule.named {x = x} e)) = method_strong x e
+  operand_strong strong h = tt
 
-  reference_argument_strong : (a : Argument) → ReferenceArgumentFits p a → NamesNoWeak vs ss (Given a)
-  reference_argument_strong (tree.Value (tree.Named constants.Null)) h = tt
-  reference_argument_strong (tree.Value (tree.Variable x)) h = reference_strong x (type_in p.names x) refl h
-  reference_argument_strong a h = absurd h
-
-  field_argument_strong : (a : Argument) → FieldArgumentFits p a → NamesNoWeak vs ss (Given a)
-  field_argument_strong (tree.Value (tree.Named c)) h = tt
-  field_argument_strong (tree.Value (tree.Variable x)) h = field_strong x h
-  field_argument_strong a h = absurd h
-
-  method_argument_strong : (a : Argument) → MethodArgumentFits p a → NamesNoWeak vs ss (Given a)
-  method_argument_strong (tree.Value (tree.Named c)) h = tt
-  method_argument_strong (tree.Value (tree.Variable x)) h = method_strong x h
-  method_argument_strong a h = absurd h
-
-  null_argument_strong : (a : Argument) → NullFits a → NamesNoWeak vs ss (Given a)
-  null_argument_strong (tree.Value (tree.Named constants.Null)) h = tt
-  null_argument_strong a h = absurd h
-
-  mode_strong : (a : Argument) → ModeFits a → NamesNoWeak vs ss (Given a)
-  mode_strong (tree.Value (tree.Number n unsigned)) h = tt
-  mode_strong (tree.Value (tree.Named c)) h = tt
-  mode_strong a h = absurd h
-
-  copy_strong : (a : Argument) → CopyFits p a → NamesNoWeak vs ss (Given a)
-  copy_strong (tree.Value (tree.Named c)) h = tt
-  copy_strong (tree.AddressOf x) h = tt
-  copy_strong a h = absurd h
-
-  text_strong : (a : Argument) → TextFits a → NamesNoWeak vs ss (Given a)
-  text_strong (tree.Text bytes) h = tt
-  text_strong a h = absurd h
-
-  given_strong : (parameter : ParameterKind) (a : Argument) → may_be_weak parameter ≡ false → GivenFits p parameter a → NamesNoWeak vs ss (Given a)
-  given_strong IntNumber a strong h = absurd h
-  given_strong TextBytes a strong h = text_strong a h
-  given_strong LocalVariable a strong h = named_strong (IsLive p) a live_strong h
-  given_strong StaticVariable a strong h = named_strong (λ x. type_in p.names x ≡ Some types.Global) a static_strong h
-  given_strong WeakVariable a strong h = absurd (no_kind strong)
-  given_strong AnyReference a strong h = absurd (no_kind strong)
-  given_strong FieldID a strong h = field_argument_strong a h
-  given_strong MethodID a strong h = method_argument_strong a h
-  given_strong Passed a strong h = null_argument_strong a h
-  given_strong (ArrayVariable t) a strong h = named_strong (λ x. (size : ℕ) × (type_in p.names x ≡ Some (types.Array t size))) a (array_strong t) h
-  given_strong (BufferVariable access) a strong h = named_strong (IsUsable p) a usable_strong h
-  given_strong Mode a strong h = mode_strong a h
-  given_strong IsCopy a strong h = copy_strong a h
-  given_strong parameter a strong h = reference_argument_strong a h
-
-  operand_strong : (parameter : ParameterKind) (o : Operand) → may_be_weak parameter ≡ false → OperandFits p parameter o → NamesNoWeak vs ss o
-  operand_strong IntNumber (NumberOperand t) strong h = tt
-  operand_strong parameter (NumberOperand t) strong h = tt
-  operand_strong Passed (PassedName x) strong h = passed_strong x (type_in p.names x) refl h
-  operand_strong parameter (PassedName x) strong h = absurd h
-  operand_strong parameter (Given a) strong h = given_strong parameter a strong h
-
-  operands_strong : (parameters : List ParameterKind) (operands : List Operand) → list_any may_be_weak parameters ≡ false
+  operands_strong : {parameters : List ParameterKind} {operands : List Operand} → list_any may_be_weak parameters ≡ false
       → OperandsFit p parameters operands → AllByRecursion (NamesNoWeak vs ss) operands
-  operands_strong [] [] strong h = tt
-  operands_strong [] (o ∷ operands) strong h = absurd h
-  operands_strong (parameter ∷ parameters) [] strong h = absurd h
-  operands_strong (parameter ∷ parameters) (o ∷ operands) strong h =
-      let both = or_parts (may_be_weak parameter) (list_any may_be_weak parameters) strong in
-      (operand_strong parameter o both.0 h.0, operands_strong parameters operands both.1 h.1)
+  operands_strong strong rule.done = tt
+  operands_strong strong (rule.next {kind = kind} {kinds = kinds} h rest) =
+      let both = or_parts (may_be_weak kind) (list_any may_be_weak kinds) strong in
+      (operand_strong both.0 h, operands_strong both.1 rest)
 
   -- ---- a task
 
@@ -157,7 +106,7 @@ module _ (ss : Statics) (vs : Variables) (frames : List Frame) (p : Point) {weak
     where
       by_test : (b : Bool) → takes_weak f ≡ b → WeakAreTaken vs ss (Invoke line target f operands)
       by_test true is = inl is
-      by_test false is = inr (operands_strong (parameters_for f (length operands)) operands (none_among may_be_weak refl f (length operands) (weak_parameters f ∙ is)) fits.types)
+      by_test false is = inr (operands_strong (none_among may_be_weak refl f (length operands) (weak_parameters f ∙ is)) fits.types)
 
   invoke_taken : (line : ℕ) (target : Target) (f : JniFunction) (operands : List Operand) (k : Point → Type 0) → Runs (Invoke line target f operands) k p
       → WeakAreTaken vs ss (Invoke line target f operands)

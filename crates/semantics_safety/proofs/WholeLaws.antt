@@ -1,9 +1,8 @@
 -- A variable that a step sets as a whole is no buffer that holds something.
-use Rattle.std.proofs.Common.{◌≡◌, inl, inr, ℕ, true, false, List, [], ◌∷◌, map, length, Option, Some, None, refl, sym, ◌∙◌, subst}
+use Rattle.std.proofs.Common.{◌≡◌, inl, inr, ℕ, true, false, List, map, length, Option, Some, None, refl, sym, ◌∙◌, subst}
 use Rattle.std.specs.Prelude.{drop}
 use Rattle.std.proofs.lemmas.Slice.Eq.{bytes_eq-Decides}
 use Rattle.base.specs.Bytes.{Identifier, lookup}
-use Rattle.syntax.specs.Tree as tree
 use Rattle.jni.specs.declared.function.JniFunction.{JniFunction}
 use Rattle.jni.specs.declared.function.JniFunction.TheVariants.{GetBuffer, ReleaseBuffer, DeleteLocalRef, PopLocalFrame}
 use Rattle.jni.specs.JniFunction.{parameters_for, prototype}
@@ -20,12 +19,13 @@ use Rattle.semantics.specs.Effect.{Effect, Sets, SetsNull, MakesArray, Calls}
 use Rattle.semantics.specs.Sight.{Sight}
 use Rattle.semantics.specs.declared.variable_kind.VariableKind.{VariableKind}
 use Rattle.semantics.specs.declared.variable_kind.VariableKind.TheVariants as kinds
-use Rattle.semantics.specs.Task.{Task, Target, Declared, Assigned, Tested, Dropped, Operand, Given, Invoke}
+use Rattle.semantics.specs.Task.{Task, Target, Declared, Assigned, Tested, Dropped, Operand, Invoke}
 use Rattle.semantics.specs.Thread.{Frame}
 use Rattle.semantics.specs.Value.{Value}
 use Rattle.semantics.specs.Variable.{Variable, Scalar, LocalRef, FieldHandle, MethodHandle, Elements, StaticReference, Variables, Statics}
 use Rattle.semantics_safety.specs.Owners.{Owners, is_target}
 use Rattle.semantics_safety.specs.Follows.{Follows}
+use Rattle.semantics_safety.specs.Points as rule
 use Rattle.semantics_safety.specs.Points.{Point, value_type, OperandFits, OperandsFit}
 use Rattle.semantics_safety.specs.Stands.{VariableFits, Stands}
 use Rattle.semantics_safety.specs.StepSafe.{HoldsNoBuffer, IsTold, SetsWhole}
@@ -192,16 +192,13 @@ module _ (ss : Statics) (vs : Variables) (frames : List Frame) (p : Point) {weak
   fits_call line Dropped f operands r = r.0
 
   -- the variable of `isCopy` holds a flag
-  told_operand : (sight : Sight) (c : Operand) (x : Identifier) → OperandFits p IsCopy c → address_in_actual (Some (look_up sight (IsCopy, c))) ≡ Some x → HoldsNoBuffer (lookup x vs)
-  told_operand sight (Given (tree.Value (tree.Named n))) x fit e = absurd (cc (e))
-  told_operand sight (Given (tree.AddressOf y)) x fit e = let same : y ≡ x = cc in subst (λ (z : Identifier). HoldsNoBuffer (lookup z vs)) same (typed_holds ss vs frames p stands y types.Flag tt fit)
-  told_operand sight c x fit e = absurd fit
+  told_operand : (sight : Sight) {c : Operand} (x : Identifier) → OperandFits p IsCopy c → address_in_actual (Some (look_up sight (IsCopy, c))) ≡ Some x → HoldsNoBuffer (lookup x vs)
+  told_operand sight x rule.not_told e = absurd (cc (e))
+  told_operand sight x (rule.reference takes fits) e = elim takes [ ]
+  told_operand sight x (rule.told {x = y} flag) e = let same : y ≡ x = cc in subst (λ (z : Identifier). HoldsNoBuffer (lookup z vs)) same (typed_holds ss vs frames p stands y types.Flag tt flag)
 
   told_holds : (sight : Sight) (f : JniFunction) (operands : List Operand) (x : Identifier) → OperandsFit p (parameters_for f (length operands)) operands → IsTold f (actuals sight f operands) x → HoldsNoBuffer (lookup x vs)
-  told_holds sight (GetBuffer access) (o ∷ c ∷ []) x fit told = told_operand sight c x fit.1.0 told
-  told_holds sight (GetBuffer access) (o ∷ c ∷ d ∷ operands) x fit told = absurd fit.1.1
-  told_holds sight (GetBuffer access) (o ∷ []) x fit told = absurd fit.1
-  told_holds sight (GetBuffer access) [] x fit told = absurd fit
+  told_holds sight (GetBuffer access) operands x (rule.next object (rule.next fit rule.done)) told = told_operand sight x fit told
   told_holds sight f operands x fit told = absurd told
 
 -- ---- effects

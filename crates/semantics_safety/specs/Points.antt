@@ -1,14 +1,16 @@
 -- What is known at a point of a function: the types of names, and the state of references, buffers and frames.
 use Rattle.std.specs.Prelude.{◌≡◌, ℕ, Bool, true, false, ◌&&◌, ◌==◌, List, [], ◌∷◌, length, filter, Option, Some, None, if◌then◌else◌}
 use Rattle.base.specs.Bytes.{Identifier, ByName, lookup}
+use Rattle.base.specs.declared.element.ElementType.{ElementType}
 use Rattle.syntax.specs.Tree as tree
+use Rattle.syntax.specs.declared.expr.Constant.{Constant}
 use Rattle.syntax.specs.declared.expr.Constant.TheVariants as constants
 use Rattle.syntax.specs.declared.expr.PrefixOp.{PrefixOp}
 use Rattle.syntax.specs.declared.expr.PrefixOp.TheVariants.{LogicalNot, Complement, ToWord, ToInt}
 use Rattle.syntax.specs.Tree.{Argument}
 use Rattle.jni.specs.declared.access.Access.{Access}
 use Rattle.jni.specs.declared.kinds.ParameterKind.{ParameterKind}
-use Rattle.jni.specs.declared.kinds.ParameterKind.TheVariants.{FieldID, MethodID, Passed, IntNumber, TextBytes, AnyReference, LocalVariable, StaticVariable, WeakVariable, ArrayVariable, BufferVariable, Mode, IsCopy}
+use Rattle.jni.specs.declared.kinds.ParameterKind.TheVariants.{Nullable, NonNull, AnyReference, ClassObject, AnyArray, ObjectArray, StringObject, NumberArray, LocalVariable, StaticVariable, WeakVariable, FieldID, MethodID, Passed, IntNumber, TextBytes, ArrayVariable, BufferVariable, Mode, IsCopy}
 use Rattle.type_rules.specs.declared.ty.ExprType.{ExprType}
 use Rattle.type_rules.specs.declared.ty.ExprType.TheVariants.{Word, Jint, Flag, Truth, Ref, Global, Weak, FieldId, Buffer, Array}
 use Rattle.type_rules.specs.ExprTypes.{Scope, group, type_in}
@@ -101,93 +103,61 @@ HasType p (Binary op a b) s = (r : ExprType) × OperatorFits (group op) r s × H
 
 -- ---- arguments
 
--- NULL or a name where a reference is asked for
-abbrev pub ReferenceArgumentFits : Point → Argument → Type 0
-ReferenceArgumentFits p (tree.Value (tree.Named constants.Null)) = Unit {0}
-ReferenceArgumentFits p (tree.Value (tree.Variable x)) = ReferenceFits p x (type_in p.names x)
-ReferenceArgumentFits p a = ⊥
-
--- the same where it may be a weak static too
-abbrev pub AnyReferenceArgumentFits : Point → Argument → Type 0
-AnyReferenceArgumentFits p (tree.Value (tree.Named constants.Null)) = Unit {0}
-AnyReferenceArgumentFits p (tree.Value (tree.Variable x)) = AnyReferenceFits p x (type_in p.names x)
-AnyReferenceArgumentFits p a = ⊥
-
--- a bare name of which this holds
-abbrev pub NameFits : (Identifier → Type 0) → Argument → Type 0
-NameFits ok (tree.Value (tree.Variable x)) = ok x
-NameFits ok a = ⊥
-
--- a constant, or a bare name of a field ID
-abbrev pub FieldArgumentFits : Point → Argument → Type 0
-FieldArgumentFits p (tree.Value (tree.Named c)) = Unit {0}
-FieldArgumentFits p (tree.Value (tree.Variable x)) = type_in p.names x ≡ Some types.FieldId
-FieldArgumentFits p a = ⊥
-
--- a constant, or a bare name of a method ID
-abbrev pub MethodArgumentFits : Point → Argument → Type 0
-MethodArgumentFits p (tree.Value (tree.Named c)) = Unit {0}
-MethodArgumentFits p (tree.Value (tree.Variable x)) = type_in p.names x ≡ Some types.MethodId
-MethodArgumentFits p a = ⊥
-
--- NULL, where a method is given something
-abbrev pub NullFits : Argument → Type 0
-NullFits (tree.Value (tree.Named constants.Null)) = Unit {0}
-NullFits a = ⊥
-
 -- a bare name of what a method may be given
 abbrev pub PassedFits : Point → Identifier → Option ExprType → Type 0
 PassedFits p x (Some Jint) = Unit {0}
 PassedFits p x s = ReferenceFits p x s
 
--- a mode: a number or a constant
-abbrev pub ModeFits : Argument → Type 0
-ModeFits (tree.Value (tree.Number n unsigned)) = Unit {0}
-ModeFits (tree.Value (tree.Named c)) = Unit {0}
-ModeFits a = ⊥
+-- a parameter that takes NULL, and references that aren't weak
+pub data TakesReference : ParameterKind → Type 0 where
+  nullable : TakesReference Nullable
+  non_null : TakesReference NonNull
+  class_object : TakesReference ClassObject
+  any_array : TakesReference AnyArray
+  object_array : TakesReference ObjectArray
+  string : TakesReference StringObject
+  number_array : {t : ElementType} → TakesReference (NumberArray t)
 
--- NULL, or the address of a flag
-abbrev pub CopyFits : Point → Argument → Type 0
-CopyFits p (tree.Value (tree.Named c)) = Unit {0}
-CopyFits p (tree.AddressOf x) = type_in p.names x ≡ Some Flag
-CopyFits p a = ⊥
+-- NULL, or a bare name of which this holds
+pub data NullOr (holds : Identifier → Type 0) : Argument → Type 0 where
+  null : NullOr holds (tree.Value (tree.Named constants.Null))
+  named : {x : Identifier} → holds x → NullOr holds (tree.Value (tree.Variable x))
 
--- a text
-abbrev pub TextFits : Argument → Type 0
-TextFits (tree.Text bytes) = Unit {0}
-TextFits a = ⊥
-
--- an argument that isn't a number
-abbrev pub GivenFits : Point → ParameterKind → Argument → Type 0
-GivenFits p IntNumber a = ⊥
-GivenFits p TextBytes a = TextFits a
-GivenFits p LocalVariable a = NameFits (IsLive p) a
-GivenFits p StaticVariable a = NameFits (λ x. type_in p.names x ≡ Some Global) a
-GivenFits p WeakVariable a = NameFits (λ x. type_in p.names x ≡ Some Weak) a
-GivenFits p AnyReference a = AnyReferenceArgumentFits p a
-GivenFits p FieldID a = FieldArgumentFits p a
-GivenFits p MethodID a = MethodArgumentFits p a
-GivenFits p Passed a = NullFits a
-GivenFits p (ArrayVariable t) a = NameFits (λ x. (size : ℕ) × (type_in p.names x ≡ Some (Array t size))) a
-GivenFits p (BufferVariable access) a = NameFits (IsUsable p) a
-GivenFits p Mode a = ModeFits a
-GivenFits p IsCopy a = CopyFits p a
-GivenFits p parameter a = ReferenceArgumentFits p a
+-- a bare name
+abbrev pub name : Identifier → Operand
+name x = Given (tree.Value (tree.Variable x))
 
 -- an argument; the expression of a number is one of type Jint
-abbrev pub OperandFits : Point → ParameterKind → Operand → Type 0
-OperandFits p IntNumber (NumberOperand t) = HasType p t Jint
-OperandFits p Passed (NumberOperand t) = HasType p t Jint
-OperandFits p Passed (PassedName x) = PassedFits p x (type_in p.names x)
-OperandFits p parameter (NumberOperand t) = ⊥
-OperandFits p parameter (PassedName x) = ⊥
-OperandFits p parameter (Given a) = GivenFits p parameter a
+pub data OperandFits (p : Point) : ParameterKind → Operand → Type 0 where
+  number : {t : Term} → HasType p t Jint → OperandFits p IntNumber (NumberOperand t)
+  text : {bytes : List ℕ} → OperandFits p TextBytes (Given (tree.Text bytes))
+  reference : {kind : ParameterKind} {a : Argument} → TakesReference kind → NullOr (λ x. ReferenceFits p x (type_in p.names x)) a
+      → OperandFits p kind (Given a)
+  any_reference : {a : Argument} → NullOr (λ x. AnyReferenceFits p x (type_in p.names x)) a → OperandFits p AnyReference (Given a)
+  field : {a : Argument} → NullOr (λ x. type_in p.names x ≡ Some types.FieldId) a → OperandFits p FieldID (Given a)
+  method : {a : Argument} → NullOr (λ x. type_in p.names x ≡ Some types.MethodId) a → OperandFits p MethodID (Given a)
+  -- a variable itself
+  local : {x : Identifier} → IsLive p x → OperandFits p LocalVariable (name x)
+  global : {x : Identifier} → type_in p.names x ≡ Some Global → OperandFits p StaticVariable (name x)
+  weak : {x : Identifier} → type_in p.names x ≡ Some Weak → OperandFits p WeakVariable (name x)
+  array : {t : ElementType} {size : ℕ} {x : Identifier} → type_in p.names x ≡ Some (Array t size) → OperandFits p (ArrayVariable t) (name x)
+  buffer : {access : Access} {x : Identifier} → IsUsable p x → OperandFits p (BufferVariable access) (name x)
+  -- what a method is given
+  passed_number : {t : Term} → HasType p t Jint → OperandFits p Passed (NumberOperand t)
+  passed_name : {x : Identifier} → PassedFits p x (type_in p.names x) → OperandFits p Passed (PassedName x)
+  passed_null : OperandFits p Passed (Given (tree.Value (tree.Named constants.Null)))
+  -- a number or a constant
+  mode_number : {n : ℕ} {unsigned : Bool} → OperandFits p Mode (Given (tree.Value (tree.Number n unsigned)))
+  mode : {c : Constant} → OperandFits p Mode (Given (tree.Value (tree.Named c)))
+  -- NULL, or the address of a flag
+  not_told : OperandFits p IsCopy (Given (tree.Value (tree.Named constants.Null)))
+  told : {x : Identifier} → type_in p.names x ≡ Some Flag → OperandFits p IsCopy (Given (tree.AddressOf x))
 
 -- as many arguments as parameters, and each fits
-abbrev pub OperandsFit : Point → List ParameterKind → List Operand → Type 0
-OperandsFit p [] [] = Unit {0}
-OperandsFit p (parameter ∷ parameters) (o ∷ operands) = OperandFits p parameter o × OperandsFit p parameters operands
-OperandsFit p parameters operands = ⊥
+pub data OperandsFit (p : Point) : List ParameterKind → List Operand → Type 0 where
+  done : OperandsFit p [] []
+  next : {kind : ParameterKind} {kinds : List ParameterKind} {o : Operand} {operands : List Operand} → OperandFits p kind o
+      → OperandsFit p kinds operands → OperandsFit p (kind ∷ kinds) (o ∷ operands)
 
 -- ---- copies of references
 

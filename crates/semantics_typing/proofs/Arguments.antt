@@ -5,26 +5,22 @@ use Rattle.std.specs.List.{list_any, AllByRecursion}
 use Rattle.std.specs.Str.{bytes_eq}
 use Rattle.std.proofs.lemmas.Bool.{eqb-true, not-false}
 use Rattle.base.specs.Bytes.{Identifier, lookup}
-use Rattle.syntax.specs.Tree as tree
-use Rattle.syntax.specs.declared.expr.Constant.TheVariants as constants
-use Rattle.syntax.specs.Tree.{Argument}
 use Rattle.class_rules.specs.BuiltIns.{class_class, string_class, number_array}
 use Rattle.class_rules.specs.Class.{Classes, class_kind, is_object_array}
 use Rattle.class_rules.specs.Fields.{FieldId}
 use Rattle.jni.specs.declared.kinds.ParameterKind.{ParameterKind}
-use Rattle.jni.specs.declared.kinds.ParameterKind.TheVariants.{Nullable, NonNull, AnyReference, ClassObject, AnyArray, ObjectArray, StringObject, NumberArray, LocalVariable, StaticVariable, WeakVariable, FieldID, MethodID, Passed, IntNumber, TextBytes, ArrayVariable, BufferVariable, Mode, IsCopy}
+use Rattle.jni.specs.declared.kinds.ParameterKind.TheVariants.{ClassObject, ObjectArray, StringObject, NumberArray, FieldID, TextBytes, ArrayVariable}
 use Rattle.type_rules.specs.declared.ty.ExprType.TheVariants as types
-use Rattle.type_rules.specs.declared.ty.ExprType.{ExprType}
-use Rattle.type_rules.specs.ExprTypes.{type_in}
 use Rattle.semantics.specs.Arguments.{Actual, ReferenceActual, FieldActual, look_up, reference_in_actual, name_or_zero, field_in_actual, text_in_actual, variable_in_actual}
 use Rattle.semantics.specs.CallSight.{ArgumentSight, argument_seen, is_deleted}
 use Rattle.semantics.specs.Checks.{misfits, misses}
 use Rattle.semantics.specs.Heap.{Heap, class_of}
 use Rattle.semantics.specs.Sight.{Sight, seen, held_field, held_reference}
-use Rattle.semantics.specs.Task.{Operand, Given}
+use Rattle.semantics.specs.Task.{Operand}
 use Rattle.semantics.specs.Thread.{Frame}
 use Rattle.semantics.specs.Variable.{Variable, FieldHandle, MethodHandle, Scalar, LocalRef, Elements, LocalArray, StaticReference, Empty, Live, Deleted, Variables, Statics, Weakly, Cleared}
 use Rattle.semantics_safety.specs.Owners.{Owners}
+use Rattle.semantics_safety.specs.Points as rule
 use Rattle.semantics_safety.specs.Points.{Point, OperandFits, OperandsFit}
 use Rattle.semantics_safety.specs.Stands.{Stands}
 use Rattle.semantics_safety.specs.WeakNames.{WeakNames}
@@ -128,11 +124,9 @@ known_at classes heap vs (c ∷ kinds) (a ∷ args) zero kind h e = let same : c
 known_at classes heap vs (c ∷ kinds) (a ∷ args) (suc i) kind h e = known_at classes heap vs kinds args i kind h.1 e
 
 -- as many are looked up as there are operands
-pub looked_up : (p : Point) (sight : Sight) (kinds : List ParameterKind) (operands : List Operand) → OperandsFit p kinds operands → length (map (look_up sight) (zip kinds operands)) ≡ length operands
-looked_up p sight [] [] fit = refl
-looked_up p sight [] (o ∷ operands) fit = absurd fit
-looked_up p sight (kind ∷ kinds) [] fit = absurd fit
-looked_up p sight (kind ∷ kinds) (o ∷ operands) fit = ap suc (looked_up p sight kinds operands fit.1)
+pub looked_up : (p : Point) (sight : Sight) {kinds : List ParameterKind} {operands : List Operand} → OperandsFit p kinds operands → length (map (look_up sight) (zip kinds operands)) ≡ length operands
+looked_up p sight rule.done = refl
+looked_up p sight (rule.next fit rest) = ap suc (looked_up p sight rest)
 
 -- ---- all arguments
 
@@ -161,54 +155,34 @@ module _ (classes : Classes) (heap : Heap) (ss : Statics) (vs : Variables) (fram
   abbrev all_seen : List ParameterKind → List Operand → List ArgumentSight
   all_seen kinds operands = map (λ (a : Actual). argument_seen heap (Some a)) (map (look_up sight) (zip kinds operands))
 
-  one_known : (kind : ParameterKind) (o : Operand) → OperandFits p kind o → HasActualText (look_up sight (kind, o)) → is_deleted (look_up sight (kind, o)) ≡ false → misses (kind, of_operand kind o) ≡ false → misfits classes (kind, of_operand kind o) ≡ false → Known kind (look_up sight (kind, o))
-  one_known ClassObject (Given (tree.Value (tree.Named constants.Null))) fit text d m f = object_known classes heap vs ClassObject tt [] Empty tt d m f
-  one_known ClassObject (Given (tree.Value (tree.Variable x))) fit text d m f = object_known classes heap vs ClassObject tt x (sight.reference x) (held_argument (lookup x vs) (lookup x ss)) d m f
-  one_known ClassObject o fit text d m f = absurd fit
-  one_known ObjectArray (Given (tree.Value (tree.Named constants.Null))) fit text d m f = object_known classes heap vs ObjectArray tt [] Empty tt d m f
-  one_known ObjectArray (Given (tree.Value (tree.Variable x))) fit text d m f = object_known classes heap vs ObjectArray tt x (sight.reference x) (held_argument (lookup x vs) (lookup x ss)) d m f
-  one_known ObjectArray o fit text d m f = absurd fit
-  one_known StringObject (Given (tree.Value (tree.Named constants.Null))) fit text d m f = object_known classes heap vs StringObject tt [] Empty tt d m f
-  one_known StringObject (Given (tree.Value (tree.Variable x))) fit text d m f = object_known classes heap vs StringObject tt x (sight.reference x) (held_argument (lookup x vs) (lookup x ss)) d m f
-  one_known StringObject o fit text d m f = absurd fit
-  one_known (NumberArray t) (Given (tree.Value (tree.Named constants.Null))) fit text d m f = object_known classes heap vs (NumberArray t) tt [] Empty tt d m f
-  one_known (NumberArray t) (Given (tree.Value (tree.Variable x))) fit text d m f = object_known classes heap vs (NumberArray t) tt x (sight.reference x) (held_argument (lookup x vs) (lookup x ss)) d m f
-  one_known (NumberArray t) o fit text d m f = absurd fit
-  one_known FieldID (Given (tree.Value (tree.Named c))) fit text d m f = field_known classes heap vs None m (λ g e. absurd (cc))
-  one_known FieldID (Given (tree.Value (tree.Variable x))) fit text d m f = field_known classes heap vs (held_field (lookup x vs)) m (held_declared (lookup x vs) (λ v e. variable_typed classes heap x vs v typed e))
-  one_known FieldID o fit text d m f = absurd fit
-  one_known MethodID o fit text d m f = tt
-  one_known Passed o fit text d m f = tt
-  one_known (ArrayVariable t) (Given (tree.Value (tree.Variable x))) fit text d m f = let h = stands.types x (types.Array t fit.0) fit.1 in (h.0, h.1)
-  one_known (ArrayVariable t) o fit text d m f = absurd fit
-  one_known Nullable o fit text d m f = tt
-  one_known NonNull o fit text d m f = tt
-  one_known AnyArray o fit text d m f = tt
-  one_known LocalVariable o fit text d m f = tt
-  one_known StaticVariable o fit text d m f = tt
-  one_known WeakVariable o fit text d m f = tt
-  one_known AnyReference o fit text d m f = tt
-  one_known IntNumber o fit text d m f = tt
-  one_known TextBytes o fit text d m f = text
-  one_known (BufferVariable access) o fit text d m f = tt
-  one_known Mode o fit text d m f = tt
-  one_known IsCopy o fit text d m f = tt
+  one_known : {kind : ParameterKind} {o : Operand} → OperandFits p kind o → HasActualText (look_up sight (kind, o)) → is_deleted (look_up sight (kind, o)) ≡ false → misses (kind, of_operand kind o) ≡ false → misfits classes (kind, of_operand kind o) ≡ false → Known kind (look_up sight (kind, o))
+  one_known (rule.reference rule.class_object rule.null) text d m f = object_known classes heap vs ClassObject tt [] Empty tt d m f
+  one_known (rule.reference rule.object_array rule.null) text d m f = object_known classes heap vs ObjectArray tt [] Empty tt d m f
+  one_known (rule.reference rule.string rule.null) text d m f = object_known classes heap vs StringObject tt [] Empty tt d m f
+  one_known (rule.reference (rule.number_array {t = t}) rule.null) text d m f = object_known classes heap vs (NumberArray t) tt [] Empty tt d m f
+  one_known (rule.reference rule.class_object (rule.named {x = x} fits)) text d m f = object_known classes heap vs ClassObject tt x (sight.reference x) (held_argument (lookup x vs) (lookup x ss)) d m f
+  one_known (rule.reference rule.object_array (rule.named {x = x} fits)) text d m f = object_known classes heap vs ObjectArray tt x (sight.reference x) (held_argument (lookup x vs) (lookup x ss)) d m f
+  one_known (rule.reference rule.string (rule.named {x = x} fits)) text d m f = object_known classes heap vs StringObject tt x (sight.reference x) (held_argument (lookup x vs) (lookup x ss)) d m f
+  one_known (rule.reference (rule.number_array {t = t}) (rule.named {x = x} fits)) text d m f = object_known classes heap vs (NumberArray t) tt x (sight.reference x) (held_argument (lookup x vs) (lookup x ss)) d m f
+  one_known (rule.field rule.null) text d m f = field_known classes heap vs None m (λ g e. absurd (cc))
+  one_known (rule.field (rule.named {x = x} is)) text d m f = field_known classes heap vs (held_field (lookup x vs)) m (held_declared (lookup x vs) (λ v e. variable_typed classes heap x vs v typed e))
+  one_known (rule.array {t = t} {size = size} {x = x} is) text d m f = let h = stands.types x (types.Array t size) is in (h.0, h.1)
+  one_known rule.text text d m f = text
+  one_known fits text d m f = tt
 
   none_of : (a b : Bool) → (a || b) ≡ false → (a ≡ false) × (b ≡ false)
   none_of true b h = absurd (cc)
   none_of false b h = (refl, h)
 
-  pub all_known : (kinds : List ParameterKind) (operands : List Operand) → OperandsFit p kinds operands → AllByRecursion HasActualText (map (look_up sight) (zip kinds operands))
+  pub all_known : {kinds : List ParameterKind} {operands : List Operand} → OperandsFit p kinds operands → AllByRecursion HasActualText (map (look_up sight) (zip kinds operands))
       → list_any (λ (a : ArgumentSight). a.is_deleted) (all_seen kinds operands) ≡ false
       → list_any misses (zip kinds (all_seen kinds operands)) ≡ false
       → list_any (misfits classes) (zip kinds (all_seen kinds operands)) ≡ false
       → AreKnownAs classes heap vs kinds (map (look_up sight) (zip kinds operands))
-  all_known [] [] fit texts d m f = tt
-  all_known [] (o ∷ operands) fit texts d m f = absurd fit
-  all_known (kind ∷ kinds) [] fit texts d m f = absurd fit
-  all_known (kind ∷ kinds) (o ∷ operands) fit texts d m f =
+  all_known rule.done texts d m f = tt
+  all_known (rule.next {kind = kind} {kinds = kinds} {o = o} {operands = operands} fit rest) texts d m f =
       let args = all_seen kinds operands in
       let x = none_of (is_deleted (look_up sight (kind, o))) (list_any (λ (a : ArgumentSight). a.is_deleted) args) d in
       let y = none_of (misses (kind, of_operand kind o)) (list_any misses (zip kinds args)) m in
       let z = none_of (misfits classes (kind, of_operand kind o)) (list_any (misfits classes) (zip kinds args)) f in
-      (one_known kind o fit.0 texts.0 x.0 y.0 z.0, all_known kinds operands fit.1 texts.1 x.1 y.1 z.1)
+      (one_known fit texts.0 x.0 y.0 z.0, all_known rest texts.1 x.1 y.1 z.1)

@@ -1,5 +1,5 @@
 -- A step of a thread leaves typed objects and variables.
-use Rattle.std.proofs.Common.{◌≡◌, ℕ, ℤ, zero, suc, pos, Bool, true, false, List, [], ◌∷◌, length, map, replicate, zip, Option, Some, None, refl, sym, ap, ◌∙◌, subst, if◌then◌else◌}
+use Rattle.std.proofs.Common.{◌≡◌, ℕ, ℤ, zero, suc, pos, Bool, true, false, List, [], ◌∷◌, map, replicate, zip, Option, Some, None, refl, sym, ap, ◌∙◌, subst, if◌then◌else◌}
 use Rattle.std.specs.Prelude.{slice_set, IsTrue, find}
 use Rattle.std.specs.List.{AllByRecursion, list_any}
 use Rattle.std.specs.Option.{option_map}
@@ -245,12 +245,12 @@ module _ (methods : Bool) (unit : SourceUnit) (classes : Classes) (well : Declar
         let checks = passed classes (sight_of_call s t f args) (target_element t.variables target) f none in
         let fits = call_fits s.heap s.statics t.variables t.frames p stands rest line target f operands runs in
         let with_args = subst (λ (l : List Actual). AllByRecursion HasActualText l × ArePassed classes (sight_of_call s t f l) (target_element t.variables target) f) is (arg_texts, checks) in
-        let looked = looked_up p (sight_of s t) (parameters_for f (length operands)) operands fits.types in
+        let looked = looked_up p (sight_of s t) fits.types in
         let many = length-map (actuals (sight_of s t) f operands) (λ (a : Actual). argument_seen s.heap (Some a)) ∙ looked in
         let asked : List Actual → ℕ → Type 0 = λ l n. (list_any misses (zip (parameters_for f n) (map (λ (a : Actual). argument_seen s.heap (Some a)) l)) ≡ false) × (list_any (misfits classes) (zip (parameters_for f n) (map (λ (a : Actual). argument_seen s.heap (Some a)) l)) ≡ false) in
         let checked = subst (asked (actuals (sight_of s t) f operands)) many (with_args.1.given, with_args.1.kinds) in
         let known = subst (λ (n : ℕ). AreKnownAs classes s.heap t.variables (parameters_for f n) (actuals (sight_of s t) f operands)) (sym looked)
-        (all_known classes s.heap s.statics t.variables t.frames p stands vars (parameters_for f (length operands)) operands fits.types with_args.0 with_args.1.present checked.0 checked.1) in
+        (all_known classes s.heap s.statics t.variables t.frames p stands vars fits.types with_args.0 with_args.1.present checked.0 checked.1) in
         subst (λ (l : List Actual). EffectFits classes (target_element t.variables target) s.heap t.variables (call_effect unit classes in_use k s t l f)) (sym is)
         (effect_fits unit classes well g in_use k s t typed vars (target_element t.variables target) (actuals (sight_of s t) f operands) f known with_args.1.together
         (ready s.heap s.statics t.variables t.frames p stands (GoesOn rest) classes line target f operands (can_throw f may) runs fits))))
