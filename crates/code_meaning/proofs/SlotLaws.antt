@@ -20,7 +20,8 @@ use Rattle.semantics.specs.Method as method
 use Rattle.semantics.specs.Object.{Reference}
 use Rattle.semantics.specs.declared.variable_kind.VariableKind.{VariableKind}
 use Rattle.semantics.specs.declared.variable_kind.VariableKind.TheVariants as kinds
-use Rattle.semantics.specs.Value.{Value, Gives, convert}
+use Rattle.semantics.specs.declared.value.Value.{Value}
+use Rattle.semantics.specs.Value.{Gives, convert}
 use Rattle.semantics.specs.Variable as variable
 use Rattle.semantics.specs.Variable.{NoBuffer, StaticReference, Empty, Statics, as_argument, assign}
 use Rattle.code.specs.declared.instr.NullableVariable.{NullableVariable}

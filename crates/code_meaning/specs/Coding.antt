@@ -40,7 +40,7 @@ use Rattle.jni.specs.declared.mode.ReleaseMode.TheVariants.{CopyBackAndFree, Cop
 use Rattle.semantics.specs.Arguments.{mode_of}
 use Rattle.semantics.specs.Term as term
 use Rattle.semantics.specs.Term.{Term, Done, Read, And, Or, IsNull, Prefix, Binary, term_of}
-use Rattle.semantics.specs.Value.{Int}
+use Rattle.semantics.specs.declared.value.Value.TheVariants.{Int}
 use Rattle.code_meaning.specs.Layout.{Slot, Known, Layout, new_slot, entry_layout, closed, layout_after, block_layout}
 
 -- ---- variables

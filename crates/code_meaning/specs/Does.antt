@@ -28,8 +28,10 @@ use Rattle.semantics.specs.declared.variable_kind.VariableKind.TheVariants as ki
 use Rattle.semantics.specs.Task.{Task, Branch, Target, Declared, Assigned, Tested, Dropped}
 use Rattle.semantics.specs.Term.{Done}
 use Rattle.semantics.specs.declared.trap.Trap.{Trap}
-use Rattle.semantics.specs.Value.{Value, Int, Gives}
-use Rattle.semantics.specs.Value as value
+use Rattle.semantics.specs.declared.value.Value.{Value}
+use Rattle.semantics.specs.declared.value.Value.TheVariants.{Int}
+use Rattle.semantics.specs.Value.{Gives}
+use Rattle.semantics.specs.declared.value.Value.TheVariants as value
 use Rattle.semantics.specs.declared.trap.Trap.TheVariants as traps
 use Rattle.semantics.specs.Variable as variable
 use Rattle.semantics.specs.Variable.{StaticReference, Empty}

@@ -22,7 +22,7 @@ use Rattle.type_rules.specs.ExprTypes.{group, is_buffer_for}
 use Rattle.type_rules.specs.TypeRules.{declared_type, is_droppable, is_mode}
 use Rattle.type_rules.specs.TypeGroups.{IsIndexType, IsNumberType, OperatorFits}
 use Rattle.code.specs.declared.slots.SlotCounts.{SlotCounts}
-use Rattle.semantics.specs.Value.{Value}
+use Rattle.semantics.specs.declared.value.Value.{Value}
 use Rattle.semantics.specs.Term as term
 use Rattle.semantics.specs.Term.{Term, Done, Read, And, Or, IsNull, Prefix, Binary, term_of}
 use Rattle.code_meaning.specs.Layout.{Slot, Known, Layout, width, closed, layout_after, block_layout, entry_layout}

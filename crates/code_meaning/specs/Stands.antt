@@ -26,7 +26,7 @@ use Rattle.semantics.specs.declared.variable_kind.VariableKind.TheVariants as ki
 use Rattle.semantics.specs.Task.{Task, SetScalar, SetElement, SetNull, MakeArray, Invoke, Print, Branch, EndIf, Loop, EndTurn, Return, ReturnValue, Impossible, Target, Declared, Assigned, Tested, Dropped, Operand, NumberOperand, PassedName, Given}
 use Rattle.semantics.specs.Term as term
 use Rattle.semantics.specs.Term.{Term, Done, Read, And, Or, Prefix, Binary, term_of}
-use Rattle.semantics.specs.Value.{Truth}
+use Rattle.semantics.specs.declared.value.Value.TheVariants.{Truth}
 use Rattle.code.specs.Call.{Call}
 use Rattle.code.specs.declared.instr.Operand.{Operand as Where}
 use Rattle.code.specs.declared.instr.Operand.TheVariants as operand

@@ -28,7 +28,9 @@ use Rattle.semantics.specs.Task.{Task, SetScalar, SetElement, SetNull, MakeArray
 use Rattle.semantics.specs.Term as term
 use Rattle.semantics.specs.Term.{Term, Done, term_of}
 use Rattle.semantics.specs.declared.trap.Trap.TheVariants.{OutOfRange}
-use Rattle.semantics.specs.Value.{Value, Word, Int, Truth, Gives, Traps}
+use Rattle.semantics.specs.declared.value.Value.{Value}
+use Rattle.semantics.specs.declared.value.Value.TheVariants.{Word, Int, Truth}
+use Rattle.semantics.specs.Value.{Gives, Traps}
 use Rattle.semantics.specs.Variable as variable
 use Rattle.code_meaning.specs.Layout.{Slot, Known, Layout}
 use Rattle.code_meaning.specs.Coding.{element_of, write_code, term_code, paths_code, turn_code, block_code}

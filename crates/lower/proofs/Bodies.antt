@@ -36,7 +36,7 @@ use Rattle.code.specs.declared.instr.Target.TheVariants as destination
 use Rattle.code.specs.declared.instr.Instr.TheVariants as instr
 use Rattle.code.specs.Depth.{Listing}
 use Rattle.code.specs.Effect.{truth_word}
-use Rattle.semantics.specs.Value.{Truth}
+use Rattle.semantics.specs.declared.value.Value.TheVariants.{Truth}
 use Rattle.semantics.specs.Term as term
 use Rattle.semantics.specs.Term.{Term, Done, Read, Binary, term_of}
 use Rattle.semantics.specs.declared.variable_kind.VariableKind.{VariableKind}

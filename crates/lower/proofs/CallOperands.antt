@@ -9,7 +9,7 @@ use Rattle.type_rules.specs.ExprTypes.{is_jint}
 use Rattle.code.specs.declared.instr.Instr.{Instr}
 use Rattle.semantics.specs.Task.{Operand, NumberOperand, PassedName, Given}
 use Rattle.semantics.specs.Term.{Term, Done, Read}
-use Rattle.semantics.specs.Value.{Int}
+use Rattle.semantics.specs.declared.value.Value.TheVariants.{Int}
 use Rattle.code_meaning.specs.Layout.{Slot, Known}
 use Rattle.code_meaning.specs.Coding.{of_slot, load_code, number_code, names_number, term_code}
 use Rattle.code_meaning.specs.Stands.{held, IsBegun, operand_text, operands_texts, operand_rest, operands_rest, operand_held, operands_held, AreUntouched, AreBegun}

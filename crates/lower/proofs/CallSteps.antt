@@ -38,7 +38,9 @@ use Rattle.semantics.specs.declared.variable_kind.VariableKind.{VariableKind}
 use Rattle.semantics.specs.declared.variable_kind.VariableKind.TheVariants as kinds
 use Rattle.semantics.specs.Task.{Task, Invoke, Target, Declared, Assigned, Dropped, Operand, NumberOperand, PassedName, Given, Tested}
 use Rattle.semantics.specs.Term.{Term, Done, Read, reduce}
-use Rattle.semantics.specs.Value.{Value, Int, Gives, Outcome, Traps, Stuck, outcome_map}
+use Rattle.semantics.specs.declared.value.Value.{Value}
+use Rattle.semantics.specs.declared.value.Value.TheVariants.{Int}
+use Rattle.semantics.specs.Value.{Gives, Outcome, Traps, Stuck, outcome_map}
 use Rattle.code_meaning.specs.Layout.{Slot, Known}
 use Rattle.code_meaning.specs.Coding.{names_number, term_code}
 use Rattle.code_meaning.specs.Slots.{word_of, Visible, Slots, Shows, SeesBuffers, ShowsStatic, ShowsSlot, OfField, OfMethod}

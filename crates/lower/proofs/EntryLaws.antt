@@ -16,7 +16,7 @@ use Rattle.semantics.specs.World.{Invocation}
 use Rattle.semantics.specs.Activation.{entered, parameter_variables}
 use Rattle.semantics.specs.Sight.{scalar, held_reference, holds_null}
 use Rattle.semantics.specs.Thread.{Shared, Thread}
-use Rattle.semantics.specs.Value.{Int}
+use Rattle.semantics.specs.declared.value.Value.TheVariants.{Int}
 use Rattle.semantics.specs.Variable.{Variable, Scalar, LocalRef, StaticReference}
 use Rattle.code.specs.Depth.{Listing}
 use Rattle.code.proofs.Arrays.{get_replicate}

@@ -24,7 +24,9 @@ use Rattle.semantics.specs.declared.variable_kind.VariableKind.{VariableKind}
 use Rattle.semantics.specs.declared.variable_kind.VariableKind.TheVariants as kinds
 use Rattle.semantics.specs.Task.{Task, SetScalar, SetNull, MakeArray, Print, Target, Declared, Assigned}
 use Rattle.semantics.specs.Term.{Term, Done, reduce}
-use Rattle.semantics.specs.Value.{Value, Int, Gives}
+use Rattle.semantics.specs.declared.value.Value.{Value}
+use Rattle.semantics.specs.declared.value.Value.TheVariants.{Int}
+use Rattle.semantics.specs.Value.{Gives}
 use Rattle.code_meaning.specs.Layout.{Slot, Known}
 use Rattle.code_meaning.specs.Coding.{nullable_of, term_code}
 use Rattle.code_meaning.specs.Slots.{word_of, is_empty, is_no_buffer, Visible, Slots, ShowsSlot, Shows, SeesBuffers}

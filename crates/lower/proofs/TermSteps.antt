@@ -40,7 +40,9 @@ use Rattle.code.specs.declared.instr.PlainTrap.TheVariants as trap
 use Rattle.code.specs.Effect.{plain_of, truth_word, operate}
 use Rattle.code.proofs.Words.{negative_index}
 use Rattle.semantics.specs.declared.trap.Trap.TheVariants.{OutOfRange}
-use Rattle.semantics.specs.Value.{Value, Word, Int, Flag, Truth, Gives, Traps, Stuck, outcome_map, convert}
+use Rattle.semantics.specs.declared.value.Value.{Value}
+use Rattle.semantics.specs.declared.value.Value.TheVariants.{Word, Int, Flag, Truth}
+use Rattle.semantics.specs.Value.{Gives, Traps, Stuck, outcome_map, convert}
 use Rattle.semantics.specs.Term as term
 use Rattle.semantics.specs.Term.{Term, Done, Read, IsNull, Prefix, And, Or, Binary, Reduction, done, with_part, reduce}
 use Rattle.code_meaning.specs.Layout.{Slot, Known}

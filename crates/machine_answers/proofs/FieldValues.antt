@@ -13,7 +13,7 @@ use Rattle.semantics.specs.Answer as source
 use Rattle.semantics.specs.Heap.{Heap, class_of, number_in, object_at, reference_in, value_at, value_or_zero, values_of, with_value_at}
 use Rattle.semantics.specs.Object.{Object, ObjectValue, Number, Refers}
 use Rattle.semantics.specs.Thread.{Shared, Thread}
-use Rattle.semantics.specs.Value.{Int}
+use Rattle.semantics.specs.declared.value.Value.TheVariants.{Int}
 use Rattle.semantics.specs.World.{World}
 use Rattle.code_meaning.specs.Lowered.{Lowered}
 use Rattle.code_meaning.specs.Slots.{word_of}

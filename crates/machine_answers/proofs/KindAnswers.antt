@@ -36,7 +36,8 @@ use Rattle.semantics.specs.CallSight as seen
 use Rattle.semantics.specs.Heap.{number_in, place_in, reference_in}
 use Rattle.semantics.specs.Method.{MethodId}
 use Rattle.semantics.specs.Object.{Object, ObjectValue, Number, Reference, Refers}
-use Rattle.semantics.specs.Value.{Int, convert}
+use Rattle.semantics.specs.declared.value.Value.TheVariants.{Int}
+use Rattle.semantics.specs.Value.{convert}
 use Rattle.semantics.specs.Variable.{StaticReference, Weakly, Cleared}
 use Rattle.code_meaning.specs.Coding.{element_of}
 use Rattle.code_meaning.specs.Does.{OperandFits, words_given}

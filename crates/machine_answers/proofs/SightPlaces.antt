@@ -9,7 +9,7 @@ use Rattle.code.specs.declared.instr.Operand.TheVariants as operand
 use Rattle.jni.specs.declared.kinds.ParameterKind.{ParameterKind}
 use Rattle.jni.specs.declared.kinds.ParameterKind.TheVariants.{IntNumber, Passed, TextBytes}
 use Rattle.semantics.specs.Arguments.{Actual, ReferenceActual, FieldActual, MethodActual, NumberActual, TextActual, VariableActual, ModeActual, NothingActual, number_in_actual, text_in_actual}
-use Rattle.semantics.specs.Value.{Int}
+use Rattle.semantics.specs.declared.value.Value.TheVariants.{Int}
 use Rattle.code_meaning.specs.Does.{ActualFits, IsVariableKind, text_given, texts_given, word_given, words_given}
 use Rattle.code_meaning.specs.Fits.{IsReferenceKind}
 use Rattle.code_meaning.specs.Slots.{word_of}

@@ -23,7 +23,7 @@ use Rattle.semantics.specs.declared.trap.Trap.{Trap}
 use Rattle.semantics.specs.Method.{MethodId}
 use Rattle.semantics.specs.Object.{Object, ObjectValue, Number, Reference}
 use Rattle.semantics.specs.Thread.{BuffersInUse, Monitor, Shared, Thread, monitor_of}
-use Rattle.semantics.specs.Value.{Int, Flag}
+use Rattle.semantics.specs.declared.value.Value.TheVariants.{Int, Flag}
 use Rattle.semantics.specs.Variable.{StaticReference, Live, Weakly, Cleared}
 use Rattle.jni.specs.declared.mode.ReleaseMode.{ReleaseMode}
 use Rattle.semantics.specs.Arguments.{Actual, variable_given}

@@ -34,7 +34,7 @@ use Rattle.semantics.specs.CallStep.{failure, makes_objects}
 use Rattle.semantics.specs.Heap.{Heap, next_name, numbers_of, with_numbers}
 use Rattle.semantics.specs.Thread as source
 use Rattle.semantics.specs.Thread.{Shared, Thread}
-use Rattle.semantics.specs.Value.{Int}
+use Rattle.semantics.specs.declared.value.Value.TheVariants.{Int}
 use Rattle.semantics.specs.World.{World, fresh_object, loaded_objects}
 use Rattle.world_values.proofs.LoadedWorlds.{loaded_error}
 use Rattle.code_meaning.specs.Lowered.{Lowered}

@@ -13,7 +13,7 @@ use Rattle.semantics.specs.Answer.{Answer as SourceAnswer, effect_of}
 use Rattle.semantics.specs.AnswerTable.{monitor_entered, monitor_left}
 use Rattle.semantics.specs.Thread as source
 use Rattle.semantics.specs.Thread.{Shared, Thread}
-use Rattle.semantics.specs.Value.{Int}
+use Rattle.semantics.specs.declared.value.Value.TheVariants.{Int}
 use Rattle.semantics.specs.World.{World}
 use Rattle.monitors.specs.declared.monitors.Monitor.{Monitor}
 use Rattle.monitors.specs.declared.monitors.Object.{Object}

@@ -10,7 +10,7 @@ use Rattle.semantics.specs.AnswerTable.{monitor_entered, monitor_left}
 use Rattle.semantics.specs.Arguments.{Actual}
 use Rattle.semantics.specs.Thread as source
 use Rattle.semantics.specs.Thread.{BuffersInUse}
-use Rattle.semantics.specs.Value.{Int}
+use Rattle.semantics.specs.declared.value.Value.TheVariants.{Int}
 use Rattle.semantics.specs.CallEffects.{CallEffect, ScalarResult, monitor, monitors_effect}
 use Rattle.monitors.specs.declared.monitors.Monitor.{Monitor}
 use Rattle.monitors.specs.declared.monitors.Object.{Object}

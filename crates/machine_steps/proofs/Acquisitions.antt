@@ -10,7 +10,7 @@ use Rattle.syntax.specs.Tree.{Parameter}
 use Rattle.semantics.specs.Activation.{parameter_variables}
 use Rattle.semantics.specs.Object.{ObjectValue, Number, Refers}
 use Rattle.semantics.specs.Thread.{Shared}
-use Rattle.semantics.specs.Value.{Int}
+use Rattle.semantics.specs.declared.value.Value.TheVariants.{Int}
 use Rattle.semantics.specs.Variable as source
 use Rattle.semantics.specs.Variable.{Variable, Variables, Scalar, LocalRef, FieldHandle, MethodHandle, Elements, LocalArray, NoBuffer, Copy, View, assign, copied_length, viewed}
 use Rattle.semantics.specs.World.{World}

@@ -20,7 +20,7 @@ use Rattle.semantics.specs.CallEffects.{CallResult}
 use Rattle.semantics.specs.Effect.{Effect, Becomes, Sets, SetsNull, SetsElement, MakesArray, Prints, Calls, Returns, TrapsAt, NoEffect, effect_of}
 use Rattle.semantics.specs.Task.{Task, Target}
 use Rattle.semantics.specs.declared.trap.Trap.{Trap}
-use Rattle.semantics.specs.Value.{Value}
+use Rattle.semantics.specs.declared.value.Value.{Value}
 use Rattle.code_meaning.specs.Layout.{Known, with_static}
 use Rattle.code_meaning.specs.Slots.{Visible, Slots, Shows, SeesBuffers, IsSet, IsMade, IsElementSet}
 use Rattle.code_meaning.specs.Stands.{StandsFor}

@@ -32,7 +32,7 @@ use Rattle.semantics.specs.Effect.{effect_of}
 use Rattle.semantics.specs.Task.{Task}
 use Rattle.semantics.specs.Thread as source
 use Rattle.semantics.specs.Thread.{Shared, sight_of}
-use Rattle.semantics.specs.Value.{Flag}
+use Rattle.semantics.specs.declared.value.Value.TheVariants.{Flag}
 use Rattle.semantics.specs.Variable as source_variable
 use Rattle.semantics.specs.Variable.{Variables, Scalar, Elements, NoBuffer, Copy, View, assign, change}
 use Rattle.semantics.specs.World.{World}

@@ -12,7 +12,8 @@ use Rattle.semantics.specs.Object.{Reference}
 use Rattle.semantics.specs.Sight.{scalar, holds_null, elements_of, in_range, held_reference, held_field, held_method}
 use Rattle.semantics.specs.Thread as source
 use Rattle.semantics.specs.Thread.{Shared}
-use Rattle.semantics.specs.Value.{Value, Gives, Stuck, outcome_then, convert}
+use Rattle.semantics.specs.declared.value.Value.{Value}
+use Rattle.semantics.specs.Value.{Gives, Stuck, outcome_then, convert}
 use Rattle.semantics.specs.Variable as variable
 use Rattle.semantics.specs.Variable.{Variable, Scalar, LocalRef, FieldHandle, MethodHandle, Elements, LocalArray, NoBuffer, Empty, Variables, assign}
 use Rattle.semantics.specs.declared.variable_kind.VariableKind.{VariableKind}

@@ -12,7 +12,9 @@ use Rattle.semantics.specs.Sight.{Sight}
 use Rattle.semantics.specs.Task.{Task, SetScalar, SetElement, SetNull, MakeArray, Invoke, Print, Branch, EndIf, Loop, EndTurn, Return, ReturnValue, Impossible, Target, Operand}
 use Rattle.semantics.specs.Term.{Term, Done, Named, Read, index_of, reduce}
 use Rattle.semantics.specs.Variable.{StaticReference}
-use Rattle.semantics.specs.Value.{Value, Word, Int, Flag, Truth, Outcome, Gives, Traps, Stuck}
+use Rattle.semantics.specs.declared.value.Value.{Value}
+use Rattle.semantics.specs.declared.value.Value.TheVariants.{Word, Int, Flag, Truth}
+use Rattle.semantics.specs.Value.{Outcome, Gives, Traps, Stuck}
 
 -- an element that an effect sets can be seen
 abbrev pub SetsWhatIsThere : Sight → Effect → Type 0

@@ -25,7 +25,7 @@ use Rattle.semantics.specs.Activation.{enter, entered, entered_function, entry_a
 use Rattle.semantics.specs.Task.{Task, tasks_of}
 use Rattle.semantics.specs.Thread as source
 use Rattle.semantics.specs.Thread.{Shared}
-use Rattle.semantics.specs.Value.{Int}
+use Rattle.semantics.specs.declared.value.Value.TheVariants.{Int}
 use Rattle.semantics.specs.Variable.{Buffer, NoBuffer, StaticReference, Variable, Scalar, LocalRef, Variables}
 use Rattle.semantics.specs.ThreadStep.{step_within}
 use Rattle.semantics_safety.specs.Owners.{Owners, ThreadOwners, after_tasks, holders, level_held}

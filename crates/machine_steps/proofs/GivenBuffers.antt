@@ -28,7 +28,8 @@ use Rattle.semantics.specs.Heap.{numbers_of}
 use Rattle.semantics.specs.declared.variable_kind.VariableKind.TheVariants as kinds
 use Rattle.semantics.specs.Thread as source
 use Rattle.semantics.specs.Thread.{Shared}
-use Rattle.semantics.specs.Value.{Value, Flag}
+use Rattle.semantics.specs.declared.value.Value.{Value}
+use Rattle.semantics.specs.declared.value.Value.TheVariants.{Flag}
 use Rattle.semantics.specs.Variable as variable
 use Rattle.semantics.specs.Variable.{Variables, Scalar, Elements, NoBuffer, Copy, View, assign}
 use Rattle.semantics_safety.specs.StepSafe.{HoldsNoBuffer}

@@ -16,7 +16,8 @@ use Rattle.semantics.specs.CallEffects.{CallResult, NoResult, NullResult, Scalar
 use Rattle.semantics.specs.CallStep.{filled, static_result}
 use Rattle.semantics.specs.Object.{Reference}
 use Rattle.semantics.specs.Thread as source
-use Rattle.semantics.specs.Value.{Value, Int, Flag}
+use Rattle.semantics.specs.declared.value.Value.{Value}
+use Rattle.semantics.specs.declared.value.Value.TheVariants.{Int, Flag}
 use Rattle.semantics.specs.Variable.{Buffer, NoBuffer, LocalRef, FieldHandle, MethodHandle, Elements}
 use Rattle.code_meaning.specs.Slots as value
 use Rattle.code_meaning.specs.Slots.{ValueHasType, word_of}

@@ -32,7 +32,8 @@ use Rattle.semantics.specs.Task.{Task, Branch, Target, Declared, Assigned, Teste
 use Rattle.semantics.specs.Thread as source
 use Rattle.semantics.specs.declared.event.Event.TheVariants.{Quiet}
 use Rattle.semantics.specs.Thread.{Shared}
-use Rattle.semantics.specs.Value.{Value, Int, Truth}
+use Rattle.semantics.specs.declared.value.Value.{Value}
+use Rattle.semantics.specs.declared.value.Value.TheVariants.{Int, Truth}
 use Rattle.semantics.specs.Variable.{Buffer, NoBuffer, StaticReference, Variable, Variables, Scalar, LocalRef, FieldHandle, MethodHandle, Elements, LocalArray, assign}
 use Rattle.semantics.specs.World.{World}
 use Rattle.code.specs.Call.{Call}

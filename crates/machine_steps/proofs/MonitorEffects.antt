@@ -9,7 +9,7 @@ use Rattle.semantics.specs.Answer.{Answer, Disowns, Gives, Owns, Raises, effect_
 use Rattle.semantics.specs.AnswerTable.{monitor_entered, monitor_left}
 use Rattle.semantics.specs.CallEffects.{CallEffect, Leaves, Throws, ScalarResult, monitors_effect}
 use Rattle.semantics.specs.Thread.{Monitor, Shared, Thread}
-use Rattle.semantics.specs.Value.{Int}
+use Rattle.semantics.specs.declared.value.Value.TheVariants.{Int}
 
 module _ (classes : Classes) (brought : Brought) (shared : Shared) (t : Thread) (n : ℕ) (P : CallEffect → Type 0) where
   -- it holds of the effect of an answer

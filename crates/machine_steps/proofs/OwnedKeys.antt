@@ -26,7 +26,9 @@ use Rattle.semantics.specs.Task.{Task, Target, Operand, NumberOperand, PassedNam
 use Rattle.semantics.specs.Term as term
 use Rattle.semantics.specs.Term.{Term, Done, Read, index_of, reduce}
 use Rattle.semantics.specs.Thread.{Shared, Thread, sight_of}
-use Rattle.semantics.specs.Value.{Value, Int, Truth, Outcome, Gives, Traps, Stuck}
+use Rattle.semantics.specs.declared.value.Value.{Value}
+use Rattle.semantics.specs.declared.value.Value.TheVariants.{Int, Truth}
+use Rattle.semantics.specs.Value.{Outcome, Gives, Traps, Stuck}
 use Rattle.semantics.specs.Variable.{Variable, LocalRef, StaticReference, Empty, Live, Weakly, Cleared, Deleted, Variables, as_static}
 use Rattle.code.specs.Depth.{Listing}
 use Rattle.code.specs.declared.instr.Operand.{Operand as InMemory}

@@ -33,7 +33,9 @@ use Rattle.semantics.specs.Sight.{Sight}
 use Rattle.semantics.specs.Task.{Task, SetScalar, SetElement, SetNull, MakeArray, Invoke, Print, Branch, EndIf, Loop, EndTurn, Return, ReturnValue, Impossible, Target, Operand}
 use Rattle.semantics.specs.Term.{Term, Done, Read, index_of, reduce}
 use Rattle.semantics.specs.Thread.{Shared, Thread, sight_of}
-use Rattle.semantics.specs.Value.{Value, Int, Truth, Outcome, Gives, Traps, Stuck}
+use Rattle.semantics.specs.declared.value.Value.{Value}
+use Rattle.semantics.specs.declared.value.Value.TheVariants.{Int, Truth}
+use Rattle.semantics.specs.Value.{Outcome, Gives, Traps, Stuck}
 use Rattle.semantics.specs.Variable.{StaticReference, Empty, Live, Weakly, Cleared, Deleted, Variables, as_reference, as_static}
 use Rattle.semantics_safety.specs.Owners.{Owners, IsOwn}
 use Rattle.semantics_safety.specs.Used.{task_names}

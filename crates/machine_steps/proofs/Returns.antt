@@ -23,7 +23,7 @@ use Rattle.semantics.specs.Task.{Task, Invoke, Target, Declared, Assigned, Teste
 use Rattle.semantics.specs.Thread as source
 use Rattle.semantics.specs.Thread.{Shared, lengths_copied, objects_viewed, sight_of}
 use Rattle.semantics.specs.ThreadStep.{after_effect, step_within}
-use Rattle.semantics.specs.Value.{Int}
+use Rattle.semantics.specs.declared.value.Value.TheVariants.{Int}
 use Rattle.semantics.specs.Variable.{Variables}
 use Rattle.semantics.specs.World.{World, loaded_objects}
 use Rattle.semantics_safety.specs.Owners.{Owners, ThreadOwners, after_return, after_step, after_tasks, with_result}

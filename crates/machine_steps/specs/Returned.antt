@@ -18,7 +18,7 @@ use Rattle.machine_scenes.specs.Given.{held_in}
 use Rattle.machine_scenes.specs.HeapAgrees.{ReferenceAgrees}
 use Rattle.machine_scenes.specs.Locals.{address_of}
 use Rattle.semantics.specs.CallEffects.{CallResult, NoResult, ScalarResult, ReferenceResult}
-use Rattle.semantics.specs.Value.{Int}
+use Rattle.semantics.specs.declared.value.Value.TheVariants.{Int}
 
 -- the topmost word of a stack, and 0 where there is none
 abbrev pub top_of : List ℕ → ℕ

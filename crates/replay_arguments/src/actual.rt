@@ -24,10 +24,10 @@ use classes::fields::FieldId;
 pub use jni::ReleaseMode;
 use jni::{JniFunction, ParameterKind};
 use replay_terms::{
-    Content, MethodId, OperandRef, Operands, StaticReference, Term, Value, Variables, as_reference,
+    Content, MethodId, OperandRef, Operands, StaticReference, Term, Variables, as_reference,
     held_reference, passed,
 };
-use semantics::{Level, NO_OBJECT, ObjectId, ObjectValue};
+use semantics::{Level, NO_OBJECT, ObjectId, ObjectValue, Value};
 use std::alloc::{AllocError, Global};
 use syntax::{Argument, Constant, ExprRef, Name, Shape};
 

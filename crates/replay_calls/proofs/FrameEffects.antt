@@ -5,7 +5,7 @@ use Rattle.class_rules.specs.Class.{Classes}
 use Rattle.semantics.specs.CallEffects.{ScalarResult, Leaves, frames_effect, refuses_frames}
 use Rattle.semantics.specs.CallStep.{makes_objects}
 use Rattle.semantics.specs.Thread.{Frame, Shared, Thread, capacities}
-use Rattle.semantics.specs.Value.{Int}
+use Rattle.semantics.specs.declared.value.Value.TheVariants.{Int}
 
 pub make_none : (classes : Classes) (s : Shared) (t : Thread) (fs : List Frame) → makes_objects (frames_effect classes s t fs) ≡ false
 make_none classes s t fs = by_test (nat_le (capacities fs) 1024)

@@ -21,8 +21,8 @@ use jni::{Access, JniFunction};
 use replay_arguments::Scene;
 use replay_arguments::actual::{Actual, ReleaseMode, mode_given, object_given};
 use replay_objects::Store;
-use replay_terms::{BuffersInUse, Content, Lent, Value, Variables};
-use semantics::ObjectId;
+use replay_terms::{BuffersInUse, Content, Lent, Variables};
+use semantics::{ObjectId, Value};
 use std::alloc::AllocError;
 
 /// What a function does that gives a buffer or takes it back.

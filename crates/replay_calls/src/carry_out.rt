@@ -9,7 +9,7 @@ ghost use Rattle.semantics.specs.Arguments.{Actual as ActualOfCall};
 ghost use Rattle.semantics.specs.CallEffects.{ScalarResult, out_of_memory};
 ghost use Rattle.semantics.specs.CallStep.{failure, makes_objects};
 ghost use Rattle.semantics.specs.Thread.{BuffersInUse as InUse, Shared as SharedOfThreads, Thread};
-ghost use Rattle.semantics.specs.Value.{Int};
+ghost use Rattle.semantics.specs.declared.value.Value.TheVariants.{Int};
 ghost use Rattle.semantics.specs.Views.{name_of};
 ghost use Rattle.replay_arguments.specs.Actuals.{actual_view};
 ghost use Rattle.replay_arguments.specs.Shares.{shared_view};

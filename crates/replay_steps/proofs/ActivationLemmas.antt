@@ -26,7 +26,7 @@ use Rattle.replay_tasks.specs.declared.outcome.Outcome.TheVariants as outcome
 use Rattle.replay_tasks.specs.declared.task.Task.{Task as TaskInMemory}
 use Rattle.semantics.specs.Variable.{Statics}
 use Rattle.replay_terms.specs.declared.term.Term.TheVariants as term
-use Rattle.replay_terms.specs.declared.value.Value.TheVariants as value
+use Rattle.semantics.specs.declared.value.Value.TheVariants as value
 use Rattle.replay_steps.specs.Activations.{tasks_from, tasks_around, tasks_after, tasks_left, thread_in, advance_by, Advances, HasBegun, IsBegunAs, AreSet, OuterInRange, IsInRange}
 use Rattle.replay_tasks.specs.Outcomes.{result_view, variable_step, Holds, LeavesVariables, LeavesIf}
 use Rattle.base.specs.Bytes.{Identifier}

@@ -31,7 +31,7 @@ use Rattle.semantics.specs.declared.event.Event.TheVariants.{Quiet, Trapped}
 use Rattle.semantics.specs.ThreadStep.{with_tasks}
 use Rattle.semantics.specs.declared.trap.Trap.{Trap}
 use Rattle.semantics.specs.declared.trap.Trap.TheVariants.{CallsTooDeep, DeletedReference, ExceptionPending, NoCapacity, NullReference, WrongObject}
-use Rattle.semantics.specs.Value.{Int}
+use Rattle.semantics.specs.declared.value.Value.TheVariants.{Int}
 use Rattle.semantics.specs.Variable.{Buffer, Variables}
 use Rattle.semantics.proofs.CheckLaws.{lacks_without, passed, together_without}
 use Rattle.replay_calls.specs.Answers.{answered, Coming, Gave, Left, Stops, FitsCall, array_given, frames_with, left_of}

@@ -24,7 +24,8 @@ use Rattle.semantics.specs.Thread.{Advance, Advances, BuffersInUse, Frame, Share
 use Rattle.semantics.specs.declared.event.Event.TheVariants.{Quiet}
 use Rattle.semantics.specs.ThreadStep.{step_within}
 use Rattle.semantics.specs.declared.trap.Trap.{Trap}
-use Rattle.semantics.specs.Value.{Int, convert}
+use Rattle.semantics.specs.declared.value.Value.TheVariants.{Int}
+use Rattle.semantics.specs.Value.{convert}
 use Rattle.semantics.specs.Variable.{Live}
 use Rattle.replay_steps.specs.declared.activation.Activation.{Activation}
 use Rattle.replay_steps.specs.declared.activation.Work.{Work}

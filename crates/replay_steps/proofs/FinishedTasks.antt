@@ -30,8 +30,8 @@ use Rattle.replay_tasks.specs.Outcomes.{LeavesVariables, variable_step}
 use Rattle.replay_tasks.specs.Tasks.{BegunInRange, OutcomeInRange, branch_task, loop_task, task_view, value_task}
 use Rattle.replay_terms.specs.declared.term.Term.{Term}
 use Rattle.replay_terms.specs.declared.term.Term.TheVariants as term
-use Rattle.replay_terms.specs.declared.value.Value.{Value}
-use Rattle.replay_terms.specs.declared.value.Value.TheVariants as value
+use Rattle.semantics.specs.declared.value.Value.{Value}
+use Rattle.semantics.specs.declared.value.Value.TheVariants as value
 use Rattle.replay_terms.specs.Views.{Contents}
 
 module _ (sight : Sight) where

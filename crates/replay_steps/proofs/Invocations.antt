@@ -16,7 +16,7 @@ use Rattle.semantics.specs.Term as terms
 use Rattle.semantics.specs.Term.{reduce}
 use Rattle.semantics.specs.Thread.{Thread, Shared, sight_of}
 use Rattle.semantics.specs.ThreadStep.{after_effect, after_refused_effect}
-use Rattle.semantics.specs.Value as values
+use Rattle.semantics.specs.declared.value.Value.{Value}
 use Rattle.semantics.specs.Value.{Outcome as Outcomes, Gives, Traps, Stuck, outcome_map}
 use Rattle.replay_tasks.specs.declared.outcome.Outcome.{Outcome}
 use Rattle.replay_tasks.specs.declared.task.Invocation.{Invocation}
@@ -28,13 +28,12 @@ use Rattle.replay_terms.specs.declared.reduction.Reduction.{Reduction}
 use Rattle.replay_terms.specs.declared.reduction.Reduction.TheVariants as reduction
 use Rattle.replay_terms.specs.declared.term.Term.{Term}
 use Rattle.replay_terms.specs.declared.term.Term.TheVariants as term
-use Rattle.replay_terms.specs.declared.value.Value.{Value}
 use Rattle.replay_steps.specs.Calls.{FindsArguments, MakesCall, MakesInvocation, ReducesFirst, ReducesListed, ReducesOne}
 use Rattle.replay_tasks.specs.Outcomes.{purpose_view}
 use Rattle.replay_arguments.specs.Shares.{sight_in}
 use Rattle.replay_tasks.specs.Effects.{HasEffect, reduced}
 use Rattle.replay_steps.specs.Steps.{Scene, Sees, Does}
-use Rattle.replay_terms.specs.Views.{operand_view, operands_view, looked_up, Contents, term_view, value_view, Reduces}
+use Rattle.replay_terms.specs.Views.{operand_view, operands_view, looked_up, Contents, term_view, Reduces}
 use Rattle.replay_tasks.specs.Tasks.{task_view}
 use Rattle.replay_steps.proofs.TaskLemmas.{sees_so}
 
@@ -44,7 +43,7 @@ first_given : (sight : Sight) (o : Operand) (rest : List source.Operand) → is_
 first_given sight (operands.Given a) rest given = refl
 first_given sight (operands.Passed x) rest given = by_value (sight.number x.now) given
   where
-    by_value : (o : Outcomes values.Value) → is_no_number o ≡ true → reduce_name x.now rest o (reduce_first sight rest) ≡ outcome_map (λ os. source.PassedName x.now ∷ os) (reduce_first sight rest)
+    by_value : (o : Outcomes Value) → is_no_number o ≡ true → reduce_name x.now rest o (reduce_first sight rest) ≡ outcome_map (λ os. source.PassedName x.now ∷ os) (reduce_first sight rest)
     by_value (Gives v) given = absurd (cc)
     by_value (Traps trap) given = refl
     by_value Stuck given = refl
@@ -61,7 +60,7 @@ first_given sight (operands.Number (term.Binary op s t)) rest given = absurd (cc
 
 -- a number that has no value yet
 pub record IsOpen (u : terms.Term) : Type 0 where
-  pub unready : (number : Identifier → Outcomes values.Value) → is_given number (source.NumberOperand u) ≡ false
+  pub unready : (number : Identifier → Outcomes Value) → is_given number (source.NumberOperand u) ≡ false
   pub reduces : (rest : List source.Operand) (step : Outcomes terms.Term) (further : Outcomes (List source.Operand)) → reduce_number u rest step further ≡ outcome_map (λ (w : terms.Term). source.NumberOperand w ∷ rest) step
 
 is_open : (t : Term) → ((v : Value) → t ≡ term.Done v → ⊥) → IsOpen (term_view t)
@@ -81,11 +80,11 @@ abbrev given : List Argument → List source.Operand
 given args = map looked_up args
 
 -- where they are left out, as much is ready
-pub ready_after : (number : Identifier → Outcomes values.Value) (args : List Argument) (os : List source.Operand) → is_ready number (given args ++ os) ≡ is_ready number os
+pub ready_after : (number : Identifier → Outcomes Value) (args : List Argument) (os : List source.Operand) → is_ready number (given args ++ os) ≡ is_ready number os
 ready_after number [] os = refl
 ready_after number (a ∷ args) os = ready_after number args os
 
-pub all_ready : (number : Identifier → Outcomes values.Value) (args : List Argument) → is_ready number (given args) ≡ true
+pub all_ready : (number : Identifier → Outcomes Value) (args : List Argument) → is_ready number (given args) ≡ true
 all_ready number [] = refl
 all_ready number (a ∷ args) = all_ready number args
 
@@ -131,10 +130,10 @@ module _ (sight : Sight) where
       (rw (o.unready sight.number) refl, o.reduces (map operand_view rest) (reduce sight (term_view t)) (reduce_first sight (map operand_view rest)) ∙ ap (outcome_map (λ (w : terms.Term). source.NumberOperand w ∷ map operand_view rest)) h)
 
   -- the value of a number takes the place of its name
-  pub name_takes : (x : Bor Identifier) (v : Value) (rest : List Operand) → sight.number x.now ≡ Gives (value_view v) → ReducesListed sight (operands.Passed x ∷ rest) (Some reduction.Reduced) (operands.Number (term.Done v) ∷ rest)
+  pub name_takes : (x : Bor Identifier) (v : Value) (rest : List Operand) → sight.number x.now ≡ Gives v → ReducesListed sight (operands.Passed x ∷ rest) (Some reduction.Reduced) (operands.Number (term.Done v) ∷ rest)
   name_takes x v rest is = (
-    ap (λ (o : Outcomes values.Value). is_no_number o && is_ready sight.number (map operand_view rest)) is,
-    ap (λ (o : Outcomes values.Value). reduce_name x.now (map operand_view rest) o (reduce_first sight (map operand_view rest))) is,
+    ap (λ (o : Outcomes Value). is_no_number o && is_ready sight.number (map operand_view rest)) is,
+    ap (λ (o : Outcomes Value). reduce_name x.now (map operand_view rest) o (reduce_first sight (map operand_view rest))) is,
   )
 
   -- the one after them takes its step

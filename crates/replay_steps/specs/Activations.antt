@@ -27,7 +27,7 @@ use Rattle.replay_tasks.specs.Effects.{HasEffect}
 use Rattle.replay_tasks.specs.Outcomes.{result_view, variable_step, LeavesVariables, LeavesIf}
 use Rattle.replay_tasks.specs.Tasks.{branch_task, BegunInRange, task_view, end_view, statements_in, tasks_of_statements, StatementsInRange, TaskInRange, EndInRange}
 use Rattle.replay_terms.specs.declared.term.Term.TheVariants as term
-use Rattle.replay_terms.specs.declared.value.Value.TheVariants as value
+use Rattle.semantics.specs.declared.value.Value.TheVariants as value
 use Rattle.semantics.specs.declared.object_id.ObjectId.{ObjectId}
 
 -- the task that is begun, if there is one, and those after it

@@ -4,6 +4,7 @@ use Rattle.syntax.specs.Tree.{SourceUnit}
 use Rattle.class_rules.specs.Class.{Classes}
 use Rattle.semantics.specs.Object.{Reference}
 use Rattle.semantics.specs.Sight.{Sight}
+use Rattle.semantics.specs.declared.value.Value.{Value}
 use Rattle.semantics.specs.Thread.{BuffersInUse, Shared}
 use Rattle.replay_steps.specs.declared.activation.Activation.{Activation}
 use Rattle.replay_steps.specs.declared.attempt.Attempt.{Attempt}
@@ -18,7 +19,6 @@ use Rattle.replay_terms.specs.declared.reduction.Reduction.{Reduction}
 use Rattle.replay_terms.specs.declared.reduction.Reduction.TheVariants as reduction
 use Rattle.replay_terms.specs.declared.term.Term.{Term}
 use Rattle.replay_terms.specs.declared.term.Term.TheVariants as term
-use Rattle.replay_terms.specs.declared.value.Value.{Value}
 use Rattle.replay_terms.specs.Views.{Reduces}
 
 -- a term has no value yet

@@ -13,7 +13,7 @@ use Rattle.semantics.specs.Thread.{BuffersInUse, Frame, Shared, Thread}
 use Rattle.semantics.specs.Thread as thread
 use Rattle.semantics.specs.declared.event.Event.TheVariants.{Quiet}
 use Rattle.semantics.specs.ThreadStep.{step_within}
-use Rattle.semantics.specs.Value.{Int}
+use Rattle.semantics.specs.declared.value.Value.TheVariants.{Int}
 use Rattle.semantics.specs.Variable.{Live}
 use Rattle.replay_arguments.specs.Shares.{sight_in}
 use Rattle.replay_steps.specs.declared.activation.Activation.{Activation}

@@ -14,7 +14,7 @@ use Rattle.semantics.specs.Sight.{Sight}
 use Rattle.semantics.specs.Task.{Task, Branch, Invoke, Operand}
 use Rattle.semantics.specs.Term.{Done}
 use Rattle.semantics.specs.declared.trap.Trap.TheVariants.{CallsTooDeep}
-use Rattle.semantics.specs.Value.{Truth}
+use Rattle.semantics.specs.declared.value.Value.TheVariants.{Truth}
 use Rattle.semantics.specs.World.{Invocation}
 use Rattle.semantics.specs.Thread.{Caller, Frame, Thread, Shared, BuffersInUse, Advance, Advances, NoAdvance, sight_of}
 use Rattle.semantics.specs.declared.event.Event.TheVariants.{Quiet, PrintedNumber, Trapped}

@@ -12,7 +12,7 @@ ghost use Rattle.syntax.specs.Views.{expr_tree, block_tree};
 ghost use Rattle.replay_tasks.specs.declared.outcome.Outcome.TheVariants as outcome;
 ghost use Rattle.replay_tasks.specs.Tasks.{branch_task, statements_in, BlockInRange, ExprInRange, StatementInRange, StatementsInRange, OutcomeInRange};
 ghost use Rattle.replay_terms.specs.declared.term.Term.TheVariants as term;
-ghost use Rattle.replay_terms.specs.declared.value.Value.TheVariants as value;
+ghost use Rattle.semantics.specs.declared.value.Value.TheVariants as value;
 
 use crate::attempt::{Attempt, attempt_task};
 use crate::step::step;
@@ -21,8 +21,8 @@ use replay_objects::Store;
 use replay_tasks::{
     Choice, End, Outcome, Statements, Task, end_task, loop_task, set_variables, task_of,
 };
-use replay_terms::{Statics, Term, Value};
-use semantics::ObjectId;
+use replay_terms::{Statics, Term};
+use semantics::{ObjectId, Value};
 use std::alloc::{AllocError, Global};
 use std::mem;
 use syntax::{Block, Expr, Name, Stmt};

@@ -17,8 +17,8 @@ use replay_arguments::actual::{actuals, passed_values};
 use replay_arguments::{Locals, Shared};
 use replay_calls::carry_out::put_local;
 use replay_tasks::{CallResult, Purpose, Task, end_task, put_given};
-use replay_terms::{Given, Statics, Value};
-use semantics::{ObjectId, ObjectValue};
+use replay_terms::{Given, Statics};
+use semantics::{ObjectId, ObjectValue, Value};
 use std::alloc::{AllocError, Global};
 
 /// A call of a method that another call has made and that is to be entered.

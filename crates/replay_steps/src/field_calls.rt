@@ -8,7 +8,7 @@ ghost use Rattle.jni.specs.declared.function.JniFunction.TheVariants as function
 ghost use Rattle.semantics.specs.Task.{Given, NumberOperand};
 ghost use Rattle.semantics.specs.Term.{Done};
 ghost use Rattle.syntax.specs.Views.{argument_tree};
-ghost use Rattle.semantics.specs.Value.{Int};
+ghost use Rattle.semantics.specs.declared.value.Value.TheVariants.{Int};
 ghost use Rattle.semantics.specs.Sight.{held_field};
 ghost use Rattle.semantics.specs.Variable.{Live};
 ghost use Rattle.replay_arguments.specs.Shares.{shared_view, sight_in};
@@ -25,10 +25,9 @@ use jni::JniFunction;
 use replay_arguments::Shared;
 use replay_tasks::{Invocation, Purpose, Target, Task};
 use replay_terms::{
-    Content, Operands, StaticReference, Term, Value, Variables, convert, held_number,
-    held_reference,
+    Content, Operands, StaticReference, Term, Variables, convert, held_number, held_reference,
 };
-use semantics::{ObjectId, ObjectValue, VariableKind};
+use semantics::{ObjectId, ObjectValue, Value, VariableKind};
 use std::alloc::{AllocError, Global};
 use syntax::{Argument, ElementType, Name, Shape};
 

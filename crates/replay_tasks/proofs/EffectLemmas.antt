@@ -14,26 +14,26 @@ use Rattle.semantics.specs.Sight.{Sight, seen, elements_of, in_range}
 use Rattle.semantics.specs.Task.{Task, SetScalar, SetElement, Print, Branch, Loop, ReturnValue, tasks_of}
 use Rattle.semantics.specs.Term as tree
 use Rattle.semantics.specs.Term.{index_of, reduce}
-use Rattle.semantics.specs.Value.{Value, Outcome as Outcomes, Gives, Traps, Stuck, outcome_then, outcome_map}
+use Rattle.semantics.specs.declared.value.Value.{Value}
+use Rattle.semantics.specs.Value.{Outcome as Outcomes, Gives, Traps, Stuck, outcome_then, outcome_map}
 use Rattle.semantics.specs.Variable.{Variables, Statics, Empty}
 use Rattle.replay_terms.specs.declared.reduction.Reduction.{Reduction}
 use Rattle.replay_terms.specs.declared.reduction.Reduction.TheVariants as reduction
 use Rattle.replay_terms.specs.declared.term.Term.{Term}
 use Rattle.replay_terms.specs.declared.term.Term.TheVariants as term
 use Rattle.replay_terms.specs.declared.sight.Indexed.{Indexed}
-use Rattle.replay_terms.specs.declared.value.Value.{Value as ValueInMemory}
-use Rattle.replay_terms.specs.declared.value.Value.TheVariants as value
+use Rattle.semantics.specs.declared.value.Value.TheVariants as value
 use Rattle.replay_tasks.specs.declared.task.Task.{Task as TaskInMemory}
 use Rattle.replay_tasks.specs.Effects.{HasEffect, reduced}
 use Rattle.replay_tasks.specs.Tasks.{task_view, branch_task, element_task, loop_task, print_task, return_task, value_task, statements_in, tasks_of_statements}
 use Rattle.replay_tasks.specs.Outcomes.{else_tree}
-use Rattle.replay_terms.specs.Views.{value_view, indexed_view, term_view, place_in, Reduces}
+use Rattle.replay_terms.specs.Views.{indexed_view, term_view, place_in, Reduces}
 use Rattle.replay_tasks.proofs.RangeLemmas.{tasks_of-statements}
 
 -- ---- a term that has no value yet
 
 -- it takes its step inside the task
-pub no_value : (t : Term) → ((v : ValueInMemory) → t ≡ term.Done v → ⊥) → (sight : Sight) (line : ℕ) (use_value : Value → Effect) (whole : tree.Term → Task)
+pub no_value : (t : Term) → ((v : Value) → t ≡ term.Done v → ⊥) → (sight : Sight) (line : ℕ) (use_value : Value → Effect) (whole : tree.Term → Task)
     → with_value sight line use_value whole (term_view t) ≡ goes_on line whole (reduce sight (term_view t))
 no_value (term.Done v) none sight line use_value whole = absurd (none v refl)
 no_value (term.Number n unsigned) none sight line use_value whole = refl
@@ -69,12 +69,12 @@ place_at line x z numbers (Traps trap) = refl
 place_at line x z numbers Stuck = refl
 
 -- a number goes to the place that was found
-pub written_at : (vs : Variables) (ss : Statics) (heap : Heap) (line : ℕ) (x : Identifier) (i number : ValueInMemory) (z : ℤ) (place : Indexed)
-    → number ≡ value.Int z → indexed_view place ≡ place_in (elements_of heap (lookup x vs)) (index_of (value_view i))
-    → element_effect (seen vs ss heap) line x (value_view i) (value_view number) ≡ at_line line (λ n. SetsElement x n z) (indexed_view place)
+pub written_at : (vs : Variables) (ss : Statics) (heap : Heap) (line : ℕ) (x : Identifier) (i number : Value) (z : ℤ) (place : Indexed)
+    → number ≡ value.Int z → indexed_view place ≡ place_in (elements_of heap (lookup x vs)) (index_of i)
+    → element_effect (seen vs ss heap) line x i number ≡ at_line line (λ n. SetsElement x n z) (indexed_view place)
 written_at vs ss heap line x i number z place is found =
-    ap (λ (u : ValueInMemory). element_effect (seen vs ss heap) line x (value_view i) (value_view u)) is
-    ∙ place_at line x z (elements_of heap (lookup x vs)) (index_of (value_view i)) ∙ ap (at_line line (λ n. SetsElement x n z)) (sym found)
+    ap (λ (u : Value). element_effect (seen vs ss heap) line x i u) is
+    ∙ place_at line x z (elements_of heap (lookup x vs)) (index_of i) ∙ ap (at_line line (λ n. SetsElement x n z)) (sym found)
 
 -- ---- blocks
 
@@ -102,7 +102,7 @@ constant_returned sight line constant.Null = refl
 pub ruleset return_rules = (constant_returned)
 
 -- all else but a name is evaluated
-no_name_returned : (sight : Sight) (line : ℕ) (t : Term) → ((v : ValueInMemory) → t ≡ term.Done v → ⊥) → ((c : Constant) → t ≡ term.Named c → ⊥) → ((x : Bor Identifier) → t ≡ term.Read x → ⊥)
+no_name_returned : (sight : Sight) (line : ℕ) (t : Term) → ((v : Value) → t ≡ term.Done v → ⊥) → ((c : Constant) → t ≡ term.Named c → ⊥) → ((x : Bor Identifier) → t ≡ term.Read x → ⊥)
     → return_effect sight line (term_view t) ≡ goes_on line (ReturnValue line) (reduce sight (term_view t))
 no_name_returned sight line (term.Done v) none no_constant no_name = absurd (none v refl)
 no_name_returned sight line (term.Number n unsigned) none no_constant no_name = refl
@@ -117,7 +117,7 @@ no_name_returned sight line (term.Binary op s t) none no_constant no_name = refl
 
 -- ---- tasks at terms, where this can be seen
 
-module _ (sight : Sight) (line : ℕ) (old new : Term) (took : Reduction) (none : (v : ValueInMemory) → old ≡ term.Done v → ⊥) (step : Reduces sight old took new) where
+module _ (sight : Sight) (line : ℕ) (old new : Term) (took : Reduction) (none : (v : Value) → old ≡ term.Done v → ⊥) (step : Reduces sight old took new) where
   pub print_reduces : HasEffect sight (print_task line old) (reduced line took) (print_task line new)
   print_reduces = reduces sight line (print_task line) (Print line) (λ t. refl) old new took (no_value old none sight line print_effect (Print line)) step
 
@@ -130,10 +130,10 @@ module _ (sight : Sight) (line : ℕ) (old new : Term) (took : Reduction) (none 
       (no_value old none sight line
       (λ v. with_value sight line (element_effect sight line x.now v) (SetElement line x.now (tree.Done v)) (term_view t)) (λ u. SetElement line x.now u (term_view t))) step
 
-  pub element_reduces : (x : Bor Identifier) (i : ValueInMemory) → HasEffect sight (element_task line x (term.Done i) old) (reduced line took) (element_task line x (term.Done i) new)
+  pub element_reduces : (x : Bor Identifier) (i : Value) → HasEffect sight (element_task line x (term.Done i) old) (reduced line took) (element_task line x (term.Done i) new)
   element_reduces x i =
-      reduces sight line (element_task line x (term.Done i)) (SetElement line x.now (tree.Done (value_view i))) (λ u. refl) old new took
-      (no_value old none sight line (element_effect sight line x.now (value_view i)) (SetElement line x.now (tree.Done (value_view i)))) step
+      reduces sight line (element_task line x (term.Done i)) (SetElement line x.now (tree.Done i)) (λ u. refl) old new took
+      (no_value old none sight line (element_effect sight line x.now i) (SetElement line x.now (tree.Done i))) step
 
   pub branch_reduces : (b : Bor BlockInMemory) (other : Option (Bor BlockInMemory)) → HasEffect sight (branch_task line old b other) (reduced line took) (branch_task line new b other)
   branch_reduces b other =

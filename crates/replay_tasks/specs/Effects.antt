@@ -10,7 +10,6 @@ use Rattle.replay_tasks.specs.declared.task.Task.{Task as TaskInMemory}
 use Rattle.replay_tasks.specs.declared.task.Task.TheVariants as task
 use Rattle.replay_tasks.specs.Outcomes.{result_view, target_view}
 use Rattle.replay_tasks.specs.Tasks.{task_view, end_view, statements_in, tasks_of_statements}
-use Rattle.replay_terms.specs.Views.{value_view}
 
 -- what a step does that reduces a term, which has no value yet
 abbrev pub reduced : ℕ → ReductionInMemory → Outcome
@@ -22,7 +21,7 @@ reduced line reduction.Stuck = outcome.Impossible
 abbrev pub effect_by : Outcome → TaskInMemory → Effect
 effect_by outcome.Stays new = Becomes (task_view new ∷ [])
 effect_by (outcome.Printed z) new = Prints z
-effect_by (outcome.Sets x v) new = Sets x.now (value_view v)
+effect_by (outcome.Sets x v) new = Sets x.now v
 effect_by (outcome.SetsNull to) new = SetsNull (target_view to)
 effect_by (outcome.Gives to g) new = NoEffect
 effect_by (outcome.Lends to b) new = NoEffect

@@ -26,7 +26,7 @@ use Rattle.replay_tasks.specs.declared.outcome.Target.TheVariants as target
 use Rattle.replay_terms.specs.declared.given.Given.{Given}
 use Rattle.replay_tasks.specs.declared.outcome.Purpose.{Purpose as PurposeInMemory}
 use Rattle.replay_tasks.specs.declared.outcome.Purpose.TheVariants as purpose
-use Rattle.replay_terms.specs.Views.{given_view, lent_view, Contents, value_view, variables_view}
+use Rattle.replay_terms.specs.Views.{given_view, lent_view, Contents, variables_view}
 
 abbrev pub target_view : TargetInMemory → Target
 target_view (target.Declared kind x) = Declared kind x.now
@@ -36,7 +36,7 @@ target_view target.Dropped = Dropped
 -- what a call gives that returns
 abbrev pub result_view : ResultInMemory → CallResult
 result_view result.Nothing = NoResult
-result_view (result.Number v) = ScalarResult (value_view v)
+result_view (result.Number v) = ScalarResult v
 result_view (result.Reference r) = ReferenceResult (name_of r)
 
 -- the block of an `else`, which may be missing in an `if` of this line
@@ -56,7 +56,7 @@ outcome_for line (purpose.Test b other) g = outcome.Tests line (is_zero (given_v
 
 -- what a step does that sets a variable, and else nothing
 abbrev pub variable_step : Outcome → Shared → Thread → Advance
-variable_step (outcome.Sets x v) s t = set_variable s t x.now (Scalar (value_view v))
+variable_step (outcome.Sets x v) s t = set_variable s t x.now (Scalar v)
 variable_step (outcome.SetsNull to) s t = put (target_view to) NullResult s t
 variable_step (outcome.Gives to g) s t = put (target_view to) (given_view g) s t
 variable_step (outcome.Lends to b) s t = put (target_view to) (BufferResult (lent_view s.heap b)) s t

@@ -3,8 +3,8 @@
 ghost use Rattle.std.specs.Prelude.{◌≡◌};
 ghost use Rattle.semantics.specs.Task.{kind_of, variable_kind};
 
-use replay_terms::{Given, Lent, Value};
-use semantics::{ObjectId, Trap, VariableKind};
+use replay_terms::{Given, Lent};
+use semantics::{ObjectId, Trap, Value, VariableKind};
 use syntax::{Block, DeclaredType, ElementType, Expr, Name, VariableType};
 
 /// Where the result of a call or NULL goes.

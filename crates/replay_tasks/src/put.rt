@@ -12,9 +12,9 @@ ghost use Rattle.replay_tasks.specs.Outcomes.{target_view, variable_step, IsBuff
 use crate::outcome::{Outcome, Target};
 use replay_objects::Store;
 use replay_terms::{
-    Content, Given, Lent, StaticReference, Statics, Value, Variables, Written, static_result, zeros,
+    Content, Given, Lent, StaticReference, Statics, Variables, Written, static_result, zeros,
 };
-use semantics::{Level, ObjectValue, VariableKind};
+use semantics::{Level, ObjectValue, Value, VariableKind};
 use std::alloc::{AllocError, Global};
 use syntax::{ElementType, Name};
 

@@ -13,10 +13,10 @@ ghost use Rattle.replay_terms.specs.Views.{NumbersInRange, variables_view};
 use crate::outcome::{CallResult, End, Outcome};
 use crate::task::{Assignment, Choice, ElementAssignment, Evaluation, Iteration, Task};
 use replay_terms::{
-    Evaluated, Indexed, Reduction, Statics, Term, Value, Variables, as_reference, constant,
+    Evaluated, Indexed, Reduction, Statics, Term, Variables, as_reference, constant,
     held_reference, number_in, place_in, put_term, reduce,
 };
-use semantics::Objects;
+use semantics::{Objects, Value};
 use syntax::Name;
 
 /// What a step does that reduces a term, which has no value yet.

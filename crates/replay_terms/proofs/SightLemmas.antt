@@ -1,7 +1,8 @@
 -- What is seen in variables and statics.
 use Rattle.std.proofs.Common.{◌≡◌, Bool, refl}
 use Rattle.std.specs.Prelude.{not}
-use Rattle.semantics.specs.Value.{Truth, Outcome, Gives, Traps, Stuck, outcome_map}
+use Rattle.semantics.specs.declared.value.Value.TheVariants.{Truth}
+use Rattle.semantics.specs.Value.{Outcome, Gives, Traps, Stuck, outcome_map}
 use Rattle.replay_terms.specs.Views.{negated}
 
 -- the other truth

@@ -4,12 +4,12 @@ use Rattle.syntax.specs.declared.expr.BinaryOp.{BinaryOp}
 use Rattle.syntax.specs.declared.expr.BinaryOp.TheVariants as binary
 use Rattle.semantics.specs.Sight.{Sight}
 use Rattle.semantics.specs.Term as tree
+use Rattle.semantics.specs.declared.value.Value.{Value}
 use Rattle.semantics.specs.Term.{binary_term, done, reduce}
 use Rattle.replay_terms.specs.declared.reduction.Reduction.{Reduction as ReductionInMemory}
 use Rattle.replay_terms.specs.declared.value.Evaluated.{Evaluated}
 use Rattle.replay_terms.specs.declared.value.Evaluated.TheVariants as evaluated
-use Rattle.replay_terms.specs.declared.value.Value.{Value as ValueInMemory}
-use Rattle.replay_terms.specs.Views.{evaluated_view, value_view, IsReplacedBy, ReducesBy}
+use Rattle.replay_terms.specs.Views.{evaluated_view, IsReplacedBy, ReducesBy}
 
 -- ---- operators
 
@@ -39,7 +39,7 @@ pub ruleset operator_rules = (operator_term)
 -- ---- steps
 
 -- the value takes its place
-pub replaced : (sight : Sight) {T : Type 0} (view : T → tree.Term) (held : ValueInMemory → T) → ((v : ValueInMemory) → view (held v) ≡ tree.Done (value_view v)) → (old new : T) (value : Evaluated) (took : ReductionInMemory)
+pub replaced : (sight : Sight) {T : Type 0} (view : T → tree.Term) (held : Value → T) → ((v : Value) → view (held v) ≡ tree.Done v) → (old new : T) (value : Evaluated) (took : ReductionInMemory)
     → IsReplacedBy held old value took new → reduce sight (view old) ≡ done (evaluated_view value) → ReducesBy view sight old took new
 replaced sight view held is_value old new (evaluated.Gives v) took is value = rw (is.0, is.1, is_value v) value
 replaced sight view held is_value old new (evaluated.Traps trap) took is value = rw (is.0, is.1) (value, refl)

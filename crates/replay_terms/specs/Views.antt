@@ -16,7 +16,9 @@ use Rattle.semantics.specs.Sight.{Sight, in_range}
 use Rattle.semantics.specs.Task.{Operand, NumberOperand, PassedName}
 use Rattle.semantics.specs.Task as task
 use Rattle.semantics.specs.Term.{Term, Done, Number, Named, Read, Element, IsNull, Prefix, And, Or, Binary, Reduction, done, reduce}
-use Rattle.semantics.specs.Value.{Value, Word, Int, Flag, Truth, Outcome, Gives, Traps, Stuck, outcome_then, outcome_map, convert}
+use Rattle.semantics.specs.declared.value.Value.{Value}
+use Rattle.semantics.specs.declared.value.Value.TheVariants.{Word, Int, Flag, Truth}
+use Rattle.semantics.specs.Value.{Outcome, Gives, Traps, Stuck, outcome_then, outcome_map, convert}
 use Rattle.semantics.specs.Variable.{Variable, Scalar, LocalRef, FieldHandle, MethodHandle, Elements, LocalArray, Buffer, NoBuffer, Copy, View, StaticReference, Empty, Live, Weakly, Cleared, Deleted, Variables, Statics, assign, copied_length, viewed}
 use Rattle.semantics.specs.Thread.{BuffersInUse}
 use Rattle.semantics.specs.Views.{name_of, object_value_view}
@@ -42,8 +44,7 @@ use Rattle.semantics.specs.declared.static_reference.StaticReference.{StaticRefe
 use Rattle.semantics.specs.declared.static_reference.StaticReference.TheVariants as held
 use Rattle.replay_terms.specs.declared.value.Evaluated.{Evaluated}
 use Rattle.replay_terms.specs.declared.value.Evaluated.TheVariants as evaluated
-use Rattle.replay_terms.specs.declared.value.Value.{Value as ValueInMemory}
-use Rattle.replay_terms.specs.declared.value.Value.TheVariants as value
+use Rattle.semantics.specs.declared.value.Value.TheVariants as value
 use Rattle.replay_terms.specs.declared.term.Part.{Part}
 use Rattle.replay_terms.specs.declared.term.Part.TheVariants as part
 use Rattle.replay_terms.specs.declared.term.Term.{Term as TermInMemory}
@@ -55,14 +56,8 @@ use Rattle.replay_terms.specs.declared.variable.Written.TheVariants as outcome
 use Rattle.replay_terms.specs.declared.sight.Shown.{Shown}
 use Rattle.replay_terms.specs.declared.sight.Shown.TheVariants as shown
 
-abbrev pub value_view : ValueInMemory → Value
-value_view (value.Word n) = Word n
-value_view (value.Int z) = Int z
-value_view (value.Flag b) = Flag b
-value_view (value.Truth b) = Truth b
-
 abbrev pub evaluated_view : Evaluated → Outcome Value
-evaluated_view (evaluated.Gives v) = Gives (value_view v)
+evaluated_view (evaluated.Gives v) = Gives v
 evaluated_view (evaluated.Traps trap) = Traps trap
 evaluated_view evaluated.Stuck = Stuck
 
@@ -78,7 +73,7 @@ abbrev pub method_view : MethodInMemory → MethodId
 method_view m = record { class = m.class.number; function = function_tree m.function.now }
 
 abbrev pub content_view : Content → Variable
-content_view (content.Number v) = Scalar (value_view v)
+content_view (content.Number v) = Scalar v
 content_view (content.Reference level r) = LocalRef level.number (name_of r)
 content_view (content.Field f) = FieldHandle (option_map field_id_view f)
 content_view (content.Method m) = MethodHandle (option_map method_view m)
@@ -221,7 +216,7 @@ pub record Takes (vs : Contents) (u : InUseInMemory) : Type 0 where
 
 abbrev mutual
   pub term_view : TermInMemory → Term
-  term_view (term.Done v) = Done (value_view v)
+  term_view (term.Done v) = Done v
   term_view (term.Number n unsigned) = Number n unsigned
   term_view (term.Named c) = Named c
   term_view (term.Read x) = Read x.now
@@ -233,7 +228,7 @@ abbrev mutual
   term_view (term.Binary op s t) = Binary op (part_view s) (part_view t)
 
   pub part_view : Part → Term
-  part_view (part.Done v) = Done (value_view v)
+  part_view (part.Done v) = Done v
   part_view (part.Number n unsigned) = Number n unsigned
   part_view (part.Read x) = Read x.now
   part_view (part.Whole' p t) = term_view t
@@ -310,7 +305,7 @@ right_side (Or s t) = t
 right_side t = t
 
 -- the value, if there is one, takes the place of what is made of a value so
-abbrev pub IsReplacedBy : {T : Type 0} → (ValueInMemory → T) → T → Evaluated → ReductionInMemory → T → Type 0
+abbrev pub IsReplacedBy : {T : Type 0} → (Value → T) → T → Evaluated → ReductionInMemory → T → Type 0
 IsReplacedBy held old (evaluated.Gives v) took new = (took ≡ reduction.Reduced) × (new ≡ held v)
 IsReplacedBy held old (evaluated.Traps trap) took new = (took ≡ reduction.Trapped trap) × (new ≡ old)
 IsReplacedBy held old evaluated.Stuck took new = (took ≡ reduction.Stuck) × (new ≡ old)

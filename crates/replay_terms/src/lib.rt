@@ -23,5 +23,5 @@ pub use reduction::{Reduction, reduce};
 pub use sight::{Indexed, held_reference, number_in, place_in};
 pub use statics::{StaticReference, Statics, as_reference, is_among, null_statics};
 pub use term::{Part, Term, put_term, term_of};
-pub use value::{Evaluated, Value, constant, convert};
+pub use value::{Evaluated, constant, convert};
 pub use variable::{Content, Variables, Written, held_number, zeros};

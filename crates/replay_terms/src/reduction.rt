@@ -5,14 +5,14 @@ ghost use Rattle.semantics.specs.Heap.{Heap};
 ghost use Rattle.semantics.specs.Sight.{Sight, seen};
 ghost use Rattle.semantics.specs.Variable.{Statics as StaticsOfUnit};
 ghost use Rattle.semantics.specs.Term.{Term as TermOfTree, Binary, Done, and_then, or_else, done, reduce};
-ghost use Rattle.replay_terms.specs.Views.{value_view, evaluated_view, term_view, part_view, variables_view, NumbersInRange, PartInRange, decided, right_side, IsLeaf, HasValue, HasValues, IsSmall, IsUnfinished, IsReplaced, IsPartReplaced, Reduces, ReducesPart};
+ghost use Rattle.replay_terms.specs.Views.{evaluated_view, term_view, part_view, variables_view, NumbersInRange, PartInRange, decided, right_side, IsLeaf, HasValue, HasValues, IsSmall, IsUnfinished, IsReplaced, IsPartReplaced, Reduces, ReducesPart};
 
 use crate::sight::{element_in, null_value, number_in};
 use crate::statics::Statics;
 use crate::term::{Part, Term, put_part_value, put_term, put_value};
-use crate::value::{Evaluated, Value, binary_value, constant, literal, prefix_value};
+use crate::value::{Evaluated, binary_value, constant, literal, prefix_value};
 use crate::variable::Variables;
-use semantics::{Objects, Trap};
+use semantics::{Objects, Trap, Value};
 use std::mem;
 use syntax::BinaryOp;
 
@@ -36,7 +36,7 @@ fn take<'a>(term: &mut Term<'a>) -> Term<'a>
 
 /// What `&&` is after its left side; none where its right side decides.
 fn and_then(left: Value) -> Option<Evaluated>
-    ensures { (right : TermOfTree) → decided result right ≡ and_then right (value_view left) }
+    ensures { (right : TermOfTree) → decided result right ≡ and_then right left }
 {
     match left {
         Value::Truth(true) => None,
@@ -47,7 +47,7 @@ fn and_then(left: Value) -> Option<Evaluated>
 
 /// What `||` is after its left side; none where its right side decides.
 fn or_else(left: Value) -> Option<Evaluated>
-    ensures { (right : TermOfTree) → decided result right ≡ or_else right (value_view left) }
+    ensures { (right : TermOfTree) → decided result right ≡ or_else right left }
 {
     match left {
         Value::Truth(true) => Some(Evaluated::Gives(Value::Truth(true))),
@@ -90,7 +90,7 @@ fn leaf_value(statics: &Statics<'_>, variables: &Variables<'_>, term: &Term<'_>)
 /// The value of a term that has it.
 #[inline]
 fn value_in_term(term: &Term<'_>) -> Option<Value>
-    ensures some { IfSome result (λ v. term_view term.now ≡ Done (value_view v)) }
+    ensures some { IfSome result (λ v. term_view term.now ≡ Done v) }
     ensures none { IfNone result (IsUnfinished (term_view term.now)) }
 {
     match term {
@@ -104,7 +104,7 @@ fn value_in_term(term: &Term<'_>) -> Option<Value>
 /// The value of a part that has it.
 #[inline]
 fn value_in(part: &Part<'_>) -> Option<Value>
-    ensures some { IfSome result (λ v. part_view part.now ≡ Done (value_view v)) }
+    ensures some { IfSome result (λ v. part_view part.now ≡ Done v) }
     ensures none { IfNone result (IsUnfinished (part_view part.now)) }
 {
     match part {

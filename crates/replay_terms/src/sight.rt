@@ -6,15 +6,16 @@ ghost use Rattle.base.specs.Bytes.{lookup};
 ghost use Rattle.semantics.specs.Heap.{Heap, numbers_of};
 ghost use Rattle.semantics.specs.Sight.{scalar, seen, elements_of, held_reference, in_range, variable_is_null, holds_null};
 ghost use Rattle.semantics.specs.Term.{IsNull, done, index_of, element_value, reduce};
-ghost use Rattle.semantics.specs.Value.{outcome_map, outcome_then, Int, Truth};
+ghost use Rattle.semantics.specs.declared.value.Value.TheVariants.{Int, Truth};
+ghost use Rattle.semantics.specs.Value.{outcome_map, outcome_then};
 ghost use Rattle.semantics.specs.Variable.{Statics};
 ghost use Rattle.semantics.specs.Views.{IsWithin};
-ghost use Rattle.replay_terms.specs.Views.{value_view, evaluated_view, indexed_view, content_view, held_view, variables_view, if_there, negated, place_in, shown_numbers};
+ghost use Rattle.replay_terms.specs.Views.{evaluated_view, indexed_view, content_view, held_view, variables_view, if_there, negated, place_in, shown_numbers};
 
 use crate::statics::{StaticReference, Statics, as_argument, is_empty};
-use crate::value::{Evaluated, Value, truth};
+use crate::value::{Evaluated, truth};
 use crate::variable::{Content, Variables, held_number};
-use semantics::{ObjectId, Objects, Trap};
+use semantics::{ObjectId, Objects, Trap, Value};
 use syntax::Name;
 
 /// The value of a number variable.
@@ -126,7 +127,7 @@ pub enum Indexed {
 
 /// The index that a value is.
 fn index_of(v: Value) -> Indexed
-    ensures { indexed_view result ≡ index_of (value_view v) }
+    ensures { indexed_view result ≡ index_of v }
 {
     match v {
         Value::Word(n) => Indexed::At(n as usize),
@@ -213,7 +214,7 @@ pub fn place_in<O: Objects>(
     name: &Name,
     v: Value,
 ) -> Indexed
-    ensures { indexed_view result ≡ place_in (elements_of (O.heap objects.now) (lookup name.now (variables_view variables.now))) (index_of (value_view v)) }
+    ensures { indexed_view result ≡ place_in (elements_of (O.heap objects.now) (lookup name.now (variables_view variables.now))) (index_of v) }
 {
     match index_of(v) {
         Indexed::At(i) => match shown_in(variables, name) {
@@ -258,7 +259,7 @@ pub(crate) fn element_in<O: Objects>(
     v: Value,
 ) -> Evaluated
     ensures { (statics : Statics) → evaluated_view result
-        ≡ element_value (seen (variables_view variables.now) statics (O.heap objects.now)) name.now (value_view v) }
+        ≡ element_value (seen (variables_view variables.now) statics (O.heap objects.now)) name.now v }
 {
     match index_of(v) {
         Indexed::At(i) => element_at(objects, variables, name, i),

@@ -10,7 +10,7 @@ ghost use Rattle.replay_terms.specs.declared.term.Term.TheVariants as term;
 ghost use Rattle.replay_terms.specs.declared.term.Part.TheVariants as part;
 ghost use Rattle.replay_terms.specs.Views.{term_view, part_view, NumbersInRange, PartInRange};
 
-use crate::value::Value;
+use semantics::Value;
 use std::alloc::{AllocError, Global};
 use std::mem;
 use syntax::{BinaryOp, Constant, ExprRef, Name, PrefixOp, Shape};

@@ -1,26 +1,14 @@
-//! Values, and what the operators make of them.
+//! What the operators make of values.
 
 ghost use Rattle.std.specs.Prelude.{◌≡◌, ◌<◌};
 ghost use Rattle.syntax.specs.Limits.{number_limit};
 ghost use Rattle.semantics.specs.Term.{literal, constant};
-ghost use Rattle.semantics.specs.Value.{Word, Truth, Gives, convert, prefix_value, binary_value};
-ghost use Rattle.replay_terms.specs.Views.{value_view, evaluated_view};
+ghost use Rattle.semantics.specs.declared.value.Value.TheVariants.{Word, Int, Flag, Truth};
+ghost use Rattle.semantics.specs.Value.{Gives, convert, prefix_value, binary_value};
+ghost use Rattle.replay_terms.specs.Views.{evaluated_view};
 
-use semantics::Trap;
+use semantics::{Trap, Value};
 use syntax::{BinaryOp, Constant, ElementType, PrefixOp};
-
-/// The value of an expression.
-#[derive(Clone, Copy)]
-pub enum Value {
-    /// Of type `uint32_t`.
-    Word(u32),
-    /// Of type `jint`.
-    Int(i32),
-    /// Of type `jboolean`.
-    Flag(bool),
-    /// Of a comparison, or of `&&`, `||` and `!`.
-    Truth(bool),
-}
 
 /// What evaluating an expression gives.
 #[derive(Clone, Copy)]
@@ -34,7 +22,7 @@ pub enum Evaluated {
 /// The value of a number.
 pub(crate) fn literal(value: u32, unsigned: bool) -> Value
     requires { value < number_limit unsigned }
-    ensures { value_view result ≡ literal value unsigned }
+    ensures { result ≡ literal value unsigned }
 {
     if unsigned {
         Value::Word(value)
@@ -71,7 +59,7 @@ pub fn convert(kind: ElementType, number: i32) -> i32
 
 /// What a prefix makes of a value.
 pub(crate) fn prefix_value(op: PrefixOp, v: Value) -> Evaluated
-    ensures { evaluated_view result ≡ prefix_value op (value_view v) }
+    ensures { evaluated_view result ≡ prefix_value op v }
 {
     match (op, v) {
         (PrefixOp::LogicalNot, Value::Truth(b)) => Evaluated::Gives(Value::Truth(!b)),
@@ -105,7 +93,7 @@ pub(crate) fn truth(b: bool) -> Evaluated
 
 /// What an operator makes of two words.
 fn word_value(op: BinaryOp, a: u32, b: u32) -> Evaluated
-    ensures { evaluated_view result ≡ binary_value op (value_view (Value.Word a)) (value_view (Value.Word b)) }
+    ensures { evaluated_view result ≡ binary_value op (Word a) (Word b) }
 {
     match op {
         BinaryOp::BitOr => word(a | b),
@@ -133,7 +121,7 @@ fn word_value(op: BinaryOp, a: u32, b: u32) -> Evaluated
 
 /// What an operator makes of two numbers of type `jint`, which are only compared.
 fn int_value(op: BinaryOp, a: i32, b: i32) -> Evaluated
-    ensures { evaluated_view result ≡ binary_value op (value_view (Value.Int a)) (value_view (Value.Int b)) }
+    ensures { evaluated_view result ≡ binary_value op (Int a) (Int b) }
 {
     match op {
         BinaryOp::Equal => truth(a == b),
@@ -152,7 +140,7 @@ fn int_value(op: BinaryOp, a: i32, b: i32) -> Evaluated
 
 /// What an operator makes of two values of type `jboolean`.
 fn flag_value(op: BinaryOp, a: bool, b: bool) -> Evaluated
-    ensures { evaluated_view result ≡ binary_value op (value_view (Value.Flag a)) (value_view (Value.Flag b)) }
+    ensures { evaluated_view result ≡ binary_value op (Flag a) (Flag b) }
 {
     match op {
         BinaryOp::Equal => truth(a == b),
@@ -169,7 +157,7 @@ fn flag_value(op: BinaryOp, a: bool, b: bool) -> Evaluated
 
 /// What an operator, other than `&&` and `||`, makes of two values.
 pub(crate) fn binary_value(op: BinaryOp, a: Value, b: Value) -> Evaluated
-    ensures { evaluated_view result ≡ binary_value op (value_view a) (value_view b) }
+    ensures { evaluated_view result ≡ binary_value op a b }
 {
     match a {
         Value::Word(a) => match b {

@@ -12,15 +12,15 @@ ghost use Rattle.semantics.specs.Value.{convert};
 ghost use Rattle.semantics.specs.Variable.{LocalRef, Scalar, assign, change, copied_length, viewed};
 ghost use Rattle.semantics.specs.Views.{name_of, names_of, object_value_view};
 ghost use Rattle.replay_terms.specs.declared.variable.Content.TheVariants as content;
-ghost use Rattle.replay_terms.specs.Views.{value_view, Takes, WritesContent, WritesElement, content_view, count_viewed, had, held_number, variables_view, viewed_by};
+ghost use Rattle.replay_terms.specs.Views.{Takes, WritesContent, WritesElement, content_view, count_viewed, had, held_number, variables_view, viewed_by};
 
 use crate::buffers::{BuffersInUse, NOTHING, exchanged, taken};
 use crate::method::MethodId;
 use crate::name::is_same;
-use crate::value::{Value, convert};
+use crate::value::convert;
 use classes::fields::FieldId;
 use indexmap::IndexMap;
-use semantics::{Level, ObjectId, ObjectValue};
+use semantics::{Level, ObjectId, ObjectValue, Value};
 use std::alloc::{AllocError, Global};
 use std::marker::Model;
 use syntax::{ElementType, Name};
@@ -132,7 +132,7 @@ impl<'a> Variables<'a> {
 
     /// The same with a number. Most variables that are set hold one, and go on taking nothing.
     pub fn set_number(&mut self, name: &'a Name, value: Value) -> Result<(), AllocError>
-        ensures { IfOk result (λ _. variables_view self.new ≡ assign name.now (Scalar (value_view value)) (variables_view self.old)) }
+        ensures { IfOk result (λ _. variables_view self.new ≡ assign name.now (Scalar value) (variables_view self.old)) }
     {
         let name = name.as_bytes();
         let Some(place) = place_of(&self.contents, name) else {

@@ -15,7 +15,7 @@ use Rattle.type_rules.specs.TypeRules.{Place, StaticForm, HeadForm, has_name, ha
 use Rattle.semantics.specs.Activation.{function_at, parameter_variables}
 use Rattle.semantics.specs.Object.{ObjectValue, Number, Refers}
 use Rattle.semantics.specs.Start.{null_statics}
-use Rattle.semantics.specs.Value.{Int}
+use Rattle.semantics.specs.declared.value.Value.TheVariants.{Int}
 use Rattle.semantics.specs.Variable.{Variable, Scalar, LocalRef, Variables, StaticReference, Empty, Statics, assign}
 use Rattle.type_rules.proofs.PlaceLists.{AreUnbroken, first_empty, second_empty, front_unbroken, back_unbroken, first_false, second_false, not_twice}
 use Rattle.replay_terms.specs.Views.{assign_all}

@@ -18,7 +18,7 @@ use Rattle.semantics.specs.Thread.{Caller, Thread, Shared, BuffersInUse, Advance
 use Rattle.semantics.specs.declared.event.Ending.TheVariants.{Unfinished}
 use Rattle.semantics.specs.ThreadStep.{thread_step, waits}
 use Rattle.semantics.specs.declared.trap.Trap.TheVariants.{CallsTooDeep}
-use Rattle.semantics.specs.Value.{Int}
+use Rattle.semantics.specs.declared.value.Value.TheVariants.{Int}
 use Rattle.semantics.specs.Variable.{Variable, Scalar, LocalRef}
 use Rattle.semantics.specs.Views.{name_of}
 use Rattle.replay_steps.specs.declared.activation.Activation.{Activation}

@@ -33,8 +33,8 @@ use replay_steps::{
     resume, waits, work_of,
 };
 use replay_tasks::{CallResult, Outcome, Task};
-use replay_terms::{Content, Value, Variables};
-use semantics::{CALL_LEVEL, Ending, Event, ObjectId, Trap};
+use replay_terms::{Content, Variables};
+use semantics::{CALL_LEVEL, Ending, Event, ObjectId, Trap, Value};
 use std::alloc::{AllocError, Global};
 use syntax::{Function, Parameter};
 use world_values::{Call, ObjectValue, World};

@@ -5,7 +5,8 @@ use crate::line::Line;
 use crate::terms::{constant_of, put_part};
 use replay_arguments::{Locals, Shared};
 use replay_tasks::{Invocation, Purpose, Target, Task};
-use replay_terms::{Content, OperandRef, Operands, Statics, Term, Value, Variables};
+use replay_terms::{Content, OperandRef, Operands, Statics, Term, Variables};
+use semantics::Value;
 use std::alloc::AllocError;
 use syntax::{Argument, ExprRef, Function, Name, Parameter, Shape};
 

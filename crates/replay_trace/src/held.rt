@@ -5,8 +5,8 @@ use class_rules::ClassId;
 use classes::fields::FieldId;
 use classes::table::ClassTable;
 use replay_objects::Store;
-use replay_terms::{Content, MethodId, StaticReference, Statics, Value, Variables};
-use semantics::{ObjectId, ObjectValue};
+use replay_terms::{Content, MethodId, StaticReference, Statics, Variables};
+use semantics::{ObjectId, ObjectValue, Value};
 use std::alloc::AllocError;
 use syntax::Name;
 

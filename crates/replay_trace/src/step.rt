@@ -9,9 +9,9 @@ use functions::Functions;
 use replay_arguments::{Locals, Shared};
 use replay_steps::{Activation, Work};
 use replay_tasks::{ElementAssignment, End, Evaluation, Invocation, Purpose, Target, Task};
-use replay_terms::{Content, OperandRef, Term, Value};
+use replay_terms::{Content, OperandRef, Term};
 use replay_threads::{State, Thread};
-use semantics::{Ending, ObjectId};
+use semantics::{Ending, ObjectId, Value};
 use std::alloc::AllocError;
 use syntax::{Constant, Function, Name};
 

@@ -2,7 +2,8 @@
 
 use crate::held::put_value;
 use crate::line::Line;
-use replay_terms::{Part, Term, Value};
+use replay_terms::{Part, Term};
+use semantics::Value;
 use std::alloc::AllocError;
 use syntax::{BinaryOp, Constant, Name, PrefixOp};
 

@@ -3,8 +3,9 @@
 use functions::Functions;
 use replay_steps::Activation;
 use replay_tasks::Task;
-use replay_terms::{Term, Value};
+use replay_terms::Term;
 use replay_threads::Thread;
+use semantics::Value;
 use syntax::{Block, Function};
 
 /// The line of each thread's next step. A task of some statements has no line: that is the line of the statement which the step

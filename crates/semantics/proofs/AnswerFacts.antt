@@ -24,7 +24,8 @@ use Rattle.semantics.specs.CallEffects.{CallResult, NoResult, ScalarResult, Refe
 use Rattle.semantics.specs.Heap.{holds_number, place_in, static_place}
 use Rattle.semantics.specs.Method.{MethodId, find_method}
 use Rattle.semantics.specs.Object.{Object, ObjectValue, Number, Reference, Refers}
-use Rattle.semantics.specs.Value.{Flag, Int, convert}
+use Rattle.semantics.specs.declared.value.Value.TheVariants.{Flag, Int}
+use Rattle.semantics.specs.Value.{convert}
 use Rattle.semantics.specs.World.{fresh_object}
 
 -- ---- what is given

@@ -12,7 +12,9 @@ use Rattle.semantics.specs.Task.{Task, SetScalar, SetElement, SetNull, MakeArray
 use Rattle.semantics.specs.Arguments.{actuals}
 use Rattle.syntax.specs.declared.expr.Constant.TheVariants.{Null, True, False, Commit, Abort}
 use Rattle.semantics.specs.Term.{Term, Done, Number, Named, Read, Element, IsNull, Prefix, And, Or, Binary, reduce, done, with_part, and_then, or_else, index_of}
-use Rattle.semantics.specs.Value.{Value, Word, Flag, Outcome, Gives, Traps, Stuck, Int, Truth, outcome_then, outcome_map, prefix_value}
+use Rattle.semantics.specs.declared.value.Value.{Value}
+use Rattle.semantics.specs.declared.value.Value.TheVariants.{Word, Flag, Int, Truth}
+use Rattle.semantics.specs.Value.{Outcome, Gives, Traps, Stuck, outcome_then, outcome_map, prefix_value}
 use Rattle.semantics.specs.Variable.{Variable, Scalar, LocalRef, FieldHandle, MethodHandle, Elements, LocalArray, Variables, StaticReference, Empty, Live, Weakly, Cleared, Deleted, Statics}
 use Rattle.semantics.specs.WeakReferences.{cleared, cleared_statics}
 use Rattle.semantics.specs.Reachable.{is_in}

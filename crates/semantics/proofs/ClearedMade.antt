@@ -32,7 +32,8 @@ use Rattle.semantics.specs.Thread.{Thread, Caller, Shared, BuffersInUse, Frame, 
 use Rattle.semantics.specs.declared.event.Event.TheVariants.{Quiet, PrintedNumber, Trapped}
 use Rattle.semantics.specs.ThreadStep.{next_effect, after_effect, set_element, step_within}
 use Rattle.semantics.specs.declared.trap.Trap.{Trap}
-use Rattle.semantics.specs.Value.{Value, Outcome, Gives, Traps, Stuck}
+use Rattle.semantics.specs.declared.value.Value.{Value}
+use Rattle.semantics.specs.Value.{Outcome, Gives, Traps, Stuck}
 use Rattle.semantics.specs.Variable.{Variable, Scalar, LocalRef, FieldHandle, MethodHandle, Elements, LocalArray, NoBuffer, Copy, View, StaticReference, Statics}
 use Rattle.semantics.specs.WeakReferences.{cleared_statics, with_cleared}
 use Rattle.semantics.specs.World.{World, fresh_object}

@@ -34,7 +34,9 @@ use Rattle.semantics.specs.Thread.{Caller, Thread, Shared, BuffersInUse, Advance
 use Rattle.semantics.specs.declared.event.Event.TheVariants.{Quiet, PrintedNumber, Trapped}
 use Rattle.semantics.specs.ThreadStep.{next_effect, after_effect, step_within}
 use Rattle.semantics.specs.declared.trap.Trap.{Trap}
-use Rattle.semantics.specs.Value.{Value, Int, Outcome, Gives, Traps, Stuck}
+use Rattle.semantics.specs.declared.value.Value.{Value}
+use Rattle.semantics.specs.declared.value.Value.TheVariants.{Int}
+use Rattle.semantics.specs.Value.{Outcome, Gives, Traps, Stuck}
 use Rattle.semantics.specs.Variable.{Variable, Variables, StaticReference, Statics, as_reference}
 use Rattle.semantics.specs.WeakArguments.{takes_weak, NamesNoWeak, WeakAreTaken}
 use Rattle.semantics.specs.WeakReferences.{cleared_statics, with_cleared}

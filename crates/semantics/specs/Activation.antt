@@ -12,7 +12,7 @@ use Rattle.semantics.specs.World.{Invocation}
 use Rattle.semantics.specs.Task.{tasks_of}
 use Rattle.semantics.specs.declared.event.Event.TheVariants.{Quiet}
 use Rattle.semantics.specs.Thread.{Frame, Thread, Shared, Advance, Advances, NoAdvance}
-use Rattle.semantics.specs.Value.{Int}
+use Rattle.semantics.specs.declared.value.Value.TheVariants.{Int}
 use Rattle.semantics.specs.Variable.{Variable, Scalar, LocalRef, Variables}
 
 -- ---- entry

@@ -20,7 +20,8 @@ use Rattle.semantics.specs.Method.{MethodId, find_method}
 use Rattle.semantics.specs.Object.{Number, Object, ObjectValue, Reference, Refers}
 use Rattle.semantics.specs.Thread.{BuffersInUse, Monitor, Shared, Thread}
 use Rattle.semantics.specs.declared.trap.Trap.TheVariants.{Fatal, NullReference, OutOfRange}
-use Rattle.semantics.specs.Value.{Flag, Int, convert}
+use Rattle.semantics.specs.declared.value.Value.TheVariants.{Flag, Int}
+use Rattle.semantics.specs.Value.{convert}
 use Rattle.semantics.specs.Variable.{StaticReference, Live, Weakly, Cleared}
 use Rattle.semantics.specs.World.{fresh_object}
 

@@ -11,7 +11,7 @@ use Rattle.semantics.specs.Object.{ObjectValue, Number, Refers, Reference}
 use Rattle.semantics.specs.Sight.{Sight}
 use Rattle.semantics.specs.Task.{Operand, NumberOperand, PassedName, Given}
 use Rattle.semantics.specs.Term.{Done}
-use Rattle.semantics.specs.Value.{Int}
+use Rattle.semantics.specs.declared.value.Value.TheVariants.{Int}
 use Rattle.semantics.specs.Variable.{StaticReference, Empty, Live, as_reference}
 use Rattle.base.specs.declared.element.ElementType.TheVariants.{Int as JInt}
 use Rattle.jni.specs.declared.function.JniFunction.{JniFunction}

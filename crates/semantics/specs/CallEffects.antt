@@ -11,7 +11,8 @@ use Rattle.semantics.specs.World.{fresh_object}
 use Rattle.semantics.specs.Heap.{Heap, next_name}
 use Rattle.semantics.specs.Thread.{Shared, Thread, Frame, Monitor, BuffersInUse, capacities}
 use Rattle.semantics.specs.declared.trap.Trap.{Trap}
-use Rattle.semantics.specs.Value.{Value, Int}
+use Rattle.semantics.specs.declared.value.Value.{Value}
+use Rattle.semantics.specs.declared.value.Value.TheVariants.{Int}
 use Rattle.semantics.specs.Variable.{Variable, LocalRef, Elements, LocalArray, Buffer, NoBuffer, Copy, View, change}
 
 -- what a call gives

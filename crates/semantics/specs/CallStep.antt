@@ -26,7 +26,7 @@ use Rattle.semantics.specs.Task.{Task, Target, Declared, Assigned}
 use Rattle.semantics.specs.declared.event.Event.TheVariants.{Quiet, Trapped}
 use Rattle.semantics.specs.Thread.{Thread, Monitor, Shared, BuffersInUse, Advance, Advances, NoAdvance, monitor_of}
 use Rattle.semantics.specs.declared.trap.Trap.{Trap}
-use Rattle.semantics.specs.Value.{Int, Flag}
+use Rattle.semantics.specs.declared.value.Value.TheVariants.{Int, Flag}
 use Rattle.semantics.specs.Variable.{Variable, Scalar, LocalRef, FieldHandle, MethodHandle, Elements, NoBuffer, Copy, View, StaticReference, Empty, Variables, as_static, as_weak, assign}
 
 -- ---- where a result goes

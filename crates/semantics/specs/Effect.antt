@@ -12,7 +12,9 @@ use Rattle.semantics.specs.Sight.{Sight}
 use Rattle.semantics.specs.Task.{Task, SetScalar, SetElement, SetNull, MakeArray, Invoke, Print, Branch, EndIf, Loop, EndTurn, Return, ReturnValue, Impossible, Target, Tested, Operand, NumberOperand, PassedName, Given, tasks_of}
 use Rattle.semantics.specs.Term.{Term, Done, Named, Read, term_of, index_of, reduce}
 use Rattle.semantics.specs.declared.trap.Trap.{Trap}
-use Rattle.semantics.specs.Value.{Value, Int, Truth, Outcome, Gives, Traps, Stuck, outcome_map}
+use Rattle.semantics.specs.declared.value.Value.{Value}
+use Rattle.semantics.specs.declared.value.Value.TheVariants.{Int, Truth}
+use Rattle.semantics.specs.Value.{Outcome, Gives, Traps, Stuck, outcome_map}
 use Rattle.semantics.specs.Variable.{StaticReference, as_reference}
 
 -- What a step of a task does. Where it becomes no others and no trap stops it, it is over then.

@@ -5,7 +5,6 @@ use Rattle.semantics.specs.declared.event.Event.TheVariants.{Quiet, PrintedNumbe
 use Rattle.semantics.specs.declared.event.Stop.{Stop}
 use Rattle.semantics.specs.declared.printed.Printed as printed
 use Rattle.semantics.specs.State as state
-use Rattle.semantics.specs.Value as value
 
 -- the trap that stopped a run
 abbrev pub stop_view : Stop → state.Stop

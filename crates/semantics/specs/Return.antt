@@ -12,7 +12,7 @@ use Rattle.semantics.specs.declared.event.Ending.{Ending}
 use Rattle.semantics.specs.declared.event.Ending.TheVariants.{Unfinished, Ended, Uncaught}
 use Rattle.semantics.specs.declared.event.Event.TheVariants.{Quiet}
 use Rattle.semantics.specs.Thread.{Thread, Caller, Monitor, Shared, Advance, Advances, without_owner}
-use Rattle.semantics.specs.Value.{Int}
+use Rattle.semantics.specs.declared.value.Value.TheVariants.{Int}
 
 -- ---- without a caller
 

@@ -5,7 +5,8 @@ use Rattle.class_rules.specs.Fields.{FieldId}
 use Rattle.semantics.specs.Heap.{Heap, numbers_of}
 use Rattle.semantics.specs.Method.{MethodId}
 use Rattle.semantics.specs.declared.trap.Trap.TheVariants.{OutOfRange}
-use Rattle.semantics.specs.Value.{Value, Outcome, Gives, Traps, Stuck, outcome_then}
+use Rattle.semantics.specs.declared.value.Value.{Value}
+use Rattle.semantics.specs.Value.{Outcome, Gives, Traps, Stuck, outcome_then}
 use Rattle.semantics.specs.Variable.{Variable, Scalar, LocalRef, FieldHandle, MethodHandle, Elements, LocalArray, NoBuffer, Copy, View, StaticReference, Empty, Variables, Statics, as_static, as_argument}
 
 -- answers about a name, each where the name is of that kind

@@ -11,7 +11,9 @@ use Rattle.syntax.specs.Tree.{Expr, Paren}
 use Rattle.syntax.specs.Parts.{null_tested}
 use Rattle.semantics.specs.Sight.{Sight}
 use Rattle.semantics.specs.declared.trap.Trap.TheVariants.{OutOfRange}
-use Rattle.semantics.specs.Value.{Value, Word, Int, Flag, Truth, Outcome, Gives, Traps, Stuck, outcome_then, outcome_map, prefix_value, binary_value}
+use Rattle.semantics.specs.declared.value.Value.{Value}
+use Rattle.semantics.specs.declared.value.Value.TheVariants.{Word, Int, Flag, Truth}
+use Rattle.semantics.specs.Value.{Outcome, Gives, Traps, Stuck, outcome_then, outcome_map, prefix_value, binary_value}
 
 -- An expression of which some parts are replaced by their values. Operands are worked out from left to right, which C
 -- leaves open.

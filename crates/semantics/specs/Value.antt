@@ -9,15 +9,10 @@ use Rattle.syntax.specs.declared.expr.PrefixOp.{PrefixOp}
 use Rattle.syntax.specs.declared.expr.PrefixOp.TheVariants.{LogicalNot, Complement, ToWord, ToInt}
 use Rattle.syntax.specs.declared.expr.BinaryOp.{BinaryOp}
 use Rattle.syntax.specs.declared.expr.BinaryOp.TheVariants.{LogicalOr, LogicalAnd, BitOr, BitXor, BitAnd, Equal, NotEqual, Less, LessEqual, Greater, GreaterEqual, ShiftLeft, ShiftRight, Add, Subtract, Multiply, Divide, Remainder}
+use Rattle.semantics.specs.declared.value.Value.{Value}
+use Rattle.semantics.specs.declared.value.Value.TheVariants.{Word, Int, Flag, Truth}
 use Rattle.semantics.specs.declared.trap.Trap.{Trap}
 use Rattle.semantics.specs.declared.trap.Trap.TheVariants.{DivisionByZero, ShiftTooFar, OutOfRange, NullReference, ExceptionPending, WrongObject, DeletedReference, NoCapacity, Fatal, CallsTooDeep}
-
--- a number or a truth, with its type: `uint32_t`, `jint`, `jboolean`, or what a comparison gives; each in its range
-pub data Value : Type 0 where
-  Word : ℕ → Value
-  Int : ℤ → Value
-  Flag : Bool → Value
-  Truth : Bool → Value
 
 -- the number under which a trap is reported
 abbrev pub trap_number : Trap → ℕ

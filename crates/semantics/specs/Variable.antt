@@ -6,7 +6,7 @@ use Rattle.base.specs.declared.element.ElementType.{ElementType}
 use Rattle.class_rules.specs.Fields.{FieldId}
 use Rattle.semantics.specs.Method.{MethodId}
 use Rattle.semantics.specs.Object.{Reference}
-use Rattle.semantics.specs.Value.{Value}
+use Rattle.semantics.specs.declared.value.Value.{Value}
 
 -- an element buffer: NULL, a copy of the elements of the array or string of this name, or a view of it
 pub data Buffer : Type 0 where

@@ -13,6 +13,7 @@ mod printed;
 mod schedule;
 mod static_reference;
 mod trap;
+mod value;
 mod variable_kind;
 
 ghost use Rattle.semantics.specs.AccountLaws.{ClearingsAreFew, ClearingsStay, LostAreCleared, OthersStay, StepsMay, StepsPrint};
@@ -28,6 +29,7 @@ pub use printed::Printed;
 pub use schedule::ScheduleWord;
 pub use static_reference::StaticReference;
 pub use trap::Trap;
+pub use value::Value;
 pub use variable_kind::VariableKind;
 
 /// The computed list is the set of the objects that are reached.

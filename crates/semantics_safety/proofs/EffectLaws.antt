@@ -25,7 +25,9 @@ use Rattle.semantics.specs.Task.{Task, SetScalar, SetElement, SetNull, MakeArray
 use Rattle.semantics.specs.Term as term
 use Rattle.semantics.specs.Term.{Term, Done, Read, IsNull, Prefix, And, Or, Binary, Reduction, done, index_of, reduce}
 use Rattle.semantics.specs.Thread.{Frame}
-use Rattle.semantics.specs.Value.{Value, Int, Truth, Outcome, Gives, Traps, Stuck, outcome_map}
+use Rattle.semantics.specs.declared.value.Value.{Value}
+use Rattle.semantics.specs.declared.value.Value.TheVariants.{Int, Truth}
+use Rattle.semantics.specs.Value.{Outcome, Gives, Traps, Stuck, outcome_map}
 use Rattle.semantics.specs.Variable.{StaticReference, Variable, LocalRef, Variables, Statics}
 use Rattle.semantics_safety.specs.Owners.{Owners}
 use Rattle.semantics_safety.specs.Points as rule

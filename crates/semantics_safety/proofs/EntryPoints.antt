@@ -21,7 +21,7 @@ use Rattle.semantics.specs.Activation.{parameter_variable, parameter_variables, 
 use Rattle.semantics.specs.Load.{fits_parameter, fit_parameters}
 use Rattle.semantics.specs.Object.{ObjectValue, Number, Refers, Reference}
 use Rattle.semantics.specs.Thread.{Frame}
-use Rattle.semantics.specs.Value.{Int}
+use Rattle.semantics.specs.declared.value.Value.TheVariants.{Int}
 use Rattle.semantics.specs.Variable.{Variable, Scalar, LocalRef, FieldHandle, MethodHandle, Elements, LocalArray, Buffer, StaticReference, Variables, Statics}
 use Rattle.semantics_safety.specs.Owners.{holders, level_held}
 use Rattle.semantics_safety.specs.Points.{Point, AreOnce, is_copy, owns}

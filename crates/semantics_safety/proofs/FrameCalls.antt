@@ -27,7 +27,7 @@ use Rattle.semantics.specs.Task.{Task, Target, Declared, Assigned, Tested, Dropp
 use Rattle.semantics.specs.Term.{Done}
 use Rattle.semantics.specs.Thread.{Frame, Thread, Shared, BuffersInUse, capacities, sight_of}
 use Rattle.semantics.specs.declared.trap.Trap.{Trap}
-use Rattle.semantics.specs.Value.{Int, Truth}
+use Rattle.semantics.specs.declared.value.Value.TheVariants.{Int, Truth}
 use Rattle.semantics.specs.Variable.{Variable, LocalRef, Variables}
 use Rattle.semantics.specs.Effect.{tasks_after}
 use Rattle.std.specs.Str.{bytes_eq}

@@ -32,7 +32,7 @@ use Rattle.semantics.specs.Task.{Task, Target, Declared, Assigned, Tested, Dropp
 use Rattle.semantics.specs.Thread.{Thread, Caller, Shared, BuffersInUse, Frame, Advance, Advances, NoAdvance, capacities, sight_of}
 use Rattle.semantics.specs.ThreadStep.{set_element, with_tasks, after_effect, after_refused_effect, step_within}
 use Rattle.semantics.specs.declared.trap.Trap.{Trap}
-use Rattle.semantics.specs.Value.{Int, Flag}
+use Rattle.semantics.specs.declared.value.Value.TheVariants.{Int, Flag}
 use Rattle.semantics.specs.Variable.{Variable, Scalar, LocalRef, FieldHandle, MethodHandle, Elements, LocalArray, NoBuffer, Copy, View, Variables, assign, change}
 use Rattle.semantics.specs.World.{Invocation, fresh_object}
 use Rattle.semantics.proofs.AnswerFacts.{IsOfKind, OfMethod}

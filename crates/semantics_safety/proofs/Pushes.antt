@@ -40,7 +40,7 @@ use Rattle.semantics.specs.Term.{Term, Done}
 use Rattle.semantics.specs.declared.event.Event.TheVariants.{Quiet, Trapped}
 use Rattle.semantics.specs.Thread.{Thread, Caller, Shared, BuffersInUse, Frame, Advance, Advances, NoAdvance}
 use Rattle.semantics.specs.declared.trap.Trap.{Trap}
-use Rattle.semantics.specs.Value.{Int}
+use Rattle.semantics.specs.declared.value.Value.TheVariants.{Int}
 use Rattle.semantics.specs.Variable.{Variable, MethodHandle, Variables}
 use Rattle.semantics.specs.World.{Invocation}
 use Rattle.semantics.proofs.CheckLaws.{passed as checks_passed}

@@ -21,7 +21,8 @@ use Rattle.semantics.specs.declared.variable_kind.VariableKind.TheVariants as ki
 use Rattle.semantics.specs.Task.{Task, Target, Declared, Assigned, Tested, Dropped}
 use Rattle.semantics.specs.Thread.{Thread, Shared, BuffersInUse}
 use Rattle.semantics.specs.ThreadStep.{with_tasks}
-use Rattle.semantics.specs.Value.{Value, Int, Flag}
+use Rattle.semantics.specs.declared.value.Value.{Value}
+use Rattle.semantics.specs.declared.value.Value.TheVariants.{Int, Flag}
 use Rattle.semantics.specs.Variable.{Variable, Scalar, LocalRef, FieldHandle, MethodHandle, Elements, Buffer, StaticReference, Empty, Weakly}
 use Rattle.semantics_safety.specs.Owners.{Owners}
 use Rattle.semantics_safety.specs.Points.{Point}

@@ -16,7 +16,7 @@ use Rattle.semantics.specs.Return.{ending_after, calls_after, fitted, given_back
 use Rattle.semantics.specs.Step.{is_unfinished}
 use Rattle.semantics.specs.Task.{Target}
 use Rattle.semantics.specs.Thread.{Frame, Caller, Thread, Shared, BuffersInUse, Advance, objects_viewed}
-use Rattle.semantics.specs.Value.{Word, Int, Flag, Truth}
+use Rattle.semantics.specs.declared.value.Value.TheVariants.{Word, Int, Flag, Truth}
 use Rattle.semantics.specs.Variable.{Statics}
 use Rattle.semantics_safety.specs.Owners.{Owners, with_result}
 use Rattle.semantics_safety.specs.Stands.{CallerStands, Stands}

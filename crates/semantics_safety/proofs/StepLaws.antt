@@ -13,7 +13,9 @@ use Rattle.semantics.specs.Task.{Task}
 use Rattle.semantics.specs.Thread.{Thread, Shared, BuffersInUse, Frame, Advance, Advances, NoAdvance}
 use Rattle.semantics.specs.declared.event.Event.{Event}
 use Rattle.semantics.specs.ThreadStep.{set_element, with_tasks, after_effect}
-use Rattle.semantics.specs.Value.{Value, Word, Int, Flag, Truth, convert}
+use Rattle.semantics.specs.declared.value.Value.{Value}
+use Rattle.semantics.specs.declared.value.Value.TheVariants.{Word, Int, Flag, Truth}
+use Rattle.semantics.specs.Value.{convert}
 use Rattle.semantics.specs.Variable.{Variable, Scalar, LocalRef, FieldHandle, MethodHandle, Elements, LocalArray, Buffer, NoBuffer, Copy, View, StaticReference, Variables, Statics, assign}
 use Rattle.semantics_safety.specs.Owners.{Owners}
 use Rattle.semantics_safety.specs.Points.{Point, value_type, ElementsFit, is_copy, owns}

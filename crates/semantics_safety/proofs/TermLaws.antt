@@ -10,7 +10,9 @@ use Rattle.type_rules.specs.TypeGroups.{IsNumberType}
 use Rattle.semantics.specs.Sight.{Sight}
 use Rattle.semantics.specs.Term as term
 use Rattle.semantics.specs.Term.{Term, Done, Read, IsNull, Prefix, And, Or, Binary, Reduction, done, with_part, and_then, or_else, element_value, index_of, reduce}
-use Rattle.semantics.specs.Value.{Value, Int, Truth, Outcome, Gives, Traps, Stuck, outcome_map, outcome_then, prefix_value, binary_value}
+use Rattle.semantics.specs.declared.value.Value.{Value}
+use Rattle.semantics.specs.declared.value.Value.TheVariants.{Int, Truth}
+use Rattle.semantics.specs.Value.{Outcome, Gives, Traps, Stuck, outcome_map, outcome_then, prefix_value, binary_value}
 use Rattle.semantics_safety.specs.Points.{Point, value_type, NullTestFits, ElementsFit, HasType}
 use Rattle.semantics_safety.proofs.Values.{ValueFits, binary_fits, prefix_fits, IndexFits, index_fits}
 

@@ -12,7 +12,9 @@ use Rattle.type_rules.specs.declared.ty.ExprType.TheVariants as types
 use Rattle.type_rules.specs.TypeGroups.{IsIndexType, IsNumberType, OperatorFits}
 use Rattle.semantics.specs.Term.{index_of}
 use Rattle.semantics.specs.declared.trap.Trap.TheVariants.{DivisionByZero, ShiftTooFar}
-use Rattle.semantics.specs.Value.{Value, Word, Int, Flag, Truth, Outcome, Gives, Traps, Stuck, on_words, on_ints, on_flags, binary_value, prefix_value}
+use Rattle.semantics.specs.declared.value.Value.{Value}
+use Rattle.semantics.specs.declared.value.Value.TheVariants.{Word, Int, Flag, Truth}
+use Rattle.semantics.specs.Value.{Outcome, Gives, Traps, Stuck, on_words, on_ints, on_flags, binary_value, prefix_value}
 use Rattle.semantics_safety.specs.Points.{value_type, PrefixFits}
 
 -- a value of this type, or a trap

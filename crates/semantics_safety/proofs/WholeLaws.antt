@@ -21,7 +21,7 @@ use Rattle.semantics.specs.declared.variable_kind.VariableKind.{VariableKind}
 use Rattle.semantics.specs.declared.variable_kind.VariableKind.TheVariants as kinds
 use Rattle.semantics.specs.Task.{Task, Target, Declared, Assigned, Tested, Dropped, Operand, Invoke}
 use Rattle.semantics.specs.Thread.{Frame}
-use Rattle.semantics.specs.Value.{Value}
+use Rattle.semantics.specs.declared.value.Value.{Value}
 use Rattle.semantics.specs.Variable.{Variable, Scalar, LocalRef, FieldHandle, MethodHandle, Elements, StaticReference, Variables, Statics}
 use Rattle.semantics_safety.specs.Owners.{Owners, is_target}
 use Rattle.semantics_safety.specs.Follows.{Follows}

@@ -21,8 +21,8 @@ use Rattle.semantics.specs.Variable.{Variable, LocalRef, Variables}
 use Rattle.semantics.specs.Task.{Operand, NumberOperand, PassedName, Given}
 use Rattle.semantics.specs.Term as term
 use Rattle.semantics.specs.Term.{Term, Done, Read, IsNull, Prefix, And, Or, Binary}
-use Rattle.semantics.specs.Value as value
-use Rattle.semantics.specs.Value.{Value}
+use Rattle.semantics.specs.declared.value.Value.TheVariants as value
+use Rattle.semantics.specs.declared.value.Value.{Value}
 
 -- what is known there
 pub record Point : Type 0 where

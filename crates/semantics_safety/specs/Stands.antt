@@ -21,7 +21,7 @@ use Rattle.region_rules.specs.RegionStates.{VariableState, BufferState, Free, Un
 use Rattle.semantics.specs.Step.{is_unfinished}
 use Rattle.semantics.specs.Task.{Task}
 use Rattle.semantics.specs.Thread.{Thread, Caller, Frame}
-use Rattle.semantics.specs.Value.{Value}
+use Rattle.semantics.specs.declared.value.Value.{Value}
 use Rattle.semantics.specs.Variable.{Variable, Scalar, LocalRef, FieldHandle, MethodHandle, Elements, LocalArray, Buffer as Buffer_, NoBuffer, Copy, View, StaticReference, Variables, Statics}
 use Rattle.semantics_safety.specs.Owners.{Owners, ThreadOwners}
 use Rattle.semantics_safety.specs.Points.{Point, AreOnce, value_type, owners}

@@ -25,8 +25,8 @@ use Rattle.semantics.specs.declared.variable_kind.VariableKind.TheVariants as ki
 use Rattle.semantics.specs.Task.{Task, SetScalar, SetElement, SetNull, MakeArray, Invoke, Print, Branch, EndIf, Loop, EndTurn, Target, Declared, Assigned, Tested, Dropped, Operand, NumberOperand, PassedName, Given, task_of}
 use Rattle.semantics.specs.Term.{Term, Done, Read, IsNull, term_of}
 use Rattle.semantics.specs.Term as term
-use Rattle.semantics.specs.Value.{Value}
-use Rattle.semantics.specs.Value as value
+use Rattle.semantics.specs.declared.value.Value.{Value}
+use Rattle.semantics.specs.declared.value.Value.TheVariants as value
 use Rattle.semantics.specs.Variable.{Variables}
 use Rattle.semantics_safety.specs.Points.{Point, AreOnce, IsLive, ElementsFit, HasType, OperandsFit, owners}
 

@@ -37,7 +37,8 @@ use Rattle.semantics.specs.Checks.{go_together}
 use Rattle.semantics.specs.Heap.{Heap, object_at, class_of, values_of, next_name, with_value_at, with_numbers, numbers_of, field_place, static_place, is_instance, fits_class}
 use Rattle.semantics.specs.Object.{ObjectValue, Number, Refers, Reference, Object}
 use Rattle.semantics.specs.Thread.{Thread, Shared, Frame, BuffersInUse, capacities}
-use Rattle.semantics.specs.Value.{Int, convert}
+use Rattle.semantics.specs.declared.value.Value.TheVariants.{Int}
+use Rattle.semantics.specs.Value.{convert}
 use Rattle.semantics.specs.Variable.{Variable, Scalar, LocalRef, FieldHandle, MethodHandle, Elements, LocalArray, NoBuffer, Copy, View, Variables, change}
 use Rattle.semantics.specs.Variable as variable
 use Rattle.semantics.specs.World.{fresh_object}

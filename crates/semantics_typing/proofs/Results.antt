@@ -20,7 +20,7 @@ use Rattle.semantics.specs.declared.variable_kind.VariableKind.{VariableKind}
 use Rattle.semantics.specs.declared.variable_kind.VariableKind.TheVariants as kinds
 use Rattle.semantics.specs.Task.{Task, Target, Declared, Assigned, Tested, Dropped}
 use Rattle.semantics.specs.Thread.{Thread, Shared, BuffersInUse, Advance, Advances, NoAdvance}
-use Rattle.semantics.specs.Value.{Flag}
+use Rattle.semantics.specs.declared.value.Value.TheVariants.{Flag}
 use Rattle.semantics.specs.Variable.{Variable, Scalar, LocalRef, FieldHandle, MethodHandle, Elements, LocalArray, Buffer, NoBuffer, Copy, View, Variables, assign}
 use Rattle.semantics.specs.World.{fresh_object}
 use Rattle.semantics_safety.proofs.NameLaws.{one_or_other, lookup_same, lookup_other}

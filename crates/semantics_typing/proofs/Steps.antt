@@ -43,7 +43,7 @@ use Rattle.semantics.specs.Task.{Task, Invoke, Target, Declared, Assigned, Teste
 use Rattle.semantics.specs.Return.{fitted, given_back, nothing_of, resumed_in, return_by}
 use Rattle.semantics.specs.Thread.{Thread, Caller, Shared, BuffersInUse, Frame, Advance, sight_of}
 use Rattle.semantics.specs.ThreadStep.{set_element, with_tasks, after_effect, after_refused_effect, step_within, thread_step}
-use Rattle.semantics.specs.Value as value
+use Rattle.semantics.specs.declared.value.Value.TheVariants as value
 use Rattle.semantics.specs.declared.trap.Trap.{Trap}
 use Rattle.semantics.specs.Value.{convert}
 use Rattle.semantics.specs.Variable.{Variable, Scalar, LocalRef, FieldHandle, MethodHandle, Elements, LocalArray, NoBuffer, Copy, View, Variables, Statics}

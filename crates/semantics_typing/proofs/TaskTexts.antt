@@ -28,7 +28,9 @@ use Rattle.semantics.specs.Task as task
 use Rattle.semantics.specs.Task.{Task, SetScalar, SetElement, SetNull, MakeArray, Invoke, Print, Branch, EndIf, Loop, EndTurn, Impossible, Target, Declared, Assigned, Tested, Dropped, Operand, NumberOperand, PassedName, Given, operand, passed_operand, invocation, set_task, right_side_task, if_task, else_block, task_of, tasks_of, kind_of}
 use Rattle.semantics.specs.Term as term
 use Rattle.semantics.specs.Term.{Term, Done, Read, reduce, index_of}
-use Rattle.semantics.specs.Value.{Value, Int, Truth, Outcome, Gives, Traps, Stuck, outcome_map}
+use Rattle.semantics.specs.declared.value.Value.{Value}
+use Rattle.semantics.specs.declared.value.Value.TheVariants.{Int, Truth}
+use Rattle.semantics.specs.Value.{Outcome, Gives, Traps, Stuck, outcome_map}
 use Rattle.semantics_typing.specs.Texts.{IsTextual, HasText, CallHasTexts, RightHasTexts, TestHasTexts, BlockHasTexts, StmtHasTexts, HasTexts}
 use Rattle.semantics_typing.proofs.Arguments.{HasActualText}
 use Rattle.semantics_typing.proofs.Lists.{all_append}

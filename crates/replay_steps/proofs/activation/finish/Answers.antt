@@ -5,7 +5,7 @@ use Rattle.replay_tasks.specs.declared.task.Task.{Task}
 use Rattle.replay_tasks.specs.declared.task.Task.TheVariants as task
 use Rattle.replay_terms.specs.declared.term.Term.{Term}
 use Rattle.replay_terms.specs.declared.term.Term.TheVariants as term
-use Rattle.replay_terms.specs.declared.value.Value.TheVariants as value
+use Rattle.semantics.specs.declared.value.Value.TheVariants as value
 use Rattle.replay_steps.proofs.FinishedTasks.{branch_settled, else_settled, turn_settled}
 use Rattle.replay_steps.proofs.activation.finish.Goals as goal
 

@@ -1,7 +1,7 @@
 use Rattle.std.proofs.Common.{◌≡◌, true, false}
 use Rattle.semantics.specs.Task.{EndIf}
 use Rattle.replay_terms.specs.declared.term.Term.TheVariants as term
-use Rattle.replay_terms.specs.declared.value.Value.TheVariants as value
+use Rattle.semantics.specs.declared.value.Value.TheVariants as value
 use Rattle.semantics.specs.Sight.{seen}
 use Rattle.replay_terms.specs.Views.{variables_view}
 use Rattle.replay_tasks.proofs.EffectLemmas.{block_entered, else_entered, branch_reduces}

@@ -2,7 +2,7 @@ use Rattle.std.proofs.Common.{◌≡◌, true}
 use Rattle.syntax.specs.Views.{expr_tree, block_tree}
 use Rattle.semantics.specs.Task.{EndTurn}
 use Rattle.replay_terms.specs.declared.term.Term.TheVariants as term
-use Rattle.replay_terms.specs.declared.value.Value.TheVariants as value
+use Rattle.semantics.specs.declared.value.Value.TheVariants as value
 use Rattle.semantics.specs.Sight.{seen}
 use Rattle.replay_terms.specs.Views.{variables_view}
 use Rattle.replay_tasks.proofs.EffectLemmas.{block_entered, loop_reduces}

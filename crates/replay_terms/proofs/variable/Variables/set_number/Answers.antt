@@ -5,7 +5,7 @@ use Rattle.base.specs.Bytes.{Identifier}
 use Rattle.indexmap.specs.IndexMap.{set_value_at}
 use Rattle.semantics.specs.Variable.{Scalar, assign, copied_length}
 use Rattle.replay_terms.specs.declared.variable.Content.{Content}
-use Rattle.replay_terms.specs.Views.{Contents, by_name, content_view, count_viewed, value_view, variables_view}
+use Rattle.replay_terms.specs.Views.{Contents, by_name, content_view, count_viewed, variables_view}
 use Rattle.replay_terms.proofs.BufferLemmas.{takes_assigned}
 use Rattle.replay_terms.proofs.ByNameLemmas.{looked_up, values, written_there}
 use Rattle.replay_terms.proofs.VariableLemmas.{assigned_again}
@@ -30,7 +30,7 @@ pub returns-then-put_number : goal.returns-then-put_number
 returns-then-put_number c =
     let es = c.self.inside.contents.entries in
     let x = c.as_bytes-name.result in
-    let number = Scalar (value_view c.args.value) in
+    let number = Scalar c.args.value in
     written_there content_view x c.put_number.new.place es c.in-Some.place (sym c.in-Some.ensures.index)
     ∙ ap (λ (d : Content). assign x.now (content_view d) (values content_view es)) (c.if-put_number.ensures.done refl)
     ∙ ap (λ (y : Identifier). assign y number (values content_view es)) c.as_bytes-name.ensures
@@ -52,7 +52,7 @@ returns c =
     let es = c.self.inside.contents.entries in
     let x = c.as_bytes-name.result in
     let content = c.index_mut.result.now in
-    let number = Scalar (value_view c.args.value) in
+    let number = Scalar c.args.value in
     let kept = written_there content_view x c.put_number.new.place es c.in-Some.place (sym c.in-Some.ensures.index)
     ∙ ap (λ (d : Content). assign x.now (content_view d) (values content_view es)) (c.if-put_number.ensures.other refl)
     ∙ assigned_again x.now (content_view content) (values content_view es) (sym (looked_up content_view x.now es) ∙ ap (option_map content_view) (sym c.in-Some.ensures.value ∙ c.index_mut.ensures.value))
