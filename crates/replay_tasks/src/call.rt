@@ -18,10 +18,12 @@ ghost use Rattle.replay_tasks.specs.Tasks.{is_unknown_call, ArgumentsInRange, Op
 
 use crate::outcome::Purpose;
 use crate::task::{Invocation, Task, put_task};
+use jni::JniFunction::{GetField, SetField};
 use jni::{JniFunction, ParameterKind, function_named};
 use replay_terms::{Operand, Operands, is_same, passed, term_of};
 use std::alloc::{AllocError, Global};
-use syntax::{Argument, Call, Constant, ElementType, ExprRef, Shape};
+use syntax::ElementType::{Byte, Char, Int, Short};
+use syntax::{Argument, Call, Constant, ExprRef, Shape};
 
 /// Begins a call, of a function that is there.
 pub(crate) fn call_task<'a>(
@@ -70,7 +72,7 @@ fn begin_call<'a>(
 }
 
 /// Begins a call whose arguments are all looked up in its own step.
-#[inline(never)]
+#[inline(always)]
 fn given_task<'a>(
     place: &mut Option<Task<'a>>,
     line: usize,
@@ -96,7 +98,7 @@ fn given_task<'a>(
 }
 
 /// Begins a call whose arguments are all looked up in its own step but the last, which is a number.
-#[inline(never)]
+#[inline(always)]
 fn last_task<'a>(
     alloc: Global,
     place: &mut Option<Task<'a>>,
@@ -211,7 +213,7 @@ fn numbers_among(parameters: &[ParameterKind], count: usize) -> Numbers
 }
 
 /// Where they are in a call of this function with so many arguments, by the kinds of its parameters.
-#[inline]
+#[inline(never)]
 fn numbers_by_kinds(function: JniFunction, count: usize) -> Numbers
     ensures { AreNumbers count (parameters_for function count) result }
 {
@@ -221,22 +223,32 @@ fn numbers_by_kinds(function: JniFunction, count: usize) -> Numbers
     numbers_among(function.prototype().parameters, count)
 }
 
-/// The same. Most calls that are made again and again read or write a number in an object, and those are known.
-#[inline]
+/// The same. Those that most calls are of are known.
+#[inline(always)]
 fn numbers_of(function: JniFunction, count: usize) -> Numbers
     ensures { AreNumbers count (parameters_for function count) result }
 {
     match function {
-        JniFunction::GetField(_) => {
+        GetField(_) => {
             if count == 2 {
                 Numbers::Nowhere
             } else {
                 Numbers::Anywhere
             }
         }
-        JniFunction::SetField(_) => {
+        SetField(_) => {
             if count == 3 {
                 Numbers::Last
+            } else {
+                Numbers::Anywhere
+            }
+        }
+        JniFunction::NewLocalRef
+        | JniFunction::DeleteLocalRef
+        | JniFunction::MonitorEnter
+        | JniFunction::MonitorExit => {
+            if count == 1 {
+                Numbers::Nowhere
             } else {
                 Numbers::Anywhere
             }
@@ -259,39 +271,66 @@ fn last_number(arguments: &[Argument]) -> Option<(&[Argument], ExprRef<'_>)>
     }
 }
 
-/// The function of a number in an object whose name this may be, by its length and two of its bytes, and its name.
-#[inline]
-#[tactic(auto, unfolding(jni::specs::JniFunction::function_named))]
-fn likely_function(name: &[u8]) -> Option<(JniFunction, &'static [u8])>
-    ensures { IfSome result (λ r. function_named r.1.now ≡ Some r.0) }
+/// This function, if the name is its own.
+#[inline(always)]
+fn if_named(function: JniFunction, its_name: &[u8], name: &[u8]) -> Option<JniFunction>
+    requires { function_named its_name.now ≡ Some function }
+    ensures { IfSome result (λ f. function_named name.now ≡ Some f) }
 {
-    let [first, _, _, letter, ..] = name else {
+    if is_same(name, its_name) {
+        Some(function)
+    } else {
+        None
+    }
+}
+
+/// The function of this name, if it is one that most calls are of: two of the name's bytes tell which that may be.
+#[inline(always)]
+#[tactic(auto, unfolding(jni::specs::JniFunction::function_named))]
+fn common_function(name: &[u8]) -> Option<JniFunction>
+    ensures { IfSome result (λ f. function_named name.now ≡ Some f) }
+{
+    let [first, _, _, fourth, ..] = name else {
         return None;
     };
-    match (*first, *letter, name.len()) {
-        (b'G', b'I', 11) => Some((JniFunction::GetField(ElementType::Int), b"GetIntField")),
-        (b'S', b'I', 11) => Some((JniFunction::SetField(ElementType::Int), b"SetIntField")),
-        (b'G', b'S', 13) => Some((JniFunction::GetField(ElementType::Short), b"GetShortField")),
-        (b'S', b'S', 13) => Some((JniFunction::SetField(ElementType::Short), b"SetShortField")),
-        (b'G', b'B', 12) => Some((JniFunction::GetField(ElementType::Byte), b"GetByteField")),
-        (b'S', b'B', 12) => Some((JniFunction::SetField(ElementType::Byte), b"SetByteField")),
-        (b'G', b'C', 12) => Some((JniFunction::GetField(ElementType::Char), b"GetCharField")),
-        (b'S', b'C', 12) => Some((JniFunction::SetField(ElementType::Char), b"SetCharField")),
+    match (*first, *fourth) {
+        (b'G', b'I') => if_named(GetField(Int), b"GetIntField", name),
+        (b'S', b'I') => if_named(SetField(Int), b"SetIntField", name),
+        (b'G', b'S') => if_named(GetField(Short), b"GetShortField", name),
+        (b'S', b'S') => if_named(SetField(Short), b"SetShortField", name),
+        (b'G', b'B') => if_named(GetField(Byte), b"GetByteField", name),
+        (b'S', b'B') => if_named(SetField(Byte), b"SetByteField", name),
+        (b'G', b'C') => if_named(GetField(Char), b"GetCharField", name),
+        (b'S', b'C') => if_named(SetField(Char), b"SetCharField", name),
+        (b'N', b'L') => if_named(JniFunction::NewLocalRef, b"NewLocalRef", name),
+        (b'D', b'e') => if_named(JniFunction::DeleteLocalRef, b"DeleteLocalRef", name),
+        (b'M', b'i') => monitor_function(name),
         _ => None,
     }
 }
 
-/// The function of a name. Most calls that are made again and again read or write a number in an object: these are found at once.
-#[inline]
+/// The same of one that works on a monitor.
+#[inline(always)]
+#[tactic(auto, unfolding(jni::specs::JniFunction::function_named))]
+fn monitor_function(name: &[u8]) -> Option<JniFunction>
+    ensures { IfSome result (λ f. function_named name.now ≡ Some f) }
+{
+    if name.len() == 12 {
+        if_named(JniFunction::MonitorEnter, b"MonitorEnter", name)
+    } else {
+        if_named(JniFunction::MonitorExit, b"MonitorExit", name)
+    }
+}
+
+/// The function of a name. Those that most calls are of are found at once.
+#[inline(always)]
 fn function_of(name: &[u8]) -> Option<JniFunction>
     ensures { result ≡ function_named name.now }
 {
-    if let Some((function, its_name)) = likely_function(name) {
-        if is_same(name, its_name) {
-            return Some(function);
-        }
+    match common_function(name) {
+        Some(function) => Some(function),
+        None => function_named(name),
     }
-    function_named(name)
 }
 
 /// Adds the operands of a function's arguments.

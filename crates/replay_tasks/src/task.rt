@@ -212,6 +212,7 @@ fn drop_operands(operands: Operands<'_>) {
 }
 
 /// Begins the task that gives a variable the value of an expression, in the place of the one that is begun.
+#[inline(never)]
 fn value_task<'a>(
     alloc: Global,
     place: &mut Option<Task<'a>>,
@@ -235,6 +236,7 @@ fn value_task<'a>(
 }
 
 /// Begins to set a variable.
+#[inline(always)]
 fn set_task<'a>(
     alloc: Global,
     place: &mut Option<Task<'a>>,
