@@ -178,6 +178,7 @@ fn number_argument<'a>(t: &Term<'_>) -> Actual<'a>
 }
 
 /// An argument that is given as it is written.
+#[inline(always)]
 fn given_argument<'a>(
     shared: &Shared<'_>,
     variables: &Variables<'a>,

@@ -11,6 +11,7 @@ ghost use Rattle.class_rules.specs.Class.{assignable};
 ghost use Rattle.semantics.specs.Arguments.{field_given, method_given, object_given};
 ghost use Rattle.semantics.specs.Heap.{Heap, class_of, fits_class, fits_type, is_instance};
 ghost use Rattle.syntax.specs.Views.{parameter_tree};
+ghost use Rattle.jni.specs.Table.{facts, facts_of};
 ghost use Rattle.replay_arguments.specs.Actuals.{actual_view};
 ghost use Rattle.replay_arguments.specs.Sights.{is_wanted, lacks, lacks_room, scene_sight, seen_with};
 ghost use Rattle.semantics.specs.Views.{name_of};
@@ -25,7 +26,7 @@ use class_rules::ClassId;
 use classes::built_ins::{THROWABLE, number_array};
 use classes::class::FieldType;
 use classes::table::ClassTable;
-use jni::{Access, JniFunction, ParameterKind, ResultKind};
+use jni::{Access, JniFunction, ParameterKind, Prototype, ResultKind};
 use replay_objects::{Frames, Store};
 use replay_terms::{StaticReference, passed};
 use semantics::{ObjectId, Trap};
@@ -38,12 +39,14 @@ pub fn check(
     scene: Scene<'_, '_>,
     buffer: syntax::ElementType,
     function: JniFunction,
+    asked: &Prototype,
     actuals: &[Actual<'_>],
 ) -> Option<Trap>
+    requires { facts asked.now ≡ facts_of function }
     ensures { result
         ≡ trap_of scene.entry.classes.now (scene_sight scene.entry function actuals.now) buffer function }
 {
-    if is_passed(scene, buffer, function, actuals) {
+    if is_passed(scene, buffer, function, asked, actuals) {
         return None;
     }
     first_trap(scene, buffer, function, actuals)
@@ -55,11 +58,12 @@ fn is_passed(
     scene: Scene<'_, '_>,
     buffer: syntax::ElementType,
     function: JniFunction,
+    asked: &Prototype,
     actuals: &[Actual<'_>],
 ) -> bool
+    requires { facts asked.now ≡ facts_of function }
     ensures { (result ≡ true) → trap_of scene.entry.classes.now (scene_sight scene.entry function actuals.now) buffer function ≡ None }
 {
-    let asked = function.prototype();
     if scene.pending.is_some() && !asked.pending {
         return false;
     }

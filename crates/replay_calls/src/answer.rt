@@ -9,6 +9,7 @@ ghost use Rattle.class_rules.specs.ClassIds.{number_of};
 ghost use Rattle.class_rules.specs.Fields.{find_field, find_static};
 ghost use Rattle.class_rules.specs.Grown.{IsGrown};
 ghost use Rattle.jni.specs.Subjects.{subject_of};
+ghost use Rattle.jni.specs.Table.{facts, facts_of};
 ghost use Rattle.jni.specs.declared.subject.Subject.TheVariants as subject;
 ghost use Rattle.syntax.specs.Views.{unit_tree};
 ghost use Rattle.semantics.specs.AnswerTable.{element_given, element_set, ensured, fits, found_class, found_field, found_method, global_deleted, index_within, local_deleted, method_called, new_array, pushed, weak_deleted};
@@ -39,7 +40,7 @@ use classes::built_ins::{
 };
 use classes::fields::FieldId;
 use classes::table::ClassTable;
-use jni::{JniFunction, Subject};
+use jni::{JniFunction, Prototype, Subject};
 use replay_arguments::actual::{
     Actual, class_given, field_given, method_given, number_given, object_given, reference_given,
     text_given, variable_given,
@@ -149,9 +150,11 @@ pub fn answer_or_trap<'a>(
     scene: Scene<'_, 'a>,
     caller: Caller<'a>,
     function: JniFunction,
+    asked: &Prototype,
     actuals: &[Actual<'a>],
 ) -> Answer<'a>
-    requires { IsGrown scene.classes.now }
+    requires grown { IsGrown scene.classes.now }
+    requires asked { facts asked.now ≡ facts_of function }
     ensures answer { answer_view scene.entry.classes.now result
         ≡ answered (trap_of scene.entry.classes.now (scene_sight scene.entry function actuals.now) caller.entry.element
         function)
@@ -160,7 +163,7 @@ pub fn answer_or_trap<'a>(
         (array_given (variables_view scene.entry.locals.now.variables) (map actual_view actuals.now)) function
         (answer_view scene.entry.classes.now result) }
 {
-    match check(scene, caller.element, function, actuals) {
+    match check(scene, caller.element, function, asked, actuals) {
         Some(trap) => Answer::Halts(trap),
         None => work_out(scene, caller, function, actuals),
     }

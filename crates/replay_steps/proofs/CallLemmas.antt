@@ -7,6 +7,7 @@ use Rattle.base.specs.declared.element.ElementType.{ElementType}
 use Rattle.syntax.specs.declared.unit.ResultType.{ResultType}
 use Rattle.syntax.specs.Tree.{SourceUnit}
 use Rattle.class_rules.specs.Class.{Classes}
+use Rattle.jni.specs.declared.access.Access.{Access}
 use Rattle.jni.specs.declared.access.Access.TheVariants.{ElementsCopy, ArrayView, CharsCopy, CharsView}
 use Rattle.jni.specs.declared.function.JniFunction.{JniFunction}
 use Rattle.jni.specs.declared.function.JniFunction.TheVariants.{GetBuffer, ReleaseBuffer, CallStaticVoidMethod, CallStaticIntMethod, CallStaticObjectMethod}
@@ -418,6 +419,28 @@ module _ (unit : SourceUnit) (classes : Classes) (in_use : BuffersInUse) (k : �
       ∙ gave unit classes in_use k s (calls has t rest sees) line i.purpose f args rest s (variables_view vs) frames (Some (out_of_memory classes)) new g (deep has t rest sees)
       ∙ ap (λ (fs : List Frame). left_by k s (in_locals t (variables_view vs) fs (Some (out_of_memory classes))) rest (outcome_for line i.purpose g) new) (ap (λ (c : CallResult). frames_with (prototype f).result c frames) failing ∙ failed_frames (prototype f).result frames))
 
+-- which element type a buffer is to have matters only to a function that gives one
+together_of_any : (classes : Classes) (sight : CallSight) (T T' : ElementType) (f : JniFunction) → ((a : Access) → f ≡ GetBuffer a → ⊥) → go_together classes sight T f ≡ go_together classes sight T' f
+unfolding go_together
+together_of_any classes sight T T' (GetBuffer (ElementsCopy U)) none = refl
+together_of_any classes sight T T' (GetBuffer ArrayView) none = absurd (none ArrayView refl)
+together_of_any classes sight T T' (GetBuffer CharsCopy) none = refl
+together_of_any classes sight T T' (GetBuffer CharsView) none = refl
+together_of_any classes sight T T' f none = refl
+
+trap_of_any : (classes : Classes) (sight : CallSight) (T T' : ElementType) (f : JniFunction) → ((a : Access) → f ≡ GetBuffer a → ⊥) → trap_of classes sight T f ≡ trap_of classes sight T' f
+unfolding trap_of
+trap_of_any classes sight T T' f none =
+    let together = together_of_any classes sight T T' f none in
+    λ i. first_trap (
+    (is_some sight.pending && not (is_allowed_pending f), ExceptionPending)
+    ∷ (list_any (λ (a : ArgumentSight). a.is_deleted) sight.arguments, DeletedReference)
+    ∷ (list_any misses (with_kinds classes sight f), NullReference)
+    ∷ (list_any (misfits classes) (with_kinds classes sight f) || not (together i), WrongObject)
+    ∷ (lacks_room classes sight f (prototype f).result, NoCapacity)
+    ∷ (calls_method f && nat_le 64 (sight.callers + 1), CallsTooDeep)
+    ∷ [])
+
 -- the answer, by the element type that is wanted
 pub has_answer : (scene : Scene) (i : Invocation) (args : List Actual) (a : Answer) (T : ElementType) → T ≡ wanted_element scene.variables i.purpose
     → a ≡ answered (trap_of scene.classes (seen_by scene i args) T i.function)
@@ -427,3 +450,14 @@ has_answer scene i args a T same is fits = record {
   is = is ∙ ap (λ (V : ElementType). answered (trap_of scene.classes (seen_by scene i args) V i.function) (call_answer scene.unit scene.classes scene.thread (seen_by scene i args) i.function)) same;
   fits = fits;
 }
+
+-- the same of a function that gives no buffer, whatever the element type
+pub has_answer_of_any : (scene : Scene) (i : Invocation) (args : List Actual) (a : Answer) (T : ElementType) → ((access : Access) → i.function ≡ GetBuffer access → ⊥)
+    → a ≡ answered (trap_of scene.classes (seen_by scene i args) T i.function)
+    (call_answer scene.unit scene.classes scene.thread (seen_by scene i args) i.function)
+    → FitsCall scene.shared.heap (array_given (variables_view scene.variables) args) i.function a → HasAnswer scene i args a
+has_answer_of_any scene i args a T none is fits =
+    let wanted = wanted_element scene.variables i.purpose in
+    has_answer scene i args a wanted refl
+    (is ∙ ap (λ (trap : Option Trap). answered trap (call_answer scene.unit scene.classes scene.thread (seen_by scene i args) i.function)) (trap_of_any scene.classes (seen_by scene i args) T wanted i.function none))
+    fits

@@ -3,6 +3,9 @@
 ghost use Rattle.std.specs.Prelude.{◌≡◌, IfOk, false, length, map, true};
 ghost use Rattle.class_rules.specs.Grown.{IsGrown};
 ghost use Rattle.jni.specs.JniFunction.{calls_method};
+ghost use Rattle.jni.specs.Table.{facts, facts_of};
+ghost use Rattle.jni.specs.declared.access.Access.{Access};
+ghost use Rattle.jni.specs.declared.function.JniFunction.TheVariants.{GetBuffer};
 ghost use Rattle.replay_arguments.specs.Actuals.{actual_view};
 ghost use Rattle.replay_arguments.specs.Shares.{shared_view};
 ghost use Rattle.replay_steps.specs.Activations.{IsAtStatement};
@@ -10,8 +13,7 @@ ghost use Rattle.replay_steps.specs.AtOnce.{AttemptsInvocation, MakesAtOnce, Tri
 ghost use Rattle.replay_terms.specs.Views.{operands_view};
 
 use crate::activation::{Activation, begin_next};
-use crate::invoke::wanted_element;
-use jni::JniFunction;
+use jni::{JniFunction, Prototype};
 use replay_arguments::actual::{Actual, ready_actual};
 use replay_arguments::{Locals, Scene, Shared, Turn};
 use replay_calls::carry_out::{give, gives, put_local};
@@ -19,6 +21,7 @@ use replay_calls::{Caller, answer_or_trap};
 use replay_tasks::{Invocation, Purpose, Task, put_given};
 use semantics::ObjectId;
 use std::alloc::AllocError;
+use syntax::ElementType;
 
 /// Makes a call with these arguments, if it gives something at once that goes into a variable or a static, or nowhere; false where it doesn't, and
 /// then all is as it was.
@@ -29,19 +32,22 @@ fn make_at_once<'a>(
     pending: &mut Option<ObjectId>,
     locals: &mut Locals<'a>,
     i: &Invocation<'a>,
+    asked: &Prototype,
     actuals: &[Actual<'a>],
 ) -> Result<bool, AllocError>
-    requires { IsGrown turn.now.classes.now }
+    requires grown { IsGrown turn.now.classes.now }
+    requires asked { facts asked.now ≡ facts_of i.now.function }
+    requires bufferless { (a : Access) → i.now.function ≡ GetBuffer a → ⊥ }
     ensures { IfOk result (λ took. MakesAtOnce turn.now i.entry.now (map actual_view actuals.entry.now) took
         (shared_view shared.old) locals.old pending.old (shared_view shared.new) locals.new pending.new) }
 {
-    let Purpose::Put(target) = i.purpose else {
+    if !matches!(i.purpose, Purpose::Put(_)) {
         return Ok(false);
-    };
+    }
     let caller = Caller {
         unit: turn.unit,
         thread: turn.thread,
-        element: wanted_element(&locals.variables, i.purpose),
+        element: ElementType::Int,
     };
     let scene = Scene {
         classes: turn.classes,
@@ -49,13 +55,15 @@ fn make_at_once<'a>(
         locals,
         pending: *pending,
     };
-    let answer = answer_or_trap(scene, caller, i.function, actuals);
+    let answer = answer_or_trap(scene, caller, i.function, asked, actuals);
     if !gives(answer) {
         return Ok(false);
     }
     let given = give(*turn, shared, pending, locals, i.function, actuals, answer)?;
-    let kind = i.function.prototype().result;
-    put_local(&mut locals.frames, kind, given)?;
+    put_local(&mut locals.frames, asked.result, given)?;
+    let Purpose::Put(target) = i.purpose else {
+        unreachable!()
+    };
     let frames = locals.frames.len();
     put_given(
         &mut shared.statics,
@@ -78,18 +86,20 @@ fn try_one<'a>(
 ) -> Result<bool, AllocError>
     requires grown { IsGrown turn.now.classes.now }
     requires plain { calls_method i.now.function ≡ false }
+    requires bufferless { (a : Access) → i.now.function ≡ GetBuffer a → ⊥ }
     requires count { length (operands_view i.now.operands) ≡ 1 }
     ensures { IfOk result (λ took. TriesInvocation turn.now i.entry.now took
         (shared_view shared.old) locals.old pending.old (shared_view shared.new) locals.new pending.new) }
 {
-    let parameters = i.function.prototype().parameters;
+    let asked = i.function.prototype();
+    let parameters = asked.parameters;
     if parameters.len() != 1 {
         return Ok(false);
     }
     let Some(first) = ready_actual(shared, &locals.variables, parameters, &i.operands, 0) else {
         return Ok(false);
     };
-    make_at_once(turn, shared, pending, locals, i, &[first])
+    make_at_once(turn, shared, pending, locals, i, asked, &[first])
 }
 
 /// The same of one with two.
@@ -103,11 +113,13 @@ fn try_two<'a>(
 ) -> Result<bool, AllocError>
     requires grown { IsGrown turn.now.classes.now }
     requires plain { calls_method i.now.function ≡ false }
+    requires bufferless { (a : Access) → i.now.function ≡ GetBuffer a → ⊥ }
     requires count { length (operands_view i.now.operands) ≡ 2 }
     ensures { IfOk result (λ took. TriesInvocation turn.now i.entry.now took
         (shared_view shared.old) locals.old pending.old (shared_view shared.new) locals.new pending.new) }
 {
-    let parameters = i.function.prototype().parameters;
+    let asked = i.function.prototype();
+    let parameters = asked.parameters;
     if parameters.len() != 2 {
         return Ok(false);
     }
@@ -117,7 +129,7 @@ fn try_two<'a>(
     let Some(second) = ready_actual(shared, &locals.variables, parameters, &i.operands, 1) else {
         return Ok(false);
     };
-    make_at_once(turn, shared, pending, locals, i, &[first, second])
+    make_at_once(turn, shared, pending, locals, i, asked, &[first, second])
 }
 
 /// The same of one with three.
@@ -131,11 +143,13 @@ fn try_three<'a>(
 ) -> Result<bool, AllocError>
     requires grown { IsGrown turn.now.classes.now }
     requires plain { calls_method i.now.function ≡ false }
+    requires bufferless { (a : Access) → i.now.function ≡ GetBuffer a → ⊥ }
     requires count { length (operands_view i.now.operands) ≡ 3 }
     ensures { IfOk result (λ took. TriesInvocation turn.now i.entry.now took
         (shared_view shared.old) locals.old pending.old (shared_view shared.new) locals.new pending.new) }
 {
-    let parameters = i.function.prototype().parameters;
+    let asked = i.function.prototype();
+    let parameters = asked.parameters;
     if parameters.len() != 3 {
         return Ok(false);
     }
@@ -148,7 +162,15 @@ fn try_three<'a>(
     let Some(third) = ready_actual(shared, &locals.variables, parameters, &i.operands, 2) else {
         return Ok(false);
     };
-    make_at_once(turn, shared, pending, locals, i, &[first, second, third])
+    make_at_once(
+        turn,
+        shared,
+        pending,
+        locals,
+        i,
+        asked,
+        &[first, second, third],
+    )
 }
 
 /// The same of one with four.
@@ -162,11 +184,13 @@ fn try_four<'a>(
 ) -> Result<bool, AllocError>
     requires grown { IsGrown turn.now.classes.now }
     requires plain { calls_method i.now.function ≡ false }
+    requires bufferless { (a : Access) → i.now.function ≡ GetBuffer a → ⊥ }
     requires count { length (operands_view i.now.operands) ≡ 4 }
     ensures { IfOk result (λ took. TriesInvocation turn.now i.entry.now took
         (shared_view shared.old) locals.old pending.old (shared_view shared.new) locals.new pending.new) }
 {
-    let parameters = i.function.prototype().parameters;
+    let asked = i.function.prototype();
+    let parameters = asked.parameters;
     if parameters.len() != 4 {
         return Ok(false);
     }
@@ -188,6 +212,7 @@ fn try_four<'a>(
         pending,
         locals,
         i,
+        asked,
         &[first, second, third, fourth],
     )
 }
@@ -195,7 +220,8 @@ fn try_four<'a>(
 /// Whether a function neither gives a buffer nor calls a method: only such give something at once.
 #[inline(always)]
 fn may_give(function: JniFunction) -> bool
-    ensures { (result ≡ true) → calls_method function ≡ false }
+    ensures plain { (result ≡ true) → calls_method function ≡ false }
+    ensures bufferless { (result ≡ true) → (a : Access) → function ≡ GetBuffer a → ⊥ }
 {
     !function.calls_method() && !matches!(function, JniFunction::GetBuffer(_))
 }
@@ -218,7 +244,15 @@ fn try_invocation<'a>(
         return Ok(false);
     }
     match i.operands.count() {
-        0 => make_at_once(turn, shared, pending, locals, i, &[]),
+        0 => make_at_once(
+            turn,
+            shared,
+            pending,
+            locals,
+            i,
+            i.function.prototype(),
+            &[],
+        ),
         1 => try_one(turn, shared, pending, locals, i),
         2 => try_two(turn, shared, pending, locals, i),
         3 => try_three(turn, shared, pending, locals, i),

@@ -243,15 +243,15 @@ fn call<'a>(
         locals,
         pending: *pending,
     };
-    let answer = answer_or_trap(scene, caller, i.function, actuals);
+    let asked = i.function.prototype();
+    let answer = answer_or_trap(scene, caller, i.function, asked, actuals);
     if turn.refused {
         return Ok(refuse_object(turn, pending, i, answer));
     }
     let done = carry_out(turn, shared, pending, locals, i.function, actuals, answer)?;
     match done {
         Done::Gives(given) => {
-            let kind = i.function.prototype().result;
-            put_local(&mut locals.frames, kind, given)?;
+            put_local(&mut locals.frames, asked.result, given)?;
             Ok(outcome_for(i.line, i.purpose, given))
         }
         Done::Lends(buffer) => lend(locals, i, actuals, buffer),

@@ -75,7 +75,9 @@ fn is_kept_out(scene: Scene<'_, '_>, thread: usize, actuals: &[Actual<'_>]) -> b
     ensures { result ≡ is_kept_out scene.entry.classes.now thread (shared_view scene.entry.shared.now)
         scene.entry.locals.now.variables scene.entry.locals.now.frames (name_of scene.entry.pending) (map actual_view actuals.now) }
 {
-    match check(scene, ElementType::Int, JniFunction::MonitorEnter, actuals) {
+    let function = JniFunction::MonitorEnter;
+    let asked = function.prototype();
+    match check(scene, ElementType::Int, function, asked, actuals) {
         Some(_) => false,
         None => {
             let monitor = scene.shared.monitors.of(object_given(actuals, 0));

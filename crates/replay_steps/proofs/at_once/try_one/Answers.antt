@@ -12,5 +12,5 @@ returns c =
     let args : List Actual = actual_view c.in-Some.first ∷ [] in
     IfOk-weaker c.make_at_once.result _ _ (λ took makes.
     all_tried c.args.turn.now c.args.i.now (shared_view c.args.shared.now) c.args.locals.now c.args.pending.now (shared_view c.make_at_once.new.shared) c.make_at_once.new.locals c.make_at_once.new.pending
-    c.prototype.result.now.parameters.now args took c.requires.plain (ap (λ (x : Facts). x.prototype.parameters) c.prototype.ensures) c.if-parameters-ne1.false c.requires.count
+    c.prototype-asked.result.now.parameters.now args took c.requires.plain (ap (λ (x : Facts). x.prototype.parameters) c.prototype-asked.ensures) c.if-parameters-ne1.false c.requires.count
     (c.in-Some.ensures, tt) makes) c.make_at_once.ensures

@@ -41,9 +41,9 @@ returns-in_ok-put_local-in-Gives-clause-step c =
     let has = has_answer before i args a c.wanted_element.result c.wanted_element.ensures c.answer_or_trap-answer.ensures.answer c.answer_or_trap-answer.ensures.fits in
     let new = c.carry_out.new in
     let left = subst (λ (d : Done). CarriesOut turn i.function c.args.actuals.now c.answer_or_trap-answer.result c.args.shared.now locals c.args.pending.now d new.shared new.locals new.pending) c.in-Gives.is c.in_ok-done.ensures in
-    call_gives (unit_tree turn.unit.now) turn.classes.now (in_use_view turn.in_use) turn.thread s locals.variables locals.frames (name_of c.args.pending.now) i.line i args a turn.refused c.in-Gives.given c.prototype.result.now.result
+    call_gives (unit_tree turn.unit.now) turn.classes.now (in_use_view turn.in_use) turn.thread s locals.variables locals.frames (name_of c.args.pending.now) i.line i args a turn.refused c.in-Gives.given c.prototype-asked.result.now.result
     (shared_view new.shared) new.locals.variables new.locals.frames c.put_local.new.frames (name_of new.pending) c.outcome_for.result
-    has c.if-turn.false left (ap (λ (x : Facts). x.prototype.result) c.prototype.ensures) c.in_ok-put_local-in-Gives.ensures c.outcome_for.ensures.step
+    has c.if-turn.false left (ap (λ (x : Facts). x.prototype.result) c.prototype-asked.ensures) c.in_ok-put_local-in-Gives.ensures c.outcome_for.ensures.step
 
 pub returns-in-Lends-clause-step : goal.returns-in-Lends-clause-step
 returns-in-Lends-clause-step c =
@@ -94,8 +94,8 @@ returns-in-Halts-clause-step c =
     call_halts (unit_tree turn.unit.now) turn.classes.now (in_use_view turn.in_use) turn.thread s locals.variables locals.frames (name_of c.args.pending.now) i.line i args a turn.refused c.in-Halts.trap
     (shared_view new.shared) new.locals.variables new.locals.frames (name_of new.pending) has c.if-turn.false left
 
-pub answer_or_trap-answer-requires : goal.answer_or_trap-answer-requires
-answer_or_trap-answer-requires c = c.requires.grown
+pub answer_or_trap-answer-requires-clause-grown : goal.answer_or_trap-answer-requires-clause-grown
+answer_or_trap-answer-requires-clause-grown c = c.requires.grown
 
 pub refuse_object-requires : goal.refuse_object-requires
 refuse_object-requires c = c.requires.branches
