@@ -122,3 +122,8 @@ module _ (m : State) (k place : ℕ) (t after : Thread) (shared : SharedInMemory
       ap (λ (x : SharedInMemory). let n : State = record m { shared = x; threads = holding m.threads (slice_set m.threads.items place after) ok } in n) (same_shared shared m.shared same.0)
       ∙ ap (λ (v : Vec Thread). let n : State = record m { threads = v } in n)
       (same_list m.threads (slice_set m.threads.items place after) ok (ap (slice_set m.threads.items place) same.1 ∙ put_back m.threads.items place t at))
+
+-- what reads or writes a number of an object gives something at once
+pub number_is_call : (unit : SourceUnit) (m : State) (k : ℕ) (took : Bool) (new : State) → AttemptsFieldTurn m k took new → AttemptsCallTurn unit m k took new
+number_is_call unit m k true new does = does unit
+number_is_call unit m k false new same = same

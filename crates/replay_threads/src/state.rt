@@ -15,7 +15,9 @@ ghost use Rattle.replay_terms.specs.Views.{in_use_view};
 ghost use Rattle.report.specs.ThreadStatus.{standing_view};
 
 use crate::clearing::may_clear;
-use crate::thread::{Thread, calls_next, is_waiting, take_step, try_call, try_field, try_step};
+use crate::thread::{
+    NextCall, Thread, is_waiting, next_call, take_step, try_call, try_field, try_step,
+};
 use functions::Functions;
 use replay_arguments::{Shared, Turn};
 use replay_steps::{Activation, Attempt};
@@ -254,7 +256,7 @@ fn attempt_field_turn(
 
 /// The same where it is another call that gives something at once; false where there is more to do, and then all is as it was.
 #[inline(always)]
-fn attempt_call_turn<'a>(
+fn attempt_other_turn<'a>(
     alloc: Global,
     functions: &Functions<'a>,
     state: &mut State<'a>,
@@ -266,9 +268,6 @@ fn attempt_call_turn<'a>(
     ensures step { IfOk result (λ took. AttemptsCallTurn (unit_tree functions.now) state.old k took state.new) }
     ensures range { IfOk result (λ _. AreInRange state.new.threads.items) }
 {
-    if !calls_next(&state.threads[place]) {
-        return Ok(false);
-    }
     let turn = Turn {
         alloc,
         unit: functions.items(),
@@ -281,6 +280,27 @@ fn attempt_call_turn<'a>(
         refused: false,
     };
     try_call(&turn, &mut state.shared, &mut state.threads[place])
+}
+
+/// The same where it is a call that gives something at once; false where there is more to do, and then all is as it was.
+#[inline(always)]
+fn attempt_call_turn<'a>(
+    alloc: Global,
+    functions: &Functions<'a>,
+    state: &mut State<'a>,
+    k: u8,
+    place: usize,
+) -> Result<bool, AllocError>
+    requires range { AreInRange state.old.threads.items }
+    requires live { IsLiveAt state.old k place }
+    ensures step { IfOk result (λ took. AttemptsCallTurn (unit_tree functions.now) state.old k took state.new) }
+    ensures range { IfOk result (λ _. AreInRange state.new.threads.items) }
+{
+    match next_call(&state.threads[place]) {
+        NextCall::Number => attempt_field_turn(alloc, state, place),
+        NextCall::Other => attempt_other_turn(alloc, functions, state, k, place),
+        NextCall::Nothing => Ok(false),
+    }
 }
 
 /// The same, whatever the step does, with nothing refused.
@@ -300,9 +320,6 @@ fn take_longer_turn<'a>(
         TakesEntry (unit_tree functions.now) state.old (Step k false) possible state.new) }
     ensures range { IfOk result (λ _. AreInRange state.new.threads.items) }
 {
-    if attempt_field_turn(alloc, state, place)? {
-        return Ok(true);
-    }
     if attempt_call_turn(alloc, functions, state, k, place)? {
         return Ok(true);
     }

@@ -26,6 +26,7 @@ use class_queries::native_class;
 use class_rules::ClassId;
 use classes::table::ClassTable;
 use functions::Functions;
+use jni::JniFunction;
 use replay_arguments::{Locals, Shared, Turn};
 use replay_objects::{Frames, Names, Store};
 use replay_steps::{
@@ -535,12 +536,29 @@ pub(crate) fn try_field<'a>(
     }
 }
 
-/// Whether a thread's next step is that of a call of the JNI.
+/// What a thread calls in its next step.
+#[derive(Clone, Copy)]
+pub(crate) enum NextCall {
+    /// A function that reads or writes a number of an object.
+    Number,
+    /// Another function.
+    Other,
+    /// Nothing.
+    Nothing,
+}
+
+/// What a thread calls in its next step.
 #[inline(always)]
-pub(crate) fn calls_next(thread: &Thread<'_>) -> bool {
-    match &thread.activation {
-        Some(activation) => matches!(&activation.work.task, Some(Task::Invoke(_))),
-        None => false,
+pub(crate) fn next_call(thread: &Thread<'_>) -> NextCall {
+    let Some(activation) = &thread.activation else {
+        return NextCall::Nothing;
+    };
+    let Some(Task::Invoke(i)) = &activation.work.task else {
+        return NextCall::Nothing;
+    };
+    match i.function {
+        JniFunction::GetField(_) | JniFunction::SetField(_) => NextCall::Number,
+        _ => NextCall::Other,
     }
 }
 
