@@ -114,11 +114,14 @@ fn names_written<'a>(i: &Invocation<'a>) -> Option<(Names<'a>, i32)>
     }
 }
 
-/// The object that a reference of this name refers to, if there is one.
+/// The object that a reference of this name refers to, if there is one. Most are local references.
 #[inline(always)]
 fn object_in(shared: &Shared<'_>, variables: &Variables<'_>, name: &Name) -> Option<ObjectId>
     ensures { IfSome result (λ n. (sight_in (shared_view shared.now) variables.now).reference name.now ≡ Live n.number) }
 {
+    if let Some(Content::Reference { object, .. }) = variables.content_of(name) {
+        return *object;
+    }
     match held_reference(&shared.statics, variables, name) {
         StaticReference::Live(object) => Some(object),
         _ => None,
