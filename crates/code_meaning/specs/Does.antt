@@ -2,7 +2,6 @@
 use Rattle.std.specs.Prelude.{◌≡◌, ℕ, ℤ, ◌+◌, ◌-◌, ◌<◌, ◌≤◌, ◌⊎◌, Bool, true, List, [], ◌∷◌, ◌++◌, length, flat_map, slice_get, slice_set, Option, Some, None, FitsSigned}
 use Rattle.std.specs.Bool.{beq}
 use Rattle.std.specs.Option.{option_map}
-use Rattle.std.specs.List.{AllZip}
 use Rattle.std.specs.Int.{w32, cast_signed, cast_unsigned}
 use Rattle.base.specs.Bytes.{Identifier, lookup}
 use Rattle.base.specs.declared.element.ElementType.{ElementType}
@@ -11,7 +10,7 @@ use Rattle.jni.specs.declared.access.Access.{Access}
 use Rattle.jni.specs.declared.function.JniFunction.{JniFunction}
 use Rattle.jni.specs.JniFunction.{prototype, parameters_for}
 use Rattle.jni.specs.declared.kinds.ParameterKind.{ParameterKind}
-use Rattle.jni.specs.declared.kinds.ParameterKind.TheVariants.{FieldID, MethodID, TextBytes, ArrayVariable, BufferVariable, Mode, IsCopy}
+use Rattle.jni.specs.declared.kinds.ParameterKind.TheVariants.{FieldID, MethodID, IntNumber, Passed, TextBytes, ArrayVariable, BufferVariable, Mode, IsCopy}
 use Rattle.jni.specs.declared.kinds.ResultKind.{ResultKind}
 use Rattle.jni.specs.declared.kinds.ResultKind.TheVariants.{NewLocal, GivesInt, GivesField, GivesMethod}
 use Rattle.type_rules.specs.TypeRules.{is_droppable}
@@ -36,6 +35,7 @@ use Rattle.semantics.specs.declared.trap.Trap.TheVariants as traps
 use Rattle.semantics.specs.Variable as variable
 use Rattle.semantics.specs.Variable.{StaticReference, Empty}
 use Rattle.code.specs.Call.{Call}
+use Rattle.code.specs.declared.instr.LocalArray.{LocalArray}
 use Rattle.code.specs.declared.instr.Operand.{Operand as Where}
 use Rattle.code.specs.declared.instr.Operand.TheVariants as operand
 use Rattle.code.specs.declared.instr.NullableVariable.{NullableVariable}
@@ -54,7 +54,7 @@ use Rattle.code_meaning.specs.Coding.{mode_code, element_of}
 use Rattle.code_meaning.specs.Layout.{Known}
 use Rattle.code_meaning.specs.Slots.{word_of, ValueHasType, Visible, Slots, Shows, IsSet, IsNulled, IsReferred, IsFieldSet, IsMethodSet, IsBufferSet, IsMade, IsElementSet, IsHeld, OfField, OfMethod, ShowsStatic, elements_in, with_element, slot_elements, holds_null, with_null}
 use Rattle.code_meaning.specs.Stands.{target_name, number_type, IsBufferResult, IsStaticResult, StandsFor}
-use Rattle.code_meaning.specs.Fits.{IsReferenceKind, TakesNull, TakesLocal, TakesGlobal, TakesInt, IsStaticIn, IsArray, HaveOwnSlots}
+use Rattle.code_meaning.specs.Fits.{IsReferenceKind, TakesNull, TakesLocal, TakesGlobal, IsStaticIn, IsArray, HaveOwnSlots}
 
 -- the instructions that leave a function
 abbrev pub IsReturn : Instr → Type 0
@@ -96,37 +96,43 @@ AtEnd P place (plain.Skip n) = P (place + 1 + n)
 AtEnd P place (plain.Back n) = (n ≤ place) × P (place - n)
 AtEnd P place (plain.Trap t line) = ⊥
 
--- an operand fits its parameter
-abbrev pub OperandFits : ParameterKind → Where → Type 0
-OperandFits p operand.Number = TakesInt p
-OperandFits p (operand.FieldId i) = p ≡ FieldID
-OperandFits p (operand.MethodId i) = p ≡ MethodID
-OperandFits p operand.Text = p ≡ TextBytes
-OperandFits p operand.Null = TakesNull p
-OperandFits p (operand.Local i) = TakesLocal p
-OperandFits p (operand.Static i) = TakesGlobal p
-OperandFits p (operand.Array array) = (t : ElementType) × (p ≡ ArrayVariable t)
-OperandFits p (operand.Buffer i) = (access : Access) × (p ≡ BufferVariable access)
-OperandFits p (operand.Mode mode) = p ≡ Mode
-OperandFits p (operand.IsCopy i) = p ≡ IsCopy
+-- of three lists this holds at each place, and one is as long as the others
+pub data AllTogether {A B C : Type 0} (Holds : A → B → C → Type 0) : List A → List B → List C → Type 0 where
+  none : AllTogether Holds [] [] []
+  more : {x : A} {y : B} {z : C} {xs : List A} {ys : List B} {zs : List C} → Holds x y z → AllTogether Holds xs ys zs
+      → AllTogether Holds (x ∷ xs) (y ∷ ys) (z ∷ zs)
 
--- a parameter that a variable itself is given for
-abbrev pub IsVariableKind : ParameterKind → Type 0
-IsVariableKind (ArrayVariable t) = Unit {0}
-IsVariableKind (BufferVariable access) = Unit {0}
-IsVariableKind IsCopy = Unit {0}
-IsVariableKind p = ⊥
+-- an operand gives a reference: NULL, or that of a local reference or of a static with a known name
+pub data GivesReference (known : Known) (visible : Visible) (p : ParameterKind) : Where → Identifier → StaticReference → Type 0 where
+  null : {x : Identifier} → TakesNull p → GivesReference known visible p operand.Null x Empty
+  local : {i : ℕ} {x : Identifier} → TakesLocal p → lookup x known ≡ Some (record { ty = Ref; index = i })
+      → GivesReference known visible p (operand.Local i) x (visible.sight.reference x)
+  static : {i : ℕ} {x : Identifier} → TakesGlobal p → IsStaticIn known x i
+      → GivesReference known visible p (operand.Static i) x (visible.sight.reference x)
 
--- an argument is what its parameter asks for
-abbrev pub ActualFits : ParameterKind → Actual → Type 0
-ActualFits p (ReferenceActual x r) = IsReferenceKind p
-ActualFits p (FieldActual f) = p ≡ FieldID
-ActualFits p (MethodActual m) = p ≡ MethodID
-ActualFits p (NumberActual z) = TakesInt p
-ActualFits p (TextActual bytes) = p ≡ TextBytes
-ActualFits p (VariableActual x) = IsVariableKind p
-ActualFits p (ModeActual m) = p ≡ Mode
-ActualFits p NothingActual = p ≡ IsCopy
+-- An argument is what its parameter asks for, and an operand gives it: a `jint`, a text, a reference, the field ID or the method ID of a
+-- known name, or NULL for these; a local array, a buffer or a flag with a known name; or a release mode.
+pub data IsOperand (known : Known) (visible : Visible) : ParameterKind → Where → Actual → Type 0 where
+  number : {z : ℤ} → FitsSigned w32 z → IsOperand known visible IntNumber operand.Number (NumberActual z)
+  passed : {z : ℤ} → FitsSigned w32 z → IsOperand known visible Passed operand.Number (NumberActual z)
+  text : {bytes : List ℕ} → IsOperand known visible TextBytes operand.Text (TextActual bytes)
+  reference : {p : ParameterKind} {o : Where} {x : Identifier} {r : StaticReference} → IsReferenceKind p
+      → GivesReference known visible p o x r → IsOperand known visible p o (ReferenceActual x r)
+  no_field : IsOperand known visible FieldID operand.Null (FieldActual None)
+  field : {i : ℕ} {x : Identifier} → lookup x known ≡ Some (record { ty = FieldId; index = i })
+      → IsOperand known visible FieldID (operand.FieldId i) (FieldActual (visible.sight.field x))
+  no_method : IsOperand known visible MethodID operand.Null (MethodActual None)
+  has_method : {i : ℕ} {x : Identifier} → lookup x known ≡ Some (record { ty = MethodId; index = i })
+      → IsOperand known visible MethodID (operand.MethodId i) (MethodActual (visible.sight.method x))
+  array : {t u : ElementType} {slots : LocalArray} {x : Identifier} → IsArray known x u slots.len slots.start
+      → IsOperand known visible (ArrayVariable t) (operand.Array slots) (VariableActual x)
+  buffer : {access : Access} {t : ElementType} {writable : Bool} {i : ℕ} {x : Identifier}
+      → lookup x known ≡ Some (record { ty = Buffer t writable; index = i })
+      → IsOperand known visible (BufferVariable access) (operand.Buffer i) (VariableActual x)
+  mode : {m : ReleaseMode} → IsOperand known visible Mode (operand.Mode (mode_code m)) (ModeActual m)
+  not_told : IsOperand known visible IsCopy operand.Null NothingActual
+  told : {i : ℕ} {x : Identifier} → lookup x known ≡ Some (record { ty = Flag; index = i })
+      → IsOperand known visible IsCopy (operand.IsCopy i) (VariableActual x)
 
 -- the word of an argument that is a number
 abbrev pub word_given : Actual → List ℕ
@@ -233,28 +239,6 @@ module _ (code : Listing) (known : Known) (place : ℕ) (stack : List ℕ) (slot
     pub is : cast_signed w32 word ≡ number
     pub stands : StandsFor code known (place + 1) [] tasks
 
-  -- An argument is NULL for a reference, a field ID, a method ID or `isCopy`; the reference, the field ID or the method ID of a known
-  -- name; a `jint`; a text; a local array, a buffer or a flag with a known name; or a release mode.
-  abbrev pub IsOperand : Where → Actual → Type 0
-  IsOperand operand.Null actual =
-      ((x : Identifier) × (actual ≡ ReferenceActual x Empty)) ⊎ (actual ≡ FieldActual None) ⊎ (actual ≡ MethodActual None) ⊎ (actual ≡ NothingActual)
-  IsOperand (operand.Local i) actual =
-      (x : Identifier) × (actual ≡ ReferenceActual x (visible.sight.reference x)) × (lookup x known ≡ Some (record { ty = Ref; index = i }))
-  IsOperand (operand.Static i) actual =
-      (x : Identifier) × (actual ≡ ReferenceActual x (visible.sight.reference x)) × IsStaticIn known x i
-  IsOperand operand.Number actual = (z : ℤ) × (actual ≡ NumberActual z) × FitsSigned w32 z
-  IsOperand (operand.FieldId i) actual =
-      (x : Identifier) × (actual ≡ FieldActual (visible.sight.field x)) × (lookup x known ≡ Some (record { ty = FieldId; index = i }))
-  IsOperand (operand.MethodId i) actual =
-      (x : Identifier) × (actual ≡ MethodActual (visible.sight.method x)) × (lookup x known ≡ Some (record { ty = MethodId; index = i }))
-  IsOperand operand.Text actual = (bytes : List ℕ) × (actual ≡ TextActual bytes)
-  IsOperand (operand.Array array) actual = (x : Identifier) × (actual ≡ VariableActual x) × (t : ElementType) × IsArray known x t array.len array.start
-  IsOperand (operand.Buffer i) actual =
-      (x : Identifier) × (actual ≡ VariableActual x) × (t : ElementType) × (writable : Bool)
-      × (lookup x known ≡ Some (record { ty = Buffer t writable; index = i }))
-  IsOperand (operand.Mode mode) actual = (m : ReleaseMode) × (actual ≡ ModeActual m) × (mode ≡ mode_code m)
-  IsOperand (operand.IsCopy i) actual = (x : Identifier) × (actual ≡ VariableActual x) × (lookup x known ≡ Some (record { ty = Flag; index = i }))
-
   -- What the call gives goes into a slot: then the slots show the variable with it, and the next place stands for these tasks.
   pub record TakesNumber (s : ExprType) (i : ℕ) (x : Identifier) (tasks : List Task) : Type 0 where
     pub within : i < length slots.numbers
@@ -343,9 +327,7 @@ module _ (code : Listing) (known : Known) (place : ℕ) (stack : List ℕ) (slot
     pub words : stack ≡ words_given args
     pub texts : call.texts ≡ texts_given args
     pub count : length args ≡ length (parameters_for f (length args))
-    pub kinds : AllZip OperandFits (parameters_for f (length args)) call.operands
-    pub fit : AllZip ActualFits (parameters_for f (length args)) args
-    pub given : AllZip IsOperand call.operands args
+    pub given : AllTogether (IsOperand known visible) (parameters_for f (length args)) call.operands args
     pub own_slots : HaveOwnSlots known
     pub goes : TakesResult line call.target (prototype f).result target tasks
 

@@ -25,6 +25,7 @@ use Rattle.type_rules.specs.declared.ty.ExprType.TheVariants as types
 use Rattle.type_rules.specs.TypeGroups.{IsNumberType}
 use Rattle.code.specs.declared.instr.Operand.{Operand as Where}
 use Rattle.code.specs.declared.instr.Operand.TheVariants as operand
+use Rattle.jni.specs.declared.mode.ReleaseMode.{ReleaseMode as ModeInMemory}
 use Rattle.code.specs.declared.instr.Target.{Target as Destination}
 use Rattle.code.specs.declared.instr.Target.TheVariants as destination
 use Rattle.code.specs.declared.instr.Instr.{Instr}
@@ -47,7 +48,8 @@ use Rattle.code_meaning.specs.Slots.{word_of, Visible, Slots, Shows, SeesBuffers
 use Rattle.code_meaning.specs.Fits as rule
 use Rattle.code_meaning.specs.Fits.{IsReferenceKind, TakesNull, TakesLocal, TakesGlobal, TakesInt, IsVariable, TermHasType, IsStaticIn, IsStaticType}
 use Rattle.code_meaning.specs.Stands.{held, HasAt, operand_text, operands_texts, ResultStands, ResultGoes, StaticStands, TestStands, number_type, named_operand, OperandStands, TargetStands, InvokeStands, TasksStand, task_returns, operands_rest, operand_held, operands_held}
-use Rattle.code_meaning.specs.Does.{IsOperand, TakesNumber, TakesReference, TakesField, TakesMethod, TakesStatic, TakesBuffer, TakesTest, GoesInto, TakesResult, DoesEffect, word_given, words_given, text_given, texts_given, OperandFits, IsVariableKind, ActualFits}
+use Rattle.code_meaning.specs.Does as gives
+use Rattle.code_meaning.specs.Does.{AllTogether, IsOperand, TakesNumber, TakesReference, TakesField, TakesMethod, TakesStatic, TakesBuffer, TakesTest, GoesInto, TakesResult, DoesEffect, word_given, words_given, text_given, texts_given}
 use Rattle.code_meaning.proofs.SlotLaws.{fewer_shown, number_below, shows_set, shows_referred, shows_field_set, shows_method_set, shows_buffer_set, static_changes}
 use Rattle.lower.proofs.TermSteps.{int_in_range, shows_number, value_type}
 use Rattle.lower.proofs.CallOperands.{step_of, are_done, by_step, first_term, open_term, with_open, rest_after, words_under, passed_open, passed_done, open_is_open, open_is_begun, count_same, rest_open, rest_with, texts_with, begun_with, held_with, held_open, ready_rest}
@@ -418,62 +420,59 @@ module _ (code : Listing) (known : Known) (place : ℕ) (stack : List ℕ) (slot
   number_is p (Done v) ready h = elim (value_type h) [ ]
   number_is p t ready h = absurd (cc)
 
-  -- an argument that is ready is found, with its word and its text, and is what its parameter asks for
+  -- an argument that is ready is what its parameter asks for, and is found, with its word and its text
   record IsFound (o : Where) (p : ParameterKind) (given : Operand) : Type 0 where
-    found : IsOperand code known place stack slots visible o (look_up visible.sight (p, given))
-    fits : ActualFits p (look_up visible.sight (p, given))
+    found : IsOperand known visible p o (look_up visible.sight (p, given))
     word : operand_held given ≡ word_given (look_up visible.sight (p, given))
     text : operand_text given ≡ text_given (look_up visible.sight (p, given))
 
-  found_as : (o : Where) (p : ParameterKind) (given g : Operand) (a : Actual) → given ≡ g → look_up visible.sight (p, g) ≡ a → IsOperand code known place stack slots visible o a → ActualFits p a → operand_held g ≡ word_given a → operand_text g ≡ text_given a → IsFound o p given
-  found_as o p given g a is e operand fits word text =
+  found_as : {o : Where} {p : ParameterKind} (given g : Operand) {a : Actual} → given ≡ g → look_up visible.sight (p, g) ≡ a → IsOperand known visible p o a → operand_held g ≡ word_given a → operand_text g ≡ text_given a → IsFound o p given
+  found_as {o} {p} given g {a} is e operand word text =
       let same : look_up visible.sight (p, given) ≡ a = ap (λ (q : Operand). look_up visible.sight (p, q)) is ∙ e in
       record {
-        found = subst (IsOperand code known place stack slots visible o) (sym same) operand;
-        fits = subst (ActualFits p) (sym same) fits;
+        found = subst (IsOperand known visible p o) (sym same) operand;
         word = ap operand_held is ∙ word ∙ ap word_given (sym same);
         text = ap operand_text is ∙ text ∙ ap text_given (sym same);
       }
 
+  -- the same where the parameter is of this kind
+  found_of : {o : Where} {p q : ParameterKind} (given g : Operand) {a : Actual} → p ≡ q → given ≡ g → look_up visible.sight (q, g) ≡ a → IsOperand known visible q o a → operand_held g ≡ word_given a → operand_text g ≡ text_given a → IsFound o p given
+  found_of {o} given g kind is e operand word text = subst (λ (k : ParameterKind). IsFound o k given) (sym kind) (found_as given g is e operand word text)
+
   null_found : (p : ParameterKind) (given : Operand) → given ≡ Given (tree.Value (tree.Named constants.Null)) → TakesNull p → IsFound operand.Null p given
-  null_found FieldID given is kind = found_as operand.Null FieldID given (Given (tree.Value (tree.Named constants.Null))) (FieldActual None) is refl (inr (inl refl)) refl refl refl
-  null_found MethodID given is kind = found_as operand.Null MethodID given (Given (tree.Value (tree.Named constants.Null))) (MethodActual None) is refl (inr (inr (inl refl))) refl refl refl
-  null_found IsCopy given is kind = found_as operand.Null IsCopy given (Given (tree.Value (tree.Named constants.Null))) NothingActual is refl (inr (inr (inr refl))) refl refl refl
+  null_found FieldID given is kind = found_as given (Given (tree.Value (tree.Named constants.Null))) is refl gives.no_field refl refl
+  null_found MethodID given is kind = found_as given (Given (tree.Value (tree.Named constants.Null))) is refl gives.no_method refl refl
+  null_found IsCopy given is kind = found_as given (Given (tree.Value (tree.Named constants.Null))) is refl gives.not_told refl refl
   null_found LocalVariable given is kind = absurd kind
   null_found StaticVariable given is kind = absurd kind
   null_found WeakVariable given is kind = absurd kind
-  null_found p given is kind = found_as operand.Null p given (Given (tree.Value (tree.Named constants.Null))) (ReferenceActual [] Empty) is (looked_up p (tree.Named constants.Null) kind) (inl ([], refl)) kind refl refl
+  null_found p given is kind = found_as given (Given (tree.Value (tree.Named constants.Null))) is (looked_up p (tree.Named constants.Null) kind) (gives.reference {x = []} kind (gives.null kind)) refl refl
 
-  -- the argument of a parameter of a known kind
-  looked_up_at : (p q : ParameterKind) (e : Expr) → p ≡ q → look_up_expression visible.sight p e ≡ look_up_expression visible.sight q e
-  looked_up_at p q e same = ap (λ (k : ParameterKind). look_up_expression visible.sight k e) same
+  number_found : {p : ParameterKind} {z : ℤ} → TakesInt p → FitsSigned w32 z → IsOperand known visible p operand.Number (NumberActual z)
+  number_found {z = z} (inl e) fits = subst (λ (p : ParameterKind). IsOperand known visible p operand.Number (NumberActual z)) (sym e) (gives.number fits)
+  number_found {z = z} (inr e) fits = subst (λ (p : ParameterKind). IsOperand known visible p operand.Number (NumberActual z)) (sym e) (gives.passed fits)
 
   is_found : (o : Where) (p : ParameterKind) (given : Operand) → step_of known given ≡ None → OperandStands known o (p, given) → IsFound o p given
   is_found operand.Null p given ready h = null_found p given h.is h.kind
-  is_found (operand.Local i) p given ready h =
-      found_as (operand.Local i) p given (named_operand p h.0) (ReferenceActual h.0 (visible.sight.reference h.0)) h.2 (looked_up_named p h.0 (local_kind p h.1)) (h.0, refl, h.3) (local_kind p h.1) (named_held p h.0) (named_text p h.0)
-  is_found (operand.Static i) p given ready h =
-      found_as (operand.Static i) p given (named_operand p h.0) (ReferenceActual h.0 (visible.sight.reference h.0)) h.2 (looked_up_named p h.0 (global_kind p h.1)) (h.0, refl, h.3) (global_kind p h.1) (named_held p h.0) (named_text p h.0)
-  is_found (operand.FieldId i) p given ready h =
-      found_as (operand.FieldId i) p given (Given (tree.Value (tree.Variable h.0))) (FieldActual (visible.sight.field h.0)) h.2 (looked_up_at p FieldID (tree.Variable h.0) h.1) (h.0, refl, h.3) h.1 refl refl
-  is_found (operand.MethodId i) p given ready h =
-      found_as (operand.MethodId i) p given (Given (tree.Value (tree.Variable h.0))) (MethodActual (visible.sight.method h.0)) h.2 (looked_up_at p MethodID (tree.Variable h.0) h.1) (h.0, refl, h.3) h.1 refl refl
-  is_found operand.Text p given ready h = found_as operand.Text p given (Given (tree.Text h.bytes)) (TextActual h.bytes) h.is refl (h.bytes, refl) h.kind refl refl
-  is_found (operand.Array array) p given ready h =
-      found_as (operand.Array array) p given (Given (tree.Value (tree.Variable h.name))) (VariableActual h.name) h.is (looked_up_at p (ArrayVariable h.type) (tree.Variable h.name) h.kind) (h.name, refl, h.type, h.there) (subst IsVariableKind (sym h.kind) tt) refl refl
-  is_found (operand.Buffer i) p given ready h =
-      found_as (operand.Buffer i) p given (Given (tree.Value (tree.Variable h.name))) (VariableActual h.name) h.is (looked_up_at p (BufferVariable h.access) (tree.Variable h.name) h.kind) (h.name, refl, h.type, h.writable, h.there) (subst IsVariableKind (sym h.kind) tt) refl refl
+  is_found (operand.Local i) p given ready (x, kind, is, there) =
+      found_as given (named_operand p x) is (looked_up_named p x (local_kind p kind)) (gives.reference (local_kind p kind) (gives.local kind there)) (named_held p x) (named_text p x)
+  is_found (operand.Static i) p given ready (x, kind, is, there) =
+      found_as given (named_operand p x) is (looked_up_named p x (global_kind p kind)) (gives.reference (global_kind p kind) (gives.static kind there)) (named_held p x) (named_text p x)
+  is_found (operand.FieldId i) p given ready (x, kind, is, there) = found_of given (Given (tree.Value (tree.Variable x))) kind is refl (gives.field there) refl refl
+  is_found (operand.MethodId i) p given ready (x, kind, is, there) = found_of given (Given (tree.Value (tree.Variable x))) kind is refl (gives.has_method there) refl refl
+  is_found operand.Text p given ready h = found_of given (Given (tree.Text h.bytes)) h.kind h.is refl gives.text refl refl
+  is_found (operand.Array array) p given ready h = found_of given (Given (tree.Value (tree.Variable h.name))) h.kind h.is refl (gives.array h.there) refl refl
+  is_found (operand.Buffer i) p given ready h = found_of given (Given (tree.Value (tree.Variable h.name))) h.kind h.is refl (gives.buffer h.there) refl refl
   is_found (operand.Mode mode) p given ready h =
-      found_as (operand.Mode mode) p given (Given (tree.Value h.written)) (ModeActual (mode_of h.written)) h.is (looked_up_at p Mode h.written h.kind) (mode_of h.written, refl, h.same) h.kind refl refl
-  is_found (operand.IsCopy i) p given ready h =
-      found_as (operand.IsCopy i) p given (Given (tree.AddressOf h.name)) (VariableActual h.name) h.is refl (h.name, refl, h.there) (subst IsVariableKind (sym h.kind) tt) refl refl
+      subst (λ (m : ModeInMemory). IsFound (operand.Mode m) p given) (sym h.same) (found_of given (Given (tree.Value h.written)) h.kind h.is refl gives.mode refl refl)
+  is_found (operand.IsCopy i) p given ready h = found_of given (Given (tree.AddressOf h.name)) h.kind h.is refl (gives.told h.there) refl refl
   is_found operand.Number p given ready (inr h) =
       let number : names_number known h.name ≡ true = named_alike known h.name h.name (record { ty = Jint; index = h.there.0 }) refl h.there.1 in
       let none = passed_done (names_number known h.name) h.name (ap (step_of known) (sym h.is) ∙ ready) in
       absurd (let c : true ≡ false = sym number ∙ none in cc)
   is_found operand.Number p given ready (inl h) =
       let number = number_is p h.term (ap (step_of known) (sym h.is) ∙ ready) h.ty in
-      found_as operand.Number p given (NumberOperand h.term) (NumberActual number.0) h.is number.1 (number.0, refl, number.2) h.kind number.3 refl
+      found_as given (NumberOperand h.term) h.is number.1 (number_found h.kind number.2) number.3 refl
 
   none_is : (s : Option Term) → is_none s ≡ true → s ≡ None
   none_is None h = refl
@@ -482,25 +481,15 @@ module _ (code : Listing) (known : Known) (place : ℕ) (stack : List ℕ) (slot
   both_ready : (o : Operand) (operands : List Operand) → are_done known (o ∷ operands) ≡ true → (step_of known o ≡ None) × (are_done known operands ≡ true)
   both_ready o operands h = (none_is (step_of known o) (first_so (is_none (step_of known o)) (are_done known operands) h), second_so (is_none (step_of known o)) (are_done known operands) h)
 
-  are_operands : (found : List Where) (parameters : List ParameterKind) (operands : List Operand) → are_done known operands ≡ true → AllZip (OperandStands known) found (zip parameters operands)
-      → AllZip (IsOperand code known place stack slots visible) found (map (look_up visible.sight) (zip parameters operands))
-  are_operands [] [] operands ready h = h
-  are_operands (w ∷ found) [] operands ready h = absurd h
-  are_operands [] (p ∷ parameters) [] ready h = h
-  are_operands (w ∷ found) (p ∷ parameters) [] ready h = absurd h
-  are_operands [] (p ∷ parameters) (o ∷ operands) ready h = absurd h
-  are_operands (w ∷ found) (p ∷ parameters) (o ∷ operands) ready h =
+  are_operands : (found : List Where) (parameters : List ParameterKind) (operands : List Operand) → length operands ≡ length parameters → are_done known operands ≡ true → AllZip (OperandStands known) found (zip parameters operands)
+      → AllTogether (IsOperand known visible) parameters found (map (look_up visible.sight) (zip parameters operands))
+  are_operands [] [] operands count ready h = gives.none
+  are_operands (w ∷ found) [] operands count ready h = absurd h
+  are_operands found (p ∷ parameters) [] count ready h = absurd (omega (arith, count))
+  are_operands [] (p ∷ parameters) (o ∷ operands) count ready h = absurd h
+  are_operands (w ∷ found) (p ∷ parameters) (o ∷ operands) count ready h =
       let both = both_ready o operands ready in
-      ((is_found w p o both.0 h.0).found, are_operands found parameters operands both.1 h.1)
-
-  are_fit : (found : List Where) (parameters : List ParameterKind) (operands : List Operand) → length operands ≡ length parameters → are_done known operands ≡ true → AllZip (OperandStands known) found (zip parameters operands)
-      → AllZip ActualFits parameters (map (look_up visible.sight) (zip parameters operands))
-  are_fit found [] operands count ready h = tt
-  are_fit found (p ∷ parameters) [] count ready h = absurd (omega (arith, count))
-  are_fit [] (p ∷ parameters) (o ∷ operands) count ready h = absurd h
-  are_fit (w ∷ found) (p ∷ parameters) (o ∷ operands) count ready h =
-      let both = both_ready o operands ready in
-      ((is_found w p o both.0 h.0).fits, are_fit found parameters operands (omega (arith, count)) both.1 h.1)
+      gives.more (is_found w p o both.0 h.0).found (are_operands found parameters operands (omega (arith, count)) both.1 h.1)
 
   are_words : (found : List Where) (parameters : List ParameterKind) (operands : List Operand) → length operands ≡ length parameters → are_done known operands ≡ true → AllZip (OperandStands known) found (zip parameters operands)
       → operands_held operands ≡ words_given (map (look_up visible.sight) (zip parameters operands))
@@ -523,27 +512,6 @@ module _ (code : Listing) (known : Known) (place : ℕ) (stack : List ℕ) (slot
       let both = both_ready o operands ready in
       ap (λ (l : List (List ℕ)). operand_text o ++ l) (are_texts found parameters operands (omega (arith, count)) both.1 h.1)
       ∙ ap (λ (l : List (List ℕ)). l ++ texts_given (map (look_up visible.sight) (zip parameters operands))) (is_found w p o both.0 h.0).text
-
-  operand_fits : (o : Where) (p : ParameterKind) (given : Operand) → OperandStands known o (p, given) → OperandFits p o
-  operand_fits operand.Null p given h = h.kind
-  operand_fits (operand.Local i) p given h = h.1
-  operand_fits (operand.Static i) p given h = h.1
-  operand_fits (operand.FieldId i) p given h = h.1
-  operand_fits (operand.MethodId i) p given h = h.1
-  operand_fits operand.Text p given h = h.kind
-  operand_fits operand.Number p given (inl h) = h.kind
-  operand_fits operand.Number p given (inr h) = inr h.kind
-  operand_fits (operand.Array array) p given h = (h.type, h.kind)
-  operand_fits (operand.Buffer i) p given h = (h.access, h.kind)
-  operand_fits (operand.Mode mode) p given h = h.kind
-  operand_fits (operand.IsCopy i) p given h = h.kind
-
-  operands_fit : (found : List Where) (parameters : List ParameterKind) (operands : List Operand) → length operands ≡ length parameters → AllZip (OperandStands known) found (zip parameters operands) → AllZip OperandFits parameters found
-  operands_fit [] [] operands count h = tt
-  operands_fit (w ∷ found) [] operands count h = absurd h
-  operands_fit found (p ∷ parameters) [] count h = absurd (omega (arith, count))
-  operands_fit [] (p ∷ parameters) (o ∷ operands) count h = absurd h
-  operands_fit (w ∷ found) (p ∷ parameters) (o ∷ operands) count h = (operand_fits w p o h.0, operands_fit found parameters operands (omega (arith, count)) h.1)
 
   -- there is an argument for each parameter
   actual_count : (parameters : List ParameterKind) (operands : List Operand) → length operands ≡ length parameters → length (map (look_up visible.sight) (zip parameters operands)) ≡ length parameters
@@ -576,10 +544,8 @@ module _ (code : Listing) (known : Known) (place : ℕ) (stack : List ℕ) (slot
           words = c.held ∙ are_words c.call.operands parameters operands c.count ready c.operands_stand;
           texts = c.texts ∙ are_texts c.call.operands parameters operands c.count ready c.operands_stand;
           count = subst (λ n. n ≡ length (parameters_for f n)) as_many c.count;
-          fit = subst (λ n. AllZip ActualFits (parameters_for f n) (actuals visible.sight f operands)) as_many (are_fit c.call.operands parameters operands c.count ready c.operands_stand);
-          kinds = subst (λ n. AllZip OperandFits (parameters_for f n) c.call.operands) as_many (operands_fit c.call.operands parameters operands c.count c.operands_stand);
           own_slots = c.own_slots;
-          given = are_operands c.call.operands parameters operands ready c.operands_stand;
+          given = subst (λ n. AllTogether (IsOperand known visible) (parameters_for f n) c.call.operands (actuals visible.sight f operands)) as_many (are_operands c.call.operands parameters operands c.count ready c.operands_stand);
           goes = takes_result line f operands c.call.target (prototype f).result target rest (subst (λ p. TargetStands code known (λ q names. TasksStand code names q [] rest) p line c.call.target (prototype f).result target) next c.goes) returns;
         }
 

@@ -1,6 +1,6 @@
 -- What calls of functions of buffers do.
 use Rattle.std.proofs.Common.{◌≡◌, ℕ, true, false, List, [], ◌∷◌, length, Option, Some, refl, sym, ap, ◌∙◌, subst}
-use Rattle.std.specs.Prelude.{unwrap_or}
+use Rattle.std.specs.Prelude.{slice_get, unwrap_or}
 use Rattle.std.specs.List.{AllZip}
 use Rattle.code.specs.declared.instr.Operand.TheVariants as operand
 use Rattle.heap.specs.Heap.{values_at}
@@ -19,7 +19,6 @@ use Rattle.semantics.specs.Arguments.{mode_given, variable_given, object_given}
 use Rattle.semantics.specs.AnswerTable as table
 use Rattle.semantics.specs.AnswerTable.{call_answer}
 use Rattle.semantics.specs.Heap.{values_of}
-use Rattle.code_meaning.specs.Does.{OperandFits}
 use Rattle.base.specs.declared.element.ElementType.{ElementType}
 use Rattle.base.specs.Bytes.{lookup}
 use Rattle.semantics.specs.Variable.{Elements, NoBuffer, Copy, View}
@@ -100,7 +99,7 @@ module _ (both : TwoCalls) where
 
   -- what is released
   buffer_given : (access : Access) (more : List ParameterKind) → parameters_for (ReleaseBuffer access) (length args) ≡ owner access ∷ BufferVariable access ∷ more → Asked both (ReleaseBuffer access) → GivenBuffer store.heap (brought both).buffers s.variables call.operands args
-  buffer_given access more are h = given_buffer store.heap (brought both).buffers s.variables access (owner access) more call.operands args (subst (λ (l : List ParameterKind). AllZip OperandFits l call.operands) are h.kinds) h.buffers
+  buffer_given access more are h = given_buffer (brought both).buffers s.variables h.given h.buffers (ap (λ (l : List ParameterKind). slice_get l 1) are)
 
   pub answers_release : (access : Access) → Asked both (ReleaseBuffer access) → Passes both → (answer : Answer) → Works both (ReleaseBuffer access) answer → Does both (ReleaseBuffer access) answer
   unfolding call_answer
@@ -108,7 +107,7 @@ module _ (both : TwoCalls) where
       let f = ReleaseBuffer (ElementsCopy T) in
       let g = object_given_at both f [] (NumberArray T) (BufferVariable (ElementsCopy T) ∷ Mode ∷ []) tt refl refl h free in
       let b = buffer_given (ElementsCopy T) (Mode ∷ []) refl h in
-      let mode = given_mode (unit both) w.classes store.heap (references both) (fields both) T (NumberArray T) (BufferVariable (ElementsCopy T)) call.operands args h.kinds h.given in
+      let mode = given_mode T h.given refl in
       subst (λ (x : Answer). Does both f x)
       (sym (is ∙ (λ i. releases activation.slots.buffers.items (g.at i) (b.at i) (mode i)))) (released f h g b (mode_given args 2) (λ back. copy_there T h b))
   answers_release ArrayView h free answer is =

@@ -1,6 +1,6 @@
 -- What the operands of a function of buffers give: a buffer, and the mode of its release.
 use Rattle.std.proofs.Common.{inl, inr, ◌≡◌, ℕ, ℤ, pos, negsuc, ◌<◌, List, [], ◌∷◌, map, Option, Some, refl, sym, ap, ◌∙◌, subst, arith}
-use Rattle.std.specs.Prelude.{FitsSigned, IsTrue}
+use Rattle.std.specs.Prelude.{FitsSigned, IsTrue, slice_get}
 use Rattle.std.specs.Int.{w32, cast_signed, cast_unsigned}
 use Rattle.std.specs.List.{AllByRecursion, AllZip}
 use Rattle.std.proofs.Math.Facts.{to_z-of_z}
@@ -14,7 +14,7 @@ use Rattle.code.specs.declared.instr.Operand.{Operand}
 use Rattle.code.specs.declared.instr.Operand.TheVariants as operand
 use Rattle.jni.specs.declared.mode.ReleaseMode.{ReleaseMode as ModeOfCode}
 use Rattle.code_meaning.specs.Coding.{mode_code}
-use Rattle.code_meaning.specs.Does.{OperandFits}
+use Rattle.code_meaning.specs.Does.{AllTogether}
 use Rattle.heap.specs.Heap.{Space}
 use Rattle.jni.specs.declared.access.Access.{Access}
 use Rattle.jni.specs.declared.access.Access.TheVariants.{ElementsCopy}
@@ -27,9 +27,11 @@ use Rattle.world_values.specs.WorldRules.{is_in_range}
 use Rattle.machine_answers.specs.Answers.{AreWordsOf}
 use Rattle.machine_scenes.specs.declared.handle.Handle.{Handle}
 use Rattle.machine_scenes.specs.Buffers.{HeldBuffers, HoldsBuffer}
-use Rattle.machine_scenes.specs.Given.{HasBuffer, IsGiven, operand_of}
+use Rattle.machine_scenes.specs.Given as given
+use Rattle.machine_scenes.specs.Given.{HasBuffer, IsGiven, operand_of, operand_or_null}
 use Rattle.machine_scenes.specs.Statics.{References}
 use Rattle.machine_answers.specs.WorkedOut.{mode_of}
+use Rattle.machine_answers.proofs.ArgumentPlaces.{at_kind, with_each}
 
 -- ---- a buffer
 
@@ -39,60 +41,25 @@ pub record GivenBuffer (space : Space) (buffers : HeldBuffers) (vs : Variables) 
   pub at : operand_of operands 1 ≡ operand.Buffer slot
   pub holds : HoldsBuffer space buffers slot (lookup (variable_given args 1) vs)
 
-buffer_operand : (access : Access) (o : Operand) → OperandFits (BufferVariable access) o → (i : ℕ) × (o ≡ operand.Buffer i)
-buffer_operand access (operand.Buffer i) fits = (i, refl)
-buffer_operand access operand.Number (inl e) = absurd (cc)
-buffer_operand access operand.Number (inr e) = absurd (cc)
-buffer_operand access (operand.MethodId i) fits = absurd (cc)
-buffer_operand access (operand.FieldId i) fits = absurd (cc)
-buffer_operand access operand.Text fits = absurd (cc)
-buffer_operand access operand.Null fits = absurd fits
-buffer_operand access (operand.Local i) fits = absurd fits
-buffer_operand access (operand.Static i) fits = absurd fits
-buffer_operand access (operand.Array array) fits = absurd (let e = fits.1 in cc)
-buffer_operand access (operand.Mode mode) fits = absurd (cc)
-buffer_operand access (operand.IsCopy i) fits = absurd (cc)
+module _ {unit : SourceUnit} {classes : Classes} {space : Space} {references : References} {fields : List (Option Handle)} where
+  of_buffer : (buffers : HeldBuffers) (vs : Variables) {operands : List Operand} {args : List Actual} {access : Access} {o : Operand} {a : Actual} → slice_get operands 1 ≡ Some o → slice_get args 1 ≡ Some a → IsGiven unit classes space references fields (BufferVariable access) o a → HasBuffer space buffers vs o a → GivenBuffer space buffers vs operands args
+  of_buffer buffers vs {args = args} at is (given.buffer {i = i}) (x, named, holds) =
+      let name : variable_given args 1 ≡ x = ap variable_in_actual is ∙ ap (λ (y : Actual). variable_in_actual (Some y)) named in
+      record { slot = i; at = ap operand_or_null at; holds = subst (λ (y : Identifier). HoldsBuffer space buffers i (lookup y vs)) (sym name) holds }
+  of_buffer buffers vs at is (given.reference kind there) holds = absurd kind
 
-module _ (space : Space) (buffers : HeldBuffers) (vs : Variables) (access : Access) (p : ParameterKind) (more : List ParameterKind) where
-  pub given_buffer : (operands : List Operand) (args : List Actual) → AllZip OperandFits (p ∷ BufferVariable access ∷ more) operands → AllZip (HasBuffer space buffers vs) operands args → GivenBuffer space buffers vs operands args
-  given_buffer [] args kinds has = absurd kinds
-  given_buffer (o ∷ []) args kinds has = absurd kinds.1
-  given_buffer (o ∷ x ∷ operands) [] kinds has = absurd has
-  given_buffer (o ∷ x ∷ operands) (a ∷ []) kinds has = absurd has.1
-  given_buffer (o ∷ x ∷ operands) (a ∷ b ∷ args) kinds has =
-      let slot = buffer_operand access x kinds.1.0 in
-      let held = subst (λ (y : Operand). HasBuffer space buffers vs y b) slot.1 has.1.0 in
-      let is : variable_in_actual (Some b) ≡ held.0 = ap (λ (y : Actual). variable_in_actual (Some y)) held.1 in
-      record { slot = slot.0; at = slot.1; holds = subst (λ (y : Identifier). HoldsBuffer space buffers slot.0 (lookup y vs)) (sym is) held.2 }
+  pub given_buffer : (buffers : HeldBuffers) (vs : Variables) {access : Access} {ps : List ParameterKind} {operands : List Operand} {args : List Actual} → AllTogether (IsGiven unit classes space references fields) ps operands args → AllZip (HasBuffer space buffers vs) operands args
+      → slice_get ps 1 ≡ Some (BufferVariable access) → GivenBuffer space buffers vs operands args
+  given_buffer buffers vs all has is = let second = at_kind 1 (with_each all has) is in of_buffer buffers vs second.at second.is second.given.0 second.given.1
 
--- ---- a mode
+  -- ---- a mode
 
-mode_operand : (o : Operand) → OperandFits Mode o → (m : ModeOfCode) × (o ≡ operand.Mode m)
-mode_operand (operand.Mode mode) fits = (mode, refl)
-mode_operand (operand.Buffer i) fits = absurd (let e = fits.1 in cc)
-mode_operand operand.Number (inl e) = absurd (cc)
-mode_operand operand.Number (inr e) = absurd (cc)
-mode_operand (operand.MethodId i) fits = absurd (cc)
-mode_operand (operand.FieldId i) fits = absurd (cc)
-mode_operand operand.Text fits = absurd (cc)
-mode_operand operand.Null fits = absurd fits
-mode_operand (operand.Local i) fits = absurd fits
-mode_operand (operand.Static i) fits = absurd fits
-mode_operand (operand.Array array) fits = absurd (let e = fits.1 in cc)
-mode_operand (operand.IsCopy i) fits = absurd (cc)
+  of_mode : (t : ElementType) (operands : List Operand) (args : List Actual) {o : Operand} {a : Actual} → slice_get operands 2 ≡ Some o → slice_get args 2 ≡ Some a → IsGiven unit classes space references fields Mode o a → mode_of (ElementsCopy t) (operand_of operands 2) ≡ mode_code (mode_given args 2)
+  of_mode t operands args at is given.mode = ap (λ (o : Option Operand). mode_of (ElementsCopy t) (operand_or_null o)) at ∙ sym (ap (λ (a : Option Actual). mode_code (mode_in_actual a)) is)
+  of_mode t operands args at is (given.reference kind there) = absurd kind
 
-module _ (unit : SourceUnit) (classes : Classes) (space : Space) (references : References) (fields : List (Option Handle)) (t : ElementType) (p q : ParameterKind) where
-  pub given_mode : (operands : List Operand) (args : List Actual) → AllZip OperandFits (p ∷ q ∷ Mode ∷ []) operands → AllZip (IsGiven unit classes space references fields) operands args → mode_of (ElementsCopy t) (operand_of operands 2) ≡ mode_code (mode_given args 2)
-  given_mode [] args kinds given = absurd kinds
-  given_mode (o ∷ []) args kinds given = absurd kinds.1
-  given_mode (o ∷ x ∷ []) args kinds given = absurd kinds.1.1
-  given_mode (o ∷ x ∷ m ∷ more) [] kinds given = absurd given
-  given_mode (o ∷ x ∷ m ∷ more) (a ∷ []) kinds given = absurd given.1
-  given_mode (o ∷ x ∷ m ∷ more) (a ∷ b ∷ []) kinds given = absurd given.1.1
-  given_mode (o ∷ x ∷ m ∷ more) (a ∷ b ∷ c ∷ args) kinds given =
-      let mode = mode_operand m kinds.1.1.0 in
-      let is = subst (λ (y : Operand). IsGiven unit classes space references fields y c) mode.1 given.1.1.0 in
-      ap (mode_of (ElementsCopy t)) mode.1 ∙ is.2 ∙ ap (λ (y : Actual). mode_code (mode_in_actual (Some y))) (sym is.1)
+  pub given_mode : (t : ElementType) {ps : List ParameterKind} {operands : List Operand} {args : List Actual} → AllTogether (IsGiven unit classes space references fields) ps operands args → slice_get ps 2 ≡ Some Mode → mode_of (ElementsCopy t) (operand_of operands 2) ≡ mode_code (mode_given args 2)
+  given_mode t {operands = operands} {args = args} all is = let third = at_kind 2 all is in of_mode t operands args third.at third.is third.given
 
 -- ---- numbers
 

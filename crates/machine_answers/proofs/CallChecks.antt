@@ -12,12 +12,16 @@ use Rattle.semantics.specs.Arguments.{Actual, ReferenceActual, FieldActual, Meth
 use Rattle.semantics.specs.Heap.{Heap, class_of}
 use Rattle.semantics.specs.Object.{Reference}
 use Rattle.semantics.specs.Variable.{StaticReference, Empty, Live, Deleted, as_static}
+use Rattle.code_meaning.specs.Does as list
+use Rattle.code_meaning.specs.Does.{AllTogether}
+use Rattle.jni.specs.declared.kinds.ParameterKind.{ParameterKind}
 use Rattle.machine_scenes.specs.declared.handle.Handle.{Handle}
 use Rattle.machine_scenes.specs.FieldIds.{MethodAgrees}
 use Rattle.machine_scenes.specs.StoreAgrees.{HeldAgrees}
 use Rattle.machine_scenes.specs.Statics.{References, held_address, held_argument, static_at}
 use Rattle.machine_scenes.specs.declared.references.Held.{Held}
 use Rattle.machine_scenes.specs.declared.references.Held.TheVariants as held
+use Rattle.machine_scenes.specs.Given as given
 use Rattle.machine_scenes.specs.Given.{IsGiven, ReferenceIsGiven, class_there, method_at, operand_at, operand_of}
 use Rattle.machine_scenes.specs.HeapAgrees.{ReferenceAgrees, BlocksAgree}
 use Rattle.machine_scenes.proofs.ObjectsAtAddresses.{is_object}
@@ -42,67 +46,36 @@ module _ (unit : SourceUnit) (classes : Classes) (space : Space) (references : R
   reference_itself x None = refl
   reference_itself x (Some n) = refl
 
-  one_reference : (o : Operand) (a : Actual) → ReferenceIsGiven space references o a → ReferenceAgrees space (operand_at references o) (reference_in_actual (Some a))
-  one_reference o a h = subst (λ q. ReferenceAgrees space (operand_at references o) q) (sym (ap (λ b. reference_in_actual (Some b)) h.is ∙ reference_itself h.name h.reference)) h.agrees
-
   static_reference : (x : Identifier) (h : Held) (r : StaticReference) → HeldAgrees space (held_argument h) r → ReferenceAgrees space (held_address h) (reference_in_actual (Some (ReferenceActual x r)))
   static_reference x = by_argument space (λ h r. ReferenceAgrees space (held_address h) (reference_in_actual (Some (ReferenceActual x r)))) tt (λ a n e. e) (λ a n e. e) tt tt
 
-  no_reference : (a b : Actual) → a ≡ b → ReferenceAgrees space None (reference_in_actual (Some b)) → ReferenceAgrees space None (reference_in_actual (Some a))
-  no_reference a b is h = subst (λ (c : Actual). ReferenceAgrees space None (reference_in_actual (Some c))) (sym is) h
+  reference_named : {p : ParameterKind} {o : Operand} {r : StaticReference} (x : Identifier) → ReferenceIsGiven space references p o r → ReferenceAgrees space (operand_at references o) (reference_in_actual (Some (ReferenceActual x r)))
+  reference_named x (given.null takes) = tt
+  reference_named x (given.local {i = i} r takes agrees) = subst (ReferenceAgrees space (operand_at references (operand.Local i))) (sym (reference_itself x r)) agrees
+  reference_named x (given.static {i = i} {r = r} takes agrees) = static_reference x (static_at references i) r agrees
 
-  reference_is : (o : Operand) (a : Actual) → IsGiven unit classes space references fields o a → ReferenceAgrees space (operand_at references o) (reference_in_actual (Some a))
-  reference_is operand.Number a h = no_reference a (NumberActual h.0) h.1 tt
-  reference_is operand.Text a h = no_reference a (TextActual h.0) h.1 tt
-  reference_is operand.Null a (inl h) = one_reference operand.Null a h
-  reference_is operand.Null a (inr (inl h)) = no_reference a (FieldActual h.field) h.is tt
-  reference_is operand.Null a (inr (inr (inl h))) = no_reference a (MethodActual h.method) h.is tt
-  reference_is operand.Null a (inr (inr (inr h))) = no_reference a NothingActual h tt
-  reference_is (operand.Local i) a h = one_reference (operand.Local i) a h
-  reference_is (operand.Static i) a h = subst (λ (b : Actual). ReferenceAgrees space (held_address (static_at references i)) (reference_in_actual (Some b))) (sym h.is) (static_reference h.name (static_at references i) h.reference h.agrees)
-  reference_is (operand.FieldId i) a h = no_reference a (FieldActual h.field) h.is tt
-  reference_is (operand.MethodId i) a h = no_reference a (MethodActual h.method) h.is tt
-  reference_is (operand.Array array) a h = no_reference a (VariableActual h.0) h.1 tt
-  reference_is (operand.Buffer i) a h = no_reference a (VariableActual h.0) h.1 tt
-  reference_is (operand.Mode mode) a h = no_reference a (ModeActual h.0) h.1 tt
-  reference_is (operand.IsCopy i) a h = no_reference a (VariableActual h.0) h.1 tt
+  reference_is : {p : ParameterKind} {o : Operand} {a : Actual} → IsGiven unit classes space references fields p o a → ReferenceAgrees space (operand_at references o) (reference_in_actual (Some a))
+  reference_is (given.reference {x = x} kind there) = reference_named x there
+  reference_is h = tt
 
   -- the reference at a place
-  pub reference_at_place : (operands : List Operand) (args : List Actual) (i : ℕ) → AllZip (IsGiven unit classes space references fields) operands args → ReferenceAgrees space (operand_at references (operand_of operands i)) (reference_given args i)
-  reference_at_place [] [] i h = tt
-  reference_at_place [] (a ∷ args) i h = absurd h
-  reference_at_place (o ∷ operands) [] i h = absurd h
-  reference_at_place (o ∷ operands) (a ∷ args) zero h = reference_is o a h.0
-  reference_at_place (o ∷ operands) (a ∷ args) (suc i) h = reference_at_place operands args i h.1
+  pub reference_at_place : {ps : List ParameterKind} {operands : List Operand} {args : List Actual} (i : ℕ) → AllTogether (IsGiven unit classes space references fields) ps operands args → ReferenceAgrees space (operand_at references (operand_of operands i)) (reference_given args i)
+  reference_at_place i list.none = tt
+  reference_at_place zero (list.more h rest) = reference_is h
+  reference_at_place (suc i) (list.more h rest) = reference_at_place i rest
 
   -- ---- the method of an argument
 
-  no_method : (a b : Actual) → a ≡ b → MethodAgrees unit classes None (method_in_actual (Some b)) → MethodAgrees unit classes None (method_in_actual (Some a))
-  no_method a b is h = subst (λ (c : Actual). MethodAgrees unit classes None (method_in_actual (Some c))) (sym is) h
-
-  method_is : (o : Operand) (a : Actual) → IsGiven unit classes space references fields o a → MethodAgrees unit classes (method_at fields o) (method_in_actual (Some a))
-  method_is operand.Number a h = no_method a (NumberActual h.0) h.1 tt
-  method_is operand.Text a h = no_method a (TextActual h.0) h.1 tt
-  method_is operand.Null a (inl h) = no_method a (ReferenceActual h.name (as_static h.reference)) h.is tt
-  method_is operand.Null a (inr (inl h)) = no_method a (FieldActual h.field) h.is tt
-  method_is operand.Null a (inr (inr (inl h))) = subst (λ (c : Actual). MethodAgrees unit classes None (method_in_actual (Some c))) (sym h.is) h.agrees
-  method_is operand.Null a (inr (inr (inr h))) = no_method a NothingActual h tt
-  method_is (operand.Local i) a h = no_method a (ReferenceActual h.name (as_static h.reference)) h.is tt
-  method_is (operand.Static i) a h = no_method a (ReferenceActual h.name h.reference) h.is tt
-  method_is (operand.FieldId i) a h = no_method a (FieldActual h.field) h.is tt
-  method_is (operand.MethodId i) a h = subst (λ (c : Actual). MethodAgrees unit classes (method_at fields (operand.MethodId i)) (method_in_actual (Some c))) (sym h.is) h.agrees
-  method_is (operand.Array array) a h = no_method a (VariableActual h.0) h.1 tt
-  method_is (operand.Buffer i) a h = no_method a (VariableActual h.0) h.1 tt
-  method_is (operand.Mode mode) a h = no_method a (ModeActual h.0) h.1 tt
-  method_is (operand.IsCopy i) a h = no_method a (VariableActual h.0) h.1 tt
+  method_is : {p : ParameterKind} {o : Operand} {a : Actual} → IsGiven unit classes space references fields p o a → MethodAgrees unit classes (method_at fields o) (method_in_actual (Some a))
+  method_is (given.method agrees) = agrees
+  method_is (given.reference kind (given.null takes)) = tt
+  method_is h = tt
 
   -- the method at a place
-  pub method_at_place : (operands : List Operand) (args : List Actual) (i : ℕ) → AllZip (IsGiven unit classes space references fields) operands args → MethodAgrees unit classes (method_at fields (operand_of operands i)) (method_given args i)
-  method_at_place [] [] i h = tt
-  method_at_place [] (a ∷ args) i h = absurd h
-  method_at_place (o ∷ operands) [] i h = absurd h
-  method_at_place (o ∷ operands) (a ∷ args) zero h = method_is o a h.0
-  method_at_place (o ∷ operands) (a ∷ args) (suc i) h = method_at_place operands args i h.1
+  pub method_at_place : {ps : List ParameterKind} {operands : List Operand} {args : List Actual} (i : ℕ) → AllTogether (IsGiven unit classes space references fields) ps operands args → MethodAgrees unit classes (method_at fields (operand_of operands i)) (method_given args i)
+  method_at_place i list.none = tt
+  method_at_place zero (list.more h rest) = method_is h
+  method_at_place (suc i) (list.more h rest) = method_at_place i rest
 
   -- ---- objects of another kind
 

@@ -19,8 +19,8 @@ use Rattle.jni.specs.declared.kinds.ParameterKind.{ParameterKind}
 use Rattle.jni.specs.declared.kinds.ParameterKind.TheVariants.{Passed, ClassObject, FieldID, IntNumber, NumberArray}
 use Rattle.semantics.specs.Arguments.{Actual, ReferenceActual, FieldActual, MethodActual, TextActual, VariableActual, ModeActual, NothingActual, reference_given, NumberActual}
 use Rattle.semantics.specs.Object.{Reference}
-use Rattle.code_meaning.specs.Does.{ActualFits, OperandFits}
-use Rattle.code_meaning.specs.Does as does
+use Rattle.code_meaning.specs.Does as list
+use Rattle.code_meaning.specs.Does.{AllTogether}
 use Rattle.code_meaning.specs.Fits.{IsReferenceKind}
 use Rattle.machine_scenes.specs.declared.handle.Handle.{Handle}
 use Rattle.machine_scenes.specs.Statics.{References, held_address, holds_deleted, holds_null, static_at}
@@ -29,6 +29,7 @@ use Rattle.machine_scenes.specs.declared.references.Held.TheVariants as held
 use Rattle.class_queries.specs.Kinds.{class_misfits}
 use Rattle.machine_answers.specs.Sights.{gives_deleted, gives_null, values_seen, value_seen}
 use Rattle.machine_answers.specs.Checked.{misfits, some_misfit, some_missing, may_be_null}
+use Rattle.machine_scenes.specs.Given as given
 use Rattle.machine_scenes.specs.Given.{operand_at, operand_of, class_there, IsGiven, field_at}
 use Rattle.machine_scenes.specs.HeapAgrees.{ReferenceAgrees, IsTable}
 use Rattle.machine_answers.specs.WorkedOut.{class_object}
@@ -65,23 +66,11 @@ super_known classes o c s h = by_class (class_at classes c) refl h
     by_class None e q = absurd (cc)
     by_class (Some d) e q = let b = o.superclasses c s d e q in class_known classes s b.class b.is
 
--- ---- parameters of no number
-
 pub same_number : (n m : ℕ) → not (n == m) ≡ false → n ≡ m
 same_number n m same =
     ⊎_elim (λ (t : (eqb n m ≡ true) × (n ≡ m)). t.1)
     (λ (t : (eqb n m ≡ false) × (n ≡ m → ⊥)). absurd (let clash : not false ≡ false = ap not (sym t.0) ∙ same in cc))
     (eqb_tells n m)
-
--- a parameter of no number
-pub no_number : (p : ParameterKind) → (p ≡ IntNumber → ⊥) → (p ≡ Passed → ⊥) → (p ≡ IntNumber) ⊎ (p ≡ Passed) → ⊥
-no_number p int passed (inl e) = int e
-no_number p int passed (inr e) = passed e
-
--- as is one of an object
-pub no_word : (p : ParameterKind) → IsReferenceKind p → may_be_null p ≡ false → (p ≡ IntNumber) ⊎ (p ≡ Passed) → ⊥
-no_word p kind never (inl e) = subst IsReferenceKind e kind
-no_word p kind never (inr e) = let clash : true ≡ false = ap may_be_null (sym e) ∙ never in absurd (cc)
 
 module _ (unit : SourceUnit) (classes : Classes) (space : Space) (references : References) (fields : List (Option Handle)) where
   -- ---- the object of an argument
@@ -113,37 +102,27 @@ module _ (unit : SourceUnit) (classes : Classes) (space : Space) (references : R
   some_held held.Cleared whole h = absurd (cc)
   some_held held.Deleted whole h = absurd (cc)
 
-  object_in : (p : ParameterKind) → IsReferenceKind p → may_be_null p ≡ false → (o : Operand) → OperandFits p o → gives_deleted references o ≡ false → gives_null references fields o ≡ false → (a : ℕ) × (operand_at references o ≡ Some a)
-  object_in p kind never operand.Number fits whole h = absurd (no_word p kind never fits)
-  object_in p kind never (operand.MethodId i) fits whole h = absurd (subst IsReferenceKind fits kind)
-  object_in p kind never (operand.FieldId i) fits whole h = absurd (subst IsReferenceKind fits kind)
-  object_in p kind never operand.Text fits whole h = absurd (subst IsReferenceKind fits kind)
-  object_in p kind never (operand.Array array) fits whole h = absurd (subst IsReferenceKind fits.1 kind)
-  object_in p kind never (operand.Buffer i) fits whole h = absurd (subst IsReferenceKind fits.1 kind)
-  object_in p kind never (operand.Mode mode) fits whole h = absurd (subst IsReferenceKind fits kind)
-  object_in p kind never (operand.IsCopy i) fits whole h = absurd (subst IsReferenceKind fits kind)
-  object_in p kind never operand.Null fits whole h = absurd (cc)
-  object_in p kind never (operand.Static i) fits whole h = some_held (static_at references i) whole h
-  object_in p kind never (operand.Local i) fits whole h = some_address (operand_at references (operand.Local i)) h
+  object_in : {p : ParameterKind} {o : Operand} {a : Actual} → IsReferenceKind p → may_be_null p ≡ false → IsGiven unit classes space references fields p o a → gives_deleted references o ≡ false → gives_null references fields o ≡ false → (b : ℕ) × (operand_at references o ≡ Some b)
+  object_in kind never (given.reference of (given.local {i = i} r takes agrees)) whole h = some_address (operand_at references (operand.Local i)) h
+  object_in kind never (given.reference of (given.static {i = i} takes agrees)) whole h = some_held (static_at references i) whole h
+  object_in kind never (given.reference of (given.null takes)) whole h = absurd (cc)
+  object_in kind never (given.passed fits) whole h = absurd (cc)
+  object_in kind never h whole null = absurd kind
 
   by_reference : (operands : List Operand) (args : List Actual) (i a : ℕ) (q : Reference) → operand_at references (operand_of operands i) ≡ Some a → reference_given args i ≡ q → ReferenceAgrees space (Some a) q → GivenObject operands args i
   by_reference operands args i a None at is h = absurd h
   by_reference operands args i a (Some n) at is h = record { address = a; name = n; at = at; is = is; named = h }
 
   -- an argument that may not be NULL
-  pub object_at_place : (before : List ParameterKind) (p : ParameterKind) (after : List ParameterKind) → IsReferenceKind p → may_be_null p ≡ false → (operands : List Operand) (args : List Actual) → AllZip OperandFits (before ++ p ∷ after) operands
-      → AllZip (IsGiven unit classes space references fields) operands args → list_any (gives_deleted references) operands ≡ false → some_missing references fields (before ++ p ∷ after) operands ≡ false → GivenObject operands args (length before)
-  object_at_place [] p after kind never [] args fits given whole missing = absurd fits
-  object_at_place [] p after kind never (o ∷ operands) [] fits given whole missing = absurd given
-  object_at_place [] p after kind never (o ∷ operands) (a ∷ args) fits given whole missing =
+  pub object_at_place : (before : List ParameterKind) (p : ParameterKind) (after : List ParameterKind) → IsReferenceKind p → may_be_null p ≡ false → {operands : List Operand} {args : List Actual}
+      → AllTogether (IsGiven unit classes space references fields) (before ++ p ∷ after) operands args → list_any (gives_deleted references) operands ≡ false → some_missing references fields (before ++ p ∷ after) operands ≡ false → GivenObject operands args (length before)
+  object_at_place [] p after kind never (list.more {y = o} {z = a} {ys = operands} {zs = args} h rest) whole missing =
       let no_null : (not (may_be_null p) && gives_null references fields o) ≡ false = first_of (not (may_be_null p) && gives_null references fields o) (some_missing references fields after operands) missing in
-      let found = object_in p kind never o fits.0 (first_of (gives_deleted references o) (list_any (gives_deleted references) operands) whole) (subst (λ (b : Bool). (not b && gives_null references fields o) ≡ false) never no_null) in
+      let found = object_in kind never h (first_of (gives_deleted references o) (list_any (gives_deleted references) operands) whole) (subst (λ (b : Bool). (not b && gives_null references fields o) ≡ false) never no_null) in
       by_reference (o ∷ operands) (a ∷ args) 0 found.0 (reference_given (a ∷ args) 0) found.1 refl
-      (subst (λ (x : Option ℕ). ReferenceAgrees space x (reference_given (a ∷ args) 0)) found.1 (reference_at_place unit classes space references fields (o ∷ operands) (a ∷ args) 0 given))
-  object_at_place (q ∷ before) p after kind never [] args fits given whole missing = absurd fits
-  object_at_place (q ∷ before) p after kind never (o ∷ operands) [] fits given whole missing = absurd given
-  object_at_place (q ∷ before) p after kind never (o ∷ operands) (a ∷ args) fits given whole missing =
-      let further = object_at_place before p after kind never operands args fits.1 given.1 (second_of (gives_deleted references o) (list_any (gives_deleted references) operands) whole)
+      (subst (λ (x : Option ℕ). ReferenceAgrees space x (reference_given (a ∷ args) 0)) found.1 (reference_at_place unit classes space references fields 0 (list.more h rest)))
+  object_at_place (q ∷ before) p after kind never (list.more {y = o} {ys = operands} h rest) whole missing =
+      let further = object_at_place before p after kind never rest (second_of (gives_deleted references o) (list_any (gives_deleted references) operands) whole)
       (second_of (not (may_be_null q) && gives_null references fields o) (some_missing references fields (before ++ p ∷ after) operands) missing) in
       record { address = further.address; name = further.name; at = further.at; is = further.is; named = further.named }
 
@@ -152,76 +131,40 @@ module _ (unit : SourceUnit) (classes : Classes) (space : Space) (references : R
   some_handle None h = absurd (cc)
   some_handle (Some x) h = (x, refl)
 
-  handle_in : (o : Operand) → OperandFits FieldID o → gives_null references fields o ≡ false → (h : FieldHandle) × (field_at fields o ≡ Some h)
-  handle_in operand.Number (inl e) h = absurd (cc)
-  handle_in operand.Number (inr e) h = absurd (cc)
-  handle_in (operand.MethodId i) fits h = absurd (cc)
-  handle_in operand.Text fits h = absurd (cc)
-  handle_in operand.Null fits h = absurd (cc)
-  handle_in (operand.Array array) fits h = absurd (let e = fits.1 in cc)
-  handle_in (operand.Buffer i) fits h = absurd (let e = fits.1 in cc)
-  handle_in (operand.Mode mode) fits h = absurd (cc)
-  handle_in (operand.IsCopy i) fits h = absurd (cc)
-  handle_in (operand.Local i) fits h = absurd fits
-  handle_in (operand.Static i) fits h = absurd fits
-  handle_in (operand.FieldId i) fits h = some_handle (field_at fields (operand.FieldId i)) h
+  handle_in : {o : Operand} {a : Actual} → IsGiven unit classes space references fields FieldID o a → gives_null references fields o ≡ false → (h : FieldHandle) × (field_at fields o ≡ Some h)
+  handle_in (given.field {i = i} agrees) h = some_handle (field_at fields (operand.FieldId i)) h
+  handle_in given.null_field h = absurd (cc)
+  handle_in (given.reference kind there) h = absurd kind
 
-  pub second_field : (p : ParameterKind) (parameters : List ParameterKind) (operands : List Operand) → may_be_null p ≡ false → AllZip OperandFits (p ∷ FieldID ∷ parameters) operands → some_missing references fields (p ∷ FieldID ∷ parameters) operands ≡ false
-      → (h : FieldHandle) × (field_at fields (operand_of operands 1) ≡ Some h)
-  second_field p parameters [] never fits missing = absurd fits
-  second_field p parameters (o ∷ []) never fits missing = absurd fits.1
-  second_field p parameters (o ∷ x ∷ operands) never fits missing =
+  pub second_field : (p : ParameterKind) (parameters : List ParameterKind) {operands : List Operand} {args : List Actual} → may_be_null p ≡ false → AllTogether (IsGiven unit classes space references fields) (p ∷ FieldID ∷ parameters) operands args
+      → some_missing references fields (p ∷ FieldID ∷ parameters) operands ≡ false → (h : FieldHandle) × (field_at fields (operand_of operands 1) ≡ Some h)
+  second_field p parameters never (list.more {y = o} first (list.more {y = x} {ys = operands} second rest)) missing =
       let later = second_of (not (may_be_null p) && gives_null references fields o) (some_missing references fields (FieldID ∷ parameters) (x ∷ operands)) missing in
-      handle_in x fits.1.0 (first_of (gives_null references fields x) (some_missing references fields parameters operands) later)
+      handle_in second (first_of (gives_null references fields x) (some_missing references fields parameters operands) later)
 
-  pub is_number : (o : Operand) (a : Actual) → OperandFits IntNumber o → IsGiven unit classes space references fields o a → (z : ℤ) × (a ≡ NumberActual z) × FitsSigned w32 z
-  is_number operand.Number a fits h = h
-  is_number operand.Text a fits h = absurd (cc)
-  is_number operand.Null a fits h = absurd fits
-  is_number (operand.Array array) a fits h = absurd (let e = fits.1 in cc)
-  is_number (operand.Buffer i) a fits h = absurd (let e = fits.1 in cc)
-  is_number (operand.Mode mode) a fits h = absurd (cc)
-  is_number (operand.IsCopy i) a fits h = absurd (cc)
-  is_number (operand.Local i) a fits h = absurd fits
-  is_number (operand.Static i) a fits h = absurd fits
-  is_number (operand.FieldId i) a fits h = absurd (cc)
-  is_number (operand.MethodId i) a fits h = absurd (cc)
-
-  -- a parameter of no number
-  abbrev pub IsWordless : ParameterKind → Type 0
-  IsWordless p = (p ≡ IntNumber) ⊎ (p ≡ Passed) → ⊥
-
-  pub wordless : (p : ParameterKind) (a : Actual) → IsWordless p → ActualFits p a → does.word_given a ≡ []
-  wordless p (NumberActual z) none fits = absurd (none fits)
-  wordless p (ReferenceActual x r) none fits = refl
-  wordless p (FieldActual f) none fits = refl
-  wordless p (MethodActual m) none fits = refl
-  wordless p (TextActual bytes) none fits = refl
-  wordless p (VariableActual x) none fits = refl
-  wordless p (ModeActual m) none fits = refl
-  wordless p NothingActual none fits = refl
+  pub is_number : {o : Operand} {a : Actual} → IsGiven unit classes space references fields IntNumber o a → (z : ℤ) × (a ≡ NumberActual z) × FitsSigned w32 z
+  is_number (given.number {z = z} fits) = (z, refl, fits)
+  is_number (given.reference kind there) = absurd kind
 
   -- ---- its class
 
   -- an object is of the kind that its parameter asks for
-  of_kind : (before : List ParameterKind) (p : ParameterKind) (after : List ParameterKind) (operands : List Operand) (a : ℕ) → operand_at references (operand_of operands (length before)) ≡ Some a → AllZip OperandFits (before ++ p ∷ after) operands
+  of_kind : (before : List ParameterKind) (p : ParameterKind) (after : List ParameterKind) (operands : List Operand) (a : ℕ) → operand_at references (operand_of operands (length before)) ≡ Some a
       → some_misfit classes space references (before ++ p ∷ after) operands ≡ false → class_misfits classes p (class_there space a) ≡ false
-  of_kind [] p after [] a at fits misfit = absurd fits
-  of_kind [] p after (o ∷ operands) a at fits misfit = sym (ap (misfits classes space p) at) ∙ first_of (misfits classes space p (operand_at references o)) (some_misfit classes space references after operands) misfit
-  of_kind (q ∷ before) p after [] a at fits misfit = absurd fits
-  of_kind (q ∷ before) p after (o ∷ operands) a at fits misfit =
-      of_kind before p after operands a at fits.1 (second_of (misfits classes space q (operand_at references o)) (some_misfit classes space references (before ++ p ∷ after) operands) misfit)
+  of_kind before p after [] a at misfit = absurd (cc)
+  of_kind [] p after (o ∷ operands) a at misfit = sym (ap (misfits classes space p) at) ∙ first_of (misfits classes space p (operand_at references o)) (some_misfit classes space references after operands) misfit
+  of_kind (q ∷ before) p after (o ∷ operands) a at misfit =
+      of_kind before p after operands a at (second_of (misfits classes space q (operand_at references o)) (some_misfit classes space references (before ++ p ∷ after) operands) misfit)
 
   -- it is an object of the class Class
-  pub is_class : (before after : List ParameterKind) (operands : List Operand) (a : ℕ) → operand_at references (operand_of operands (length before)) ≡ Some a → AllZip OperandFits (before ++ ClassObject ∷ after) operands
+  pub is_class : (before after : List ParameterKind) (operands : List Operand) (a : ℕ) → operand_at references (operand_of operands (length before)) ≡ Some a
       → some_misfit classes space references (before ++ ClassObject ∷ after) operands ≡ false → class_there space a ≡ class_class
-  is_class before after operands a at fits misfit =
-      same_number (class_there space a) class_class (of_kind before ClassObject after operands a at fits misfit)
+  is_class before after operands a at misfit = same_number (class_there space a) class_class (of_kind before ClassObject after operands a at misfit)
 
   -- or of a class of arrays of numbers
-  pub is_number_array : (t : ElementType) (before after : List ParameterKind) (operands : List Operand) (a : ℕ) → operand_at references (operand_of operands (length before)) ≡ Some a → AllZip OperandFits (before ++ NumberArray t ∷ after) operands
+  pub is_number_array : (t : ElementType) (before after : List ParameterKind) (operands : List Operand) (a : ℕ) → operand_at references (operand_of operands (length before)) ≡ Some a
       → some_misfit classes space references (before ++ NumberArray t ∷ after) operands ≡ false → class_there space a ≡ number_array t
-  is_number_array t before after operands a at fits misfit = same_number (class_there space a) (number_array t) (of_kind before (NumberArray t) after operands a at fits misfit)
+  is_number_array t before after operands a at misfit = same_number (class_there space a) (number_array t) (of_kind before (NumberArray t) after operands a at misfit)
 
 pub own_making : (classes : Classes) (c : ℕ) → not (has_own_making classes c) ≡ true → c ≡ class_class → ⊥
 own_making classes c h is = clash (not (is_plain (class_kind classes class_class))) (class_class == string_class) (ap (λ (n : ℕ). not (has_own_making classes n)) (sym is) ∙ h)

@@ -13,6 +13,7 @@ use Rattle.code.specs.declared.instr.Operand.{Operand}
 use Rattle.code.specs.declared.instr.Operand.TheVariants as operand
 use Rattle.heap.specs.Heap.{Space, IsAddress}
 use Rattle.jni.specs.declared.function.JniFunction.{JniFunction}
+use Rattle.jni.specs.declared.kinds.ParameterKind.{ParameterKind}
 use Rattle.jni.specs.JniFunction.{is_allowed_pending, parameters_for, prototype}
 use Rattle.semantics.specs.Arguments.{Actual, field_given}
 use Rattle.semantics.specs.CallSight.{ArgumentSight, sight_of_call}
@@ -25,6 +26,8 @@ use Rattle.semantics.specs.declared.trap.Trap.{Trap}
 use Rattle.semantics.specs.declared.trap.Trap.TheVariants.{NullReference, ExceptionPending, WrongObject, DeletedReference, NoCapacity}
 use Rattle.semantics.specs.Variable.{StaticReference}
 use Rattle.semantics.specs.World.{World}
+use Rattle.code_meaning.specs.Does as list
+use Rattle.code_meaning.specs.Does.{AllTogether}
 use Rattle.code_meaning.specs.Lowered.{Lowered}
 use Rattle.machine_scenes.specs.declared.handle.Handle.{Handle}
 use Rattle.machine_scenes.specs.declared.store.Store.{Store}
@@ -46,6 +49,7 @@ use Rattle.semantics.specs.Method.{MethodId}
 use Rattle.semantics.proofs.CheckLaws.{fits_and_goes}
 use Rattle.machine_scenes.specs.Locals.{locals_after}
 use Rattle.tables.specs.Locals.{has_room}
+use Rattle.machine_scenes.specs.Given as given
 use Rattle.machine_scenes.specs.Given.{operand_at, field_at, field_there, method_at, operand_of, AreAddresses, AreHandles, IsGiven, ReferenceIsThere}
 use Rattle.machine_scenes.specs.HeapAgrees.{ReferenceAgrees}
 use Rattle.machine_scenes.proofs.BlocksOfNames.{block_there}
@@ -72,32 +76,29 @@ is_handle classes (Some g) (Some f) h agrees e =
     some_field (Some x) h = refl
 
 module _ (unit : SourceUnit) (classes : Classes) (space : Space) (references : References) (fields : List (Option Handle)) where
-  one_address : (o : Operand) (a : Actual) → IsGiven unit classes space references fields o a → (b : ℕ) → operand_at references o ≡ Some b → IsAddress space b
-  one_address (operand.Local i) a h b e = block_there space (operand_at references (operand.Local i)) h.reference b h.agrees e
-  one_address (operand.Static i) a h b e = static_address (static_at references i) h.reference b h.agrees e
-    where
-      static_address : (x : Held) (r : StaticReference) (b : ℕ) → HeldAgrees space (held_argument x) r → held_address x ≡ Some b → IsAddress space b
-      static_address x r b h e =
-          let none : (c : ℕ) → ◌≡◌ {A = Option ℕ} None (Some c) → IsAddress space c = λ c e. absurd (cc) in
-          checks.by_argument space (λ x r. (c : ℕ) → held_address x ≡ Some c → IsAddress space c) none (λ a n e c is. block_there space (Some a) (Some n) c e is)
-          (λ a n e c is. block_there space (Some a) (Some n) c e is) none none x r h b e
-  one_address o a h b e = absurd (cc)
+  static_address : (x : Held) (r : StaticReference) (b : ℕ) → HeldAgrees space (held_argument x) r → held_address x ≡ Some b → IsAddress space b
+  static_address x r b h e =
+      let none : (c : ℕ) → ◌≡◌ {A = Option ℕ} None (Some c) → IsAddress space c = λ c e. absurd (cc) in
+      checks.by_argument space (λ x r. (c : ℕ) → held_address x ≡ Some c → IsAddress space c) none (λ a n e c is. block_there space (Some a) (Some n) c e is)
+      (λ a n e c is. block_there space (Some a) (Some n) c e is) none none x r h b e
 
-  one_handle : (o : Operand) (a : Actual) → IsGiven unit classes space references fields o a → (g : FieldHandle) → field_at fields o ≡ Some g → IsSome (field_of classes g)
-  one_handle (operand.FieldId i) a h g e = is_handle classes (field_at fields (operand.FieldId i)) h.field g h.agrees e
-  one_handle o a h g e = absurd (cc)
+  one_address : {p : ParameterKind} {o : Operand} {a : Actual} → IsGiven unit classes space references fields p o a → (b : ℕ) → operand_at references o ≡ Some b → IsAddress space b
+  one_address (given.reference kind (given.local {i = i} r takes agrees)) b e = block_there space (operand_at references (operand.Local i)) r b agrees e
+  one_address (given.reference kind (given.static {i = i} {r = r} takes agrees)) b e = static_address (static_at references i) r b agrees e
+  one_address h b e = absurd (cc)
 
-  all_addresses : (operands : List Operand) (args : List Actual) → AllZip (IsGiven unit classes space references fields) operands args → AreAddresses space references operands
-  all_addresses [] [] h = tt
-  all_addresses [] (a ∷ args) h = absurd h
-  all_addresses (o ∷ operands) [] h = absurd h
-  all_addresses (o ∷ operands) (a ∷ args) h = (one_address o a h.0, all_addresses operands args h.1)
+  one_handle : {p : ParameterKind} {o : Operand} {a : Actual} → IsGiven unit classes space references fields p o a → (g : FieldHandle) → field_at fields o ≡ Some g → IsSome (field_of classes g)
+  one_handle (given.field {i = i} {f = f} agrees) g e = is_handle classes (field_at fields (operand.FieldId i)) f g agrees e
+  one_handle (given.reference kind (given.null takes)) g e = absurd (cc)
+  one_handle h g e = absurd (cc)
 
-  all_handles : (operands : List Operand) (args : List Actual) → AllZip (IsGiven unit classes space references fields) operands args → AreHandles classes fields operands
-  all_handles [] [] h = tt
-  all_handles [] (a ∷ args) h = absurd h
-  all_handles (o ∷ operands) [] h = absurd h
-  all_handles (o ∷ operands) (a ∷ args) h = (one_handle o a h.0, all_handles operands args h.1)
+  all_addresses : {ps : List ParameterKind} {operands : List Operand} {args : List Actual} → AllTogether (IsGiven unit classes space references fields) ps operands args → AreAddresses space references operands
+  all_addresses list.none = tt
+  all_addresses (list.more h rest) = (one_address h, all_addresses rest)
+
+  all_handles : {ps : List ParameterKind} {operands : List Operand} {args : List Actual} → AllTogether (IsGiven unit classes space references fields) ps operands args → AreHandles classes fields operands
+  all_handles list.none = tt
+  all_handles (list.more h rest) = (one_handle h, all_handles rest)
 
 -- ---- tests that passed
 
@@ -121,10 +122,10 @@ same_pending space (Some a) (Some n) h = refl
 
 module _ (p : Lowered) (w : World) (store : Store) (pending : Option ℕ) (activation : Activation) (call : Call) (others : Acquired) (k owner : ℕ) (shared : Shared) (s : Thread) (target : Target) (f : JniFunction) (args : List Actual) (h : IsAsked p w store pending activation call others k owner shared s target f args) where
   pub objects_there : AreAddresses store.heap (references_of store activation) call.operands
-  objects_there = all_addresses (unit_tree p.unit) w.classes store.heap (references_of store activation) activation.slots.fields.items call.operands args h.given
+  objects_there = all_addresses (unit_tree p.unit) w.classes store.heap (references_of store activation) activation.slots.fields.items h.given
 
   pub handles_there : AreHandles w.classes activation.slots.fields.items call.operands
-  handles_there = all_handles (unit_tree p.unit) w.classes store.heap (references_of store activation) activation.slots.fields.items call.operands args h.given
+  handles_there = all_handles (unit_tree p.unit) w.classes store.heap (references_of store activation) activation.slots.fields.items h.given
 
   -- what the scene's checks find
   abbrev pub found_trap : Option Trap
@@ -138,7 +139,7 @@ module _ (p : Lowered) (w : World) (store : Store) (pending : Option ℕ) (activ
   pending_there a e = block_there store.heap pending s.pending a h.pending_agrees e
 
   pub method_there : MethodIsThere (unit_tree p.unit) w.classes (method_at activation.slots.fields.items (operand_of call.operands 1))
-  method_there = is_method (unit_tree p.unit) w.classes _ _ (checks.method_at_place (unit_tree p.unit) w.classes store.heap (references_of store activation) activation.slots.fields.items call.operands args 1 h.given)
+  method_there = is_method (unit_tree p.unit) w.classes _ _ (checks.method_at_place (unit_tree p.unit) w.classes store.heap (references_of store activation) activation.slots.fields.items 1 h.given)
 
   -- of the source's call
   of_call : IsAsked p w store pending activation call others k owner shared s target call.function args
@@ -146,7 +147,7 @@ module _ (p : Lowered) (w : World) (store : Store) (pending : Option ℕ) (activ
 
   -- the field of an argument is that of the source's
   pub field_is : (i : ℕ) → field_there w.classes (field_at activation.slots.fields.items (operand_of call.operands i)) ≡ field_given args i
-  field_is i = ap (λ (a : ArgumentSight). a.field) (argument_is scene activation.locals (length s.callers) call shared.heap args of_call.store_agrees.heap of_call.kinds of_call.fit of_call.given of_call.words of_call.texts i)
+  field_is i = ap (λ (a : ArgumentSight). a.field) (argument_is scene activation.locals (length s.callers) call shared.heap args of_call.store_agrees.heap of_call.given of_call.words of_call.texts i)
 
   -- is what is seen of it
   pub found_as_seen : found_trap ≡ trap_seen scene activation.locals call

@@ -40,7 +40,7 @@ use Rattle.semantics.specs.declared.value.Value.TheVariants.{Int}
 use Rattle.semantics.specs.Value.{convert}
 use Rattle.semantics.specs.Variable.{StaticReference, Weakly, Cleared}
 use Rattle.code_meaning.specs.Coding.{element_of}
-use Rattle.code_meaning.specs.Does.{OperandFits, words_given}
+use Rattle.code_meaning.specs.Does.{AllTogether, words_given}
 use Rattle.code_meaning.specs.Slots.{static_index, word_of}
 use Rattle.code_meaning.proofs.ElementWords.{convert_fits, element_words}
 use Rattle.machine_scenes.specs.declared.references.Held.{Held}
@@ -68,7 +68,8 @@ use Rattle.machine_answers.proofs.CallTraps.{handles_there, none_lacking, object
 use Rattle.machine_answers.proofs.FieldValues.{reference_there, word_there, writes}
 use Rattle.machine_answers.proofs.SightParts.{name_seen_is, object_there_is}
 use Rattle.machine_answers.proofs.SightPlaces.{word_there as number_word}
-use Rattle.machine_answers.proofs.SightsAgree.{Place, There, Past, held_is, place_at, sights_agree, static_given}
+use Rattle.machine_answers.proofs.ArgumentPlaces.{at_kind}
+use Rattle.machine_answers.proofs.SightsAgree.{held_is, sights_agree, static_given}
 use Rattle.machine_answers.specs.Answered.{TwoCalls, Asked, Passes, Does, brought, unit, scene}
 use Rattle.machine_answers.proofs.TwoCalls.{agrees, all, at, built_in_class, fields, object_of, references, table_of}
 
@@ -130,22 +131,14 @@ module _ (both : TwoCalls) where
 
   -- it is an argument that is a number, behind which there is none
   on_top : (f : JniFunction) (i : ℕ) → slice_get (parameters_for f (length args)) i ≡ Some IntNumber → words_of (drop (suc i) (parameters_for f (length args))) (drop (suc i) call.operands) ≡ 0 → Asked both f → IsOnTop
-  on_top f i is last h = by_place (place_at Given i (parameters_for f (length args)) call.operands args h.kinds h.fit h.given)
-    where
-      Given : Operand → Actual → Type 0
-      Given o a = IsGiven (unit both) w.classes store.heap (references both) (fields both) o a
-
-      by_place : Place Given (parameters_for f (length args)) call.operands args i → IsOnTop
-      by_place (There q o a at_p at_o at_a fits kind given) =
-          let same : q ≡ IntNumber = let e : Some q ≡ Some IntNumber = sym at_p ∙ is in cc in
-          let number = is_number (unit both) w.classes store.heap (references both) (fields both) o a (subst (λ (x : ParameterKind). OperandFits x o) same fits) given in
-          record {
-            number = number.0;
-            fits = number.2;
-            there = ap (λ (ws : List ℕ). slice_get ws 0) h.words ∙ ap (slice_get (words_given args)) (sym last)
-                ∙ number_word (scene both) i (parameters_for f (length args)) call.operands args number.0 h.fit h.given (at_a ∙ ap (λ (x : Actual). Some x) number.1);
-          }
-      by_place (Past at_p at_o at_a) = absurd (let e : None ≡ Some IntNumber = sym at_p ∙ is in cc)
+  on_top f i is last h =
+      let top = at_kind i h.given is in
+      let number = is_number (unit both) w.classes store.heap (references both) (fields both) top.given in
+      record {
+        number = number.0;
+        fits = number.2;
+        there = ap (λ (ws : List ℕ). slice_get ws 0) h.words ∙ ap (slice_get (words_given args)) (sym last) ∙ number_word (scene both) i number.0 h.given (top.is ∙ ap (λ (x : Actual). Some x) number.1);
+      }
 
   -- a cell of a type holds it
   pub stored : (f : JniFunction) (i : ℕ) (T : ElementType) → slice_get (parameters_for f (length args)) i ≡ Some IntNumber → words_of (drop (suc i) (parameters_for f (length args))) (drop (suc i) call.operands) ≡ 0 → Asked both f
@@ -314,7 +307,7 @@ module _ (both : TwoCalls) where
   handle_given : (f : JniFunction) (q : ParameterKind) (parameters : List ParameterKind) → may_be_null q ≡ false → parameters_for f (length args) ≡ q ∷ FieldID ∷ parameters → Asked both f → Passes both
       → (x : FieldHandle) × (field_at (fields both) (operand_of call.operands 1) ≡ Some x)
   handle_given f q parameters never are h free =
-      second_field (unit both) w.classes store.heap (references both) (fields both) q parameters call.operands never (subst (λ (l : List ParameterKind). AllZip OperandFits l call.operands) are h.kinds)
+      second_field (unit both) w.classes store.heap (references both) (fields both) q parameters never (subst (λ (l : List ParameterKind). AllTogether (IsGiven (unit both) w.classes store.heap (references both) (fields both)) l call.operands args) are h.given)
       (subst (λ (l : List ParameterKind). some_missing (references both) (fields both) l call.operands ≡ false) are (none_lacking p w store pending activation call others k owner shared s target f args h free))
 
   -- the place of the field of argument 1 among these

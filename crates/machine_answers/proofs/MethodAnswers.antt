@@ -42,7 +42,7 @@ module _ (both : TwoCalls) where
   together f h free = goes_together p w store pending activation call others k owner shared s target f args h free
 
   agree : (f : JniFunction) → Asked both f → MethodAgrees (unit both) w.classes (method_at (fields both) (operand_of call.operands 1)) (method_given args 1)
-  agree f h = method_at_place (unit both) w.classes store.heap (references both) (fields both) call.operands args 1 h.given
+  agree f h = method_at_place (unit both) w.classes store.heap (references both) (fields both) 1 h.given
 
   -- a call of a method that has passed its checks
   pub called_method : (f : JniFunction) → calls_method f ≡ true → Asked both f → Passes both → CalledMethod f

@@ -16,10 +16,11 @@ use Rattle.jni.specs.declared.kinds.ParameterKind.TheVariants.{ClassObject, Meth
 use Rattle.semantics.specs.Arguments.{Actual, NumberActual, passed_value}
 use Rattle.semantics.specs.Object.{Refers, Reference}
 use Rattle.semantics.specs.Variable.{StaticReference, as_reference, as_static}
-use Rattle.code_meaning.specs.Does.{ActualFits, words_given}
+use Rattle.code_meaning.specs.Does.{AllTogether, words_given}
 use Rattle.code_meaning.specs.Does as does
 use Rattle.machine_scenes.specs.declared.handle.Handle.{Handle}
 use Rattle.machine_scenes.specs.declared.references.Held.{Held}
+use Rattle.machine_scenes.specs.Given as given
 use Rattle.machine_scenes.specs.Given.{IsGiven, operand_at}
 use Rattle.machine_scenes.specs.HeapAgrees.{ReferenceAgrees, ValueAgrees, ValuesAgree}
 use Rattle.machine_scenes.specs.StoreAgrees.{HeldAgrees}
@@ -27,7 +28,6 @@ use Rattle.machine_scenes.specs.Statics.{References, held_address, held_argument
 use Rattle.machine_answers.specs.Passed.{passed_in}
 use Rattle.machine_answers.specs.WorkedOut.{held_reference}
 use Rattle.machine_answers.proofs.CallChecks.{by_argument}
-use Rattle.machine_answers.proofs.CallOperands.{no_number, wordless}
 use Rattle.machine_answers.specs.Answered.{TwoCalls, Asked, unit}
 use Rattle.machine_answers.proofs.TwoCalls.{references, fields}
 
@@ -58,47 +58,33 @@ module _ (unit : SourceUnit) (classes : Classes) (space : Space) (references : R
   static_agrees : (h : Held) (r : StaticReference) → HeldAgrees space (held_argument h) r → ValueAgrees space (held_reference (held_address h)) (Refers (as_reference r))
   static_agrees = by_argument space (λ h r. ValueAgrees space (held_reference (held_address h)) (Refers (as_reference r))) tt (λ a n e. e) (λ a n e. e) tt tt
 
-  same_value : (v : Value) (a b : Actual) → a ≡ b → ValueAgrees space v (passed_value b) → ValueAgrees space v (passed_value a)
-  same_value v a b is h = subst (λ (x : Actual). ValueAgrees space v (passed_value x)) (sym is) h
-
   -- what one operand gives, and the words that are left
-  one_value : (o : Operand) (a : Actual) → ActualFits Passed a → IsGiven unit classes space references fields o a → (operands : List Operand) (args : List Actual) → ValuesAgree space (passed_in references operands (in_order args)) (map passed_value args)
+  one_value : {o : Operand} {a : Actual} → IsGiven unit classes space references fields Passed o a → (operands : List Operand) (args : List Actual) → ValuesAgree space (passed_in references operands (in_order args)) (map passed_value args)
       → ValuesAgree space (passed_in references (o ∷ operands) (does.word_given a ++ in_order args)) (passed_value a ∷ map passed_value args)
-  one_value operand.Number a fits h operands args later = subst (λ (x : Actual). ValuesAgree space (passed_in references (operand.Number ∷ operands) (does.word_given x ++ in_order args)) (passed_value x ∷ map passed_value args)) (sym h.1) ((h.2, refl), later)
-  one_value operand.Text a fits h operands args later = absurd (let e = subst (ActualFits Passed) h.1 fits in cc)
-  one_value operand.Null a fits (inl h) operands args later = subst (λ (x : Actual). ValuesAgree space (passed_in references (operand.Null ∷ operands) (does.word_given x ++ in_order args)) (passed_value x ∷ map passed_value args)) (sym h.is) (held_agrees None h.reference h.agrees, later)
-  one_value operand.Null a fits (inr (inl h)) operands args later = absurd (let e = subst (ActualFits Passed) h.is fits in cc)
-  one_value operand.Null a fits (inr (inr (inl h))) operands args later = absurd (let e = subst (ActualFits Passed) h.is fits in cc)
-  one_value operand.Null a fits (inr (inr (inr h))) operands args later = absurd (let e = subst (ActualFits Passed) h fits in cc)
-  one_value (operand.Local i) a fits h operands args later = subst (λ (x : Actual). ValuesAgree space (passed_in references (operand.Local i ∷ operands) (does.word_given x ++ in_order args)) (passed_value x ∷ map passed_value args)) (sym h.is) (held_agrees (operand_at references (operand.Local i)) h.reference h.agrees, later)
-  one_value (operand.Static i) a fits h operands args later = subst (λ (x : Actual). ValuesAgree space (passed_in references (operand.Static i ∷ operands) (does.word_given x ++ in_order args)) (passed_value x ∷ map passed_value args)) (sym h.is) (static_agrees (static_at references i) h.reference h.agrees, later)
-  one_value (operand.FieldId i) a fits h operands args later = absurd (let e = subst (ActualFits Passed) h.is fits in cc)
-  one_value (operand.MethodId i) a fits h operands args later = absurd (let e = subst (ActualFits Passed) h.is fits in cc)
-  one_value (operand.Array array) a fits h operands args later = absurd (subst (ActualFits Passed) h.1 fits)
-  one_value (operand.Buffer i) a fits h operands args later = absurd (subst (ActualFits Passed) h.1 fits)
-  one_value (operand.Mode mode) a fits h operands args later = absurd (let e = subst (ActualFits Passed) h.1 fits in cc)
-  one_value (operand.IsCopy i) a fits h operands args later = absurd (subst (ActualFits Passed) h.1 fits)
+  one_value (given.passed fits) operands args later = ((fits, refl), later)
+  one_value (given.reference kind (given.null takes)) operands args later = (held_agrees None None tt, later)
+  one_value (given.reference kind (given.local {i = i} r takes agrees)) operands args later = (held_agrees (operand_at references (operand.Local i)) r agrees, later)
+  one_value (given.reference kind (given.static {i = i} {r = r} takes agrees)) operands args later = (static_agrees (static_at references i) r agrees, later)
 
-  all_values : (n : ℕ) (operands : List Operand) (args : List Actual) → AllZip ActualFits (replicate n Passed) args → AllZip (IsGiven unit classes space references fields) operands args
-      → ValuesAgree space (passed_in references operands (in_order args)) (map passed_value args)
-  all_values n [] [] fit h = tt
-  all_values n [] (a ∷ args) fit h = absurd h
-  all_values n (o ∷ operands) [] fit h = absurd h
-  all_values zero (o ∷ operands) (a ∷ args) fit h = absurd fit
-  all_values (suc n) (o ∷ operands) (a ∷ args) fit h = one_value o a fit.0 h.0 operands args (all_values n operands args fit.1 h.1)
+  all_values : (n : ℕ) {operands : List Operand} {args : List Actual} → AllTogether (IsGiven unit classes space references fields) (replicate n Passed) operands args → ValuesAgree space (passed_in references operands (in_order args)) (map passed_value args)
+  all_values zero does.none = tt
+  all_values (suc n) (does.more {ys = operands} {zs = args} h rest) = one_value h operands args (all_values n rest)
+
+  no_class_word : {o : Operand} {a : Actual} → IsGiven unit classes space references fields ClassObject o a → does.word_given a ≡ []
+  no_class_word (given.reference kind there) = refl
+
+  no_method_word : {o : Operand} {a : Actual} → IsGiven unit classes space references fields MethodID o a → does.word_given a ≡ []
+  no_method_word given.null_method = refl
+  no_method_word h = refl
 
   -- those after the class and the method ID
-  rest_values : (n : ℕ) (operands : List Operand) (args : List Actual) → AllZip ActualFits (ClassObject ∷ MethodID ∷ replicate n Passed) args → AllZip (IsGiven unit classes space references fields) operands args
+  rest_values : (n : ℕ) {operands : List Operand} {args : List Actual} → AllTogether (IsGiven unit classes space references fields) (ClassObject ∷ MethodID ∷ replicate n Passed) operands args
       → ValuesAgree space (passed_in references (drop 2 operands) (in_order args)) (map passed_value (drop 2 args))
-  rest_values n operands [] fit h = absurd fit
-  rest_values n operands (a ∷ []) fit h = absurd fit.1
-  rest_values n [] (a ∷ b ∷ args) fit h = absurd h
-  rest_values n (o ∷ []) (a ∷ b ∷ args) fit h = absurd h.1
-  rest_values n (o ∷ x ∷ operands) (a ∷ b ∷ args) fit h =
-      let none = wordless unit classes space references fields ClassObject a (no_number ClassObject (λ e. cc) (λ e. cc)) fit.0 in
-      let no_more = wordless unit classes space references fields MethodID b (no_number MethodID (λ e. cc) (λ e. cc)) fit.1.0 in
+  rest_values n (does.more {z = a} class (does.more {z = b} {ys = operands} {zs = args} method rest)) =
+      let none = no_class_word class in
+      let no_more = no_method_word method in
       let words : in_order (a ∷ b ∷ args) ≡ in_order args = λ i. none i ++ (no_more i ++ in_order args) in
-      subst (λ (words : List ℕ). ValuesAgree space (passed_in references operands words) (map passed_value args)) (sym words) (all_values n operands args fit.1.1 h.1.1)
+      subst (λ (words : List ℕ). ValuesAgree space (passed_in references operands words) (map passed_value args)) (sym words) (all_values n rest)
 
 -- the parameters of a function that calls a method
 pub method_parameters : (f : JniFunction) (n : ℕ) → calls_method f ≡ true → parameters_for f n ≡ ClassObject ∷ MethodID ∷ replicate (n - 2) Passed
@@ -111,4 +97,4 @@ module _ (both : TwoCalls) where
   pub values_passed : (f : JniFunction) → calls_method f ≡ true → Asked both f → ValuesAgree store.heap (passed_in (references both) (drop 2 call.operands) (reverse activation.stack)) (map passed_value (drop 2 args))
   values_passed f is h =
       subst (λ (words : List ℕ). ValuesAgree store.heap (passed_in (references both) (drop 2 call.operands) words) (map passed_value (drop 2 args))) (sym (ap reverse h.words ∙ reversed args))
-      (rest_values (unit both) w.classes store.heap (references both) (fields both) (length args - 2) call.operands args (subst (λ (l : List ParameterKind). AllZip ActualFits l args) (method_parameters f (length args) is) h.fit) h.given)
+      (rest_values (unit both) w.classes store.heap (references both) (fields both) (length args - 2) (subst (λ (l : List ParameterKind). AllTogether (IsGiven (unit both) w.classes store.heap (references both) (fields both)) l call.operands args) (method_parameters f (length args) is) h.given))

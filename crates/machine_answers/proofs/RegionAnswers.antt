@@ -26,7 +26,6 @@ use Rattle.semantics.specs.Object.{Number, Object}
 use Rattle.semantics.specs.declared.trap.Trap.TheVariants as traps
 use Rattle.semantics.specs.declared.trap.Trap.TheVariants.{OutOfRange}
 use Rattle.semantics_typing.specs.Objects.{element_type_of}
-use Rattle.code_meaning.specs.Does.{OperandFits}
 use Rattle.code_meaning.specs.Fits.{IsReferenceKind}
 use Rattle.machine_scenes.specs.declared.array_region.ArrayRegion.{ArrayRegion}
 use Rattle.machine_scenes.specs.Given.{class_there, operand_of}
@@ -58,7 +57,7 @@ module _ (both : TwoCalls) where
   pub region_given : (f : JniFunction) (q : ParameterKind) (T : ElementType) → IsReferenceKind q → may_be_null q ≡ false → parameters_for f (length args) ≡ q ∷ IntNumber ∷ IntNumber ∷ ArrayVariable T ∷ [] → Asked both f → Passes both → GivenRegion
   region_given f q T kind never are h free = record {
     object = object_given_at both f [] q (IntNumber ∷ IntNumber ∷ ArrayVariable T ∷ []) kind never are h free;
-    array = given_array activation.slots.numbers.items s.variables T (parameters_for f (length args)) call.operands args h.kinds h.fit h.arrays (ap (λ (l : List ParameterKind). slice_get l 3) are);
+    array = given_array activation.slots.numbers.items s.variables h.given h.arrays (ap (λ (l : List ParameterKind). slice_get l 3) are);
   }
 
   module _ (g : GivenRegion) (f : JniFunction) (h : Asked both f) where
@@ -160,7 +159,6 @@ module _ (both : TwoCalls) where
         let object = object_of both f h a n there in
         let of_class : class_there store.heap a ≡ number_array T =
         is_number_array (unit both) w.classes store.heap (references both) (fields both) T [] (IntNumber ∷ IntNumber ∷ ArrayVariable T ∷ []) call.operands a g.object.at
-        (subst (λ (l : List ParameterKind). AllZip OperandFits l call.operands) are h.kinds)
         (subst (λ (l : List ParameterKind). some_misfit w.classes store.heap (references both) l call.operands ≡ false) are (none_unfit p w store pending activation call others k owner shared s target f args h free)) in
         let same : object.0.class ≡ number_array T =
         sym (ap (λ (o : Option Object). option_map_or (λ (x : Object). x.class) o 0) object.1)

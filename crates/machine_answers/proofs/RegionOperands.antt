@@ -1,5 +1,5 @@
 -- What the operands of a function of regions give: two numbers, a local array, and an object that holds nothing but numbers.
-use Rattle.std.proofs.Common.{inl, inr, ◌≡◌, ℕ, ℤ, zero, suc, ◌+◌, ◌<◌, ◌≤◌, List, [], ◌∷◌, length, map, take, drop, Some, None, refl, sym, ap, ◌∙◌, subst, arith}
+use Rattle.std.proofs.Common.{◌≡◌, ℕ, ℤ, zero, suc, ◌+◌, ◌<◌, ◌≤◌, List, [], ◌∷◌, length, map, take, drop, Option, Some, None, refl, sym, ap, ◌∙◌, subst, arith}
 use Rattle.std.specs.Prelude.{slice_get, FitsSigned}
 use Rattle.std.specs.Int.{w32, cast_unsigned}
 use Rattle.std.specs.List.{AllZip}
@@ -7,13 +7,14 @@ use Rattle.std.proofs.lemmas.List.{drop-map, take-map}
 use Rattle.std.proofs.lemmas.Option.{slice_get-get_or, slice_get_within}
 use Rattle.base.specs.Bytes.{Identifier, lookup}
 use Rattle.base.specs.declared.element.ElementType.{ElementType}
+use Rattle.syntax.specs.Tree.{SourceUnit}
 use Rattle.class_rules.specs.BuiltIns.{number_array}
 use Rattle.class_rules.specs.Class.{Classes, NumberField}
 use Rattle.class_rules.specs.Grown.{IsGrown}
 use Rattle.code.specs.declared.instr.LocalArray.{LocalArray as ArraySlots}
 use Rattle.code.specs.declared.instr.Operand.{Operand}
 use Rattle.code.specs.declared.instr.Operand.TheVariants as operand
-use Rattle.code_meaning.specs.Does.{ActualFits, OperandFits}
+use Rattle.code_meaning.specs.Does.{AllTogether}
 use Rattle.heap.specs.Heap.{Space}
 use Rattle.heap.specs.declared.value.Value.{Value}
 use Rattle.heap.specs.declared.value.Value.TheVariants.{Number as Word, Null, Block as Address}
@@ -28,10 +29,13 @@ use Rattle.semantics_typing.proofs.TableKinds.{kind_numbers}
 use Rattle.semantics_typing.proofs.Heaps.{values_there}
 use Rattle.machine_answers.specs.Answers.{AreWordsOf}
 use Rattle.machine_answers.specs.Copies.{word_of as word_in_cell}
-use Rattle.machine_scenes.specs.Given.{HasArray, HasElements, operand_of, operand_or_null}
+use Rattle.machine_scenes.specs.Given as given
+use Rattle.machine_scenes.specs.Given.{HasArray, HasElements, IsGiven, operand_of, operand_or_null}
+use Rattle.machine_scenes.specs.Statics.{References}
+use Rattle.machine_scenes.specs.declared.handle.Handle.{Handle}
 use Rattle.machine_scenes.specs.HeapAgrees.{ValueAgrees, ValuesAgree}
 use Rattle.machine_answers.proofs.Overlays.{get_drop}
-use Rattle.machine_answers.proofs.SightsAgree.{Place, There, Past, place_at}
+use Rattle.machine_answers.proofs.ArgumentPlaces.{at_kind, with_each}
 
 -- ---- numbers
 
@@ -43,36 +47,15 @@ pub record GivenArray (numbers : List ℕ) (vs : Variables) (operands : List Ope
   pub at : operand_of operands 3 ≡ operand.Array array
   pub has : HasElements numbers array (lookup (variable_given args 3) vs)
 
-array_operand : (t : ElementType) (o : Operand) → OperandFits (ArrayVariable t) o → (array : ArraySlots) × (o ≡ operand.Array array)
-array_operand t (operand.Array array) fits = (array, refl)
-array_operand t operand.Number (inl e) = absurd (cc)
-array_operand t operand.Number (inr e) = absurd (cc)
-array_operand t (operand.MethodId i) fits = absurd (cc)
-array_operand t (operand.FieldId i) fits = absurd (cc)
-array_operand t operand.Text fits = absurd (cc)
-array_operand t operand.Null fits = absurd fits
-array_operand t (operand.Local i) fits = absurd fits
-array_operand t (operand.Static i) fits = absurd fits
-array_operand t (operand.Buffer i) fits = absurd (let e = fits.1 in cc)
-array_operand t (operand.Mode mode) fits = absurd (cc)
-array_operand t (operand.IsCopy i) fits = absurd (cc)
+module _ {unit : SourceUnit} {classes : Classes} {space : Space} {references : References} {fields : List (Option Handle)} {t : ElementType} {operands : List Operand} {args : List Actual} (numbers : List ℕ) (vs : Variables) where
+  of_array : {o : Operand} {a : Actual} → slice_get operands 3 ≡ Some o → slice_get args 3 ≡ Some a → IsGiven unit classes space references fields (ArrayVariable t) o a → HasArray numbers vs o a → GivenArray numbers vs operands args
+  of_array at is (given.array {slots = slots}) (x, named, has) =
+      let name : variable_given args 3 ≡ x = ap variable_in_actual is ∙ ap (λ (y : Actual). variable_in_actual (Some y)) named in
+      record { array = slots; at = ap operand_or_null at; has = subst (λ (y : Identifier). HasElements numbers slots (lookup y vs)) (sym name) has }
+  of_array at is (given.reference kind there) has = absurd kind
 
-pub local_array : (numbers : List ℕ) (vs : Variables) (t : ElementType) (ps : List ParameterKind) (operands : List Operand) (args : List Actual) → AllZip OperandFits ps operands → AllZip ActualFits ps args → AllZip (HasArray numbers vs) operands args
-    → slice_get ps 3 ≡ Some (ArrayVariable t) → GivenArray numbers vs operands args
-local_array numbers vs t ps operands args kinds fit has is = by_place (place_at (HasArray numbers vs) 3 ps operands args kinds fit has)
-  where
-    by_place : Place (HasArray numbers vs) ps operands args 3 → GivenArray numbers vs operands args
-    by_place (There q o a at_p at_o at_a fits kind held) =
-        let same : q ≡ ArrayVariable t = let e : Some q ≡ Some (ArrayVariable t) = sym at_p ∙ is in cc in
-        let slots = array_operand t o (subst (λ (x : ParameterKind). OperandFits x o) same fits) in
-        let named = subst (λ (y : Operand). HasArray numbers vs y a) slots.1 held in
-        let name : variable_given args 3 ≡ named.0 = ap variable_in_actual at_a ∙ ap (λ (y : Actual). variable_in_actual (Some y)) named.1 in
-        record {
-          array = slots.0;
-          at = ap operand_or_null at_o ∙ slots.1;
-          has = subst (λ (y : Identifier). HasElements numbers slots.0 (lookup y vs)) (sym name) named.2;
-        }
-    by_place (Past at_p at_o at_a) = absurd (let e : None ≡ Some (ArrayVariable t) = sym at_p ∙ is in cc)
+  pub local_array : {ps : List ParameterKind} → AllTogether (IsGiven unit classes space references fields) ps operands args → AllZip (HasArray numbers vs) operands args → slice_get ps 3 ≡ Some (ArrayVariable t) → GivenArray numbers vs operands args
+  local_array all has is = let fourth = at_kind 3 (with_each all has) is in of_array fourth.at fourth.is fourth.given.0 fourth.given.1
 
 -- the first words of its slots are those of its first elements
 words_taken : (numbers : List ℕ) (elements : List ℤ) (n : ℕ) → n ≤ length elements → ((i : ℕ) (z : ℤ) → slice_get elements i ≡ Some z → FitsSigned w32 z × (slice_get numbers i ≡ Some (cast_unsigned w32 z))) → AreWordsOf (take n numbers) (take n elements)

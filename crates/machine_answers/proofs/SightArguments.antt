@@ -22,13 +22,13 @@ use Rattle.semantics.specs.Method.{MethodId}
 use Rattle.semantics.specs.Object.{Object, Reference}
 use Rattle.semantics.specs.Variable.{StaticReference, Empty, Live, Deleted, as_static}
 use Rattle.code_meaning.specs.Coding.{mode_code}
-use Rattle.code_meaning.specs.Does.{ActualFits, OperandFits}
 use Rattle.code_meaning.specs.Fits.{IsReferenceKind}
 use Rattle.machine_scenes.specs.declared.handle.MethodHandle.{MethodHandle}
 use Rattle.machine_scenes.specs.declared.references.Held.{Held}
 use Rattle.machine_scenes.specs.declared.references.Held.TheVariants as held
 use Rattle.machine_scenes.specs.FieldIds.{FieldAgrees, MethodAgrees}
-use Rattle.machine_scenes.specs.Given.{IsGiven, field_at, field_there, method_at, operand_at}
+use Rattle.machine_scenes.specs.Given as given
+use Rattle.machine_scenes.specs.Given.{IsGiven, ReferenceIsGiven, field_at, field_there, method_at, operand_at}
 use Rattle.machine_scenes.specs.HeapAgrees.{HeapAgrees, ReferenceAgrees}
 use Rattle.machine_scenes.specs.Scenes.{Scene}
 use Rattle.machine_scenes.specs.Statics.{held_address, held_argument, holds_deleted, holds_null, static_at}
@@ -94,11 +94,6 @@ static_is scene x y r h = absurd h
 
 -- ---- what a parameter says of an argument
 
--- a parameter of a number takes a word, and no text
-takes_number : (p : ParameterKind) → (p ≡ IntNumber) ⊎ (p ≡ Passed) → takes_word (Some p) operand.Number ≡ true
-takes_number p (inl e) = ap (λ (q : ParameterKind). takes_word (Some q) operand.Number) e
-takes_number p (inr e) = ap (λ (q : ParameterKind). takes_word (Some q) operand.Number) e
-
 -- a parameter of references is one
 is_kind : (p : ParameterKind) → IsReferenceKind p → is_reference_kind (Some p) ≡ true
 is_kind kinds.FieldID h = absurd h
@@ -117,14 +112,10 @@ null_stays false p h = refl
 
 -- ---- one argument
 
-module _ (scene : Scene) (heap : Heap) (agrees : HeapAgrees scene.space heap) (p : ParameterKind) where
-  -- an operand gives what the argument is
-  abbrev Given : Operand → Actual → Type 0
-  Given o a = IsGiven scene.unit scene.classes scene.space scene.references scene.fields o a
-
+module _ (scene : Scene) (heap : Heap) (agrees : HeapAgrees scene.space heap) where
   -- what is seen of an operand with the number and the text of the argument
-  abbrev shown : Operand → Actual → ArgumentSight
-  shown o a = operand_seen scene (Some p) o (number_in_actual (Some a)) (text_in_actual (Some a))
+  abbrev shown : ParameterKind → Operand → Actual → ArgumentSight
+  shown p o a = operand_seen scene (Some p) o (number_in_actual (Some a)) (text_in_actual (Some a))
 
   abbrev sight : Reference → Object → ℤ → List ℕ → FieldId → Option MethodId → ReleaseMode → (d e i k : Bool) → ArgumentSight
   sight r x z t f m n d e i k =
@@ -136,94 +127,49 @@ module _ (scene : Scene) (heap : Heap) (agrees : HeapAgrees scene.space heap) (p
       → sight r x z t f m n d e i k ≡ sight r' x' z t f' m' n' d' e' i' k'
   same_sight a b c d e f g h i = cc
 
-  by_reference : (o : Operand) (x : Identifier) (r : Reference) (s : StaticReference) → ReferenceAgrees scene.space (operand_at scene.references o) r → reference_in_actual (Some (ReferenceActual x s)) ≡ r
+  by_reference : (p : ParameterKind) (o : Operand) (x : Identifier) (r : Reference) (s : StaticReference) → ReferenceAgrees scene.space (operand_at scene.references o) r → reference_in_actual (Some (ReferenceActual x s)) ≡ r
       → field_there scene.classes (field_at scene.fields o) ≡ field_in_actual None → method_seen scene.unit (method_at scene.fields o) ≡ None → mode_seen o ≡ CopyBackAndFree
       → gives_deleted scene.references o ≡ is_deleted (ReferenceActual x s) → null_seen (gives_null scene.references scene.fields o) (Some p) ≡ source.is_null_actual (Some (ReferenceActual x s))
-      → is_number o ≡ false → is_reference (Some p) o ≡ true → shown o (ReferenceActual x s) ≡ source.argument_seen heap (Some (ReferenceActual x s))
-  by_reference o x r s there is field method mode deleted null number reference =
+      → is_number o ≡ false → is_reference (Some p) o ≡ true → shown p o (ReferenceActual x s) ≡ source.argument_seen heap (Some (ReferenceActual x s))
+  by_reference p o x r s there is field method mode deleted null number reference =
       same_sight (name_seen_is scene.space (operand_at scene.references o) r there ∙ sym is)
       (object_seen_is scene.space heap agrees (operand_at scene.references o) r there ∙ ap (λ (q : Reference). source.object_seen heap (name_or_zero q)) (sym is))
       field method mode deleted null number reference
 
-  pub sight_is : (o : Operand) (a : Actual) → OperandFits p o → ActualFits p a → Given o a → shown o a ≡ source.argument_seen heap (Some a)
-  sight_is operand.Number a fits kind h = ap (λ (b : Actual). shown operand.Number b) h.1 ∙ refl ∙ sym (ap (λ (b : Actual). source.argument_seen heap (Some b)) h.1)
-  sight_is operand.Text a fits kind h = ap (λ (b : Actual). shown operand.Text b) h.1 ∙ refl ∙ sym (ap (λ (b : Actual). source.argument_seen heap (Some b)) h.1)
-  sight_is (operand.Array array) a fits kind h = ap (λ (b : Actual). shown (operand.Array array) b) h.1 ∙ refl ∙ sym (ap (λ (b : Actual). source.argument_seen heap (Some b)) h.1)
-  sight_is (operand.Buffer i) a fits kind h = ap (λ (b : Actual). shown (operand.Buffer i) b) h.1 ∙ refl ∙ sym (ap (λ (b : Actual). source.argument_seen heap (Some b)) h.1)
-  sight_is (operand.IsCopy i) a fits kind h = ap (λ (b : Actual). shown (operand.IsCopy i) b) h.1 ∙ refl ∙ sym (ap (λ (b : Actual). source.argument_seen heap (Some b)) h.1)
-  sight_is (operand.Mode mode) a fits kind h =
-      ap (λ (b : Actual). shown (operand.Mode mode) b) h.1
-      ∙ same_sight refl refl refl refl (ap (λ m. mode_seen (operand.Mode m)) h.2 ∙ mode_is h.0) refl refl refl refl
-      ∙ sym (ap (λ (b : Actual). source.argument_seen heap (Some b)) h.1)
-  sight_is (operand.FieldId i) a fits kind h =
-      ap (λ (b : Actual). shown (operand.FieldId i) b) h.is
-      ∙ same_sight refl refl (field_is scene.classes (field_at scene.fields (operand.FieldId i)) h.field h.agrees) refl refl refl
-      (ap (λ (q : ParameterKind). null_seen (is_none (field_at scene.fields (operand.FieldId i))) (Some q)) fits ∙ field_null (is_none (field_at scene.fields (operand.FieldId i))) ∙ no_field_null scene.classes (field_at scene.fields (operand.FieldId i)) h.field h.agrees) refl refl
-      ∙ sym (ap (λ (b : Actual). source.argument_seen heap (Some b)) h.is)
-    where
-      field_null : (b : Bool) → null_seen b (Some kinds.FieldID) ≡ b
-      field_null true = refl
-      field_null false = refl
-  sight_is (operand.MethodId i) a fits kind h =
-      ap (λ (b : Actual). shown (operand.MethodId i) b) h.is
-      ∙ same_sight refl refl refl (method_is scene.unit scene.classes (method_at scene.fields (operand.MethodId i)) h.method h.agrees) refl refl
-      (ap (λ (q : ParameterKind). null_seen (is_none (method_at scene.fields (operand.MethodId i))) (Some q)) fits ∙ method_null (is_none (method_at scene.fields (operand.MethodId i))) ∙ no_method_null scene.unit scene.classes (method_at scene.fields (operand.MethodId i)) h.method h.agrees) refl refl
-      ∙ sym (ap (λ (b : Actual). source.argument_seen heap (Some b)) h.is)
-    where
-      method_null : (b : Bool) → null_seen b (Some kinds.MethodID) ≡ b
-      method_null true = refl
-      method_null false = refl
-  sight_is (operand.Local i) a fits kind h =
-      ap (λ (b : Actual). shown (operand.Local i) b) h.is
-      ∙ by_reference (operand.Local i) h.name h.reference (as_static h.reference) h.agrees (as_it_is h.reference) refl refl refl (not_deleted h.reference)
-      (null_stays (gives_null scene.references scene.fields (operand.Local i)) p (subst (ActualFits p) h.is kind) ∙ no_local_null scene h.name (operand_at scene.references (operand.Local i)) h.reference h.agrees) refl refl
-      ∙ sym (ap (λ (b : Actual). source.argument_seen heap (Some b)) h.is)
-    where
-      as_it_is : (r : Reference) → reference_in_actual (Some (ReferenceActual h.name (as_static r))) ≡ r
-      as_it_is None = refl
-      as_it_is (Some n) = refl
+  as_it_is : (x : Identifier) (r : Reference) → reference_in_actual (Some (ReferenceActual x (as_static r))) ≡ r
+  as_it_is x None = refl
+  as_it_is x (Some n) = refl
 
-      not_deleted : (r : Reference) → false ≡ is_deleted (ReferenceActual h.name (as_static r))
-      not_deleted None = refl
-      not_deleted (Some n) = refl
-  sight_is (operand.Static i) a fits kind h =
-      ap (λ (b : Actual). shown (operand.Static i) b) h.is
-      ∙ (let is = static_is scene h.name (static_at scene.references i) h.reference h.agrees in
-      by_reference (operand.Static i) h.name (reference_in_actual (Some (ReferenceActual h.name h.reference))) h.reference is.name refl refl refl refl is.deleted
-      (null_stays (gives_null scene.references scene.fields (operand.Static i)) p (subst (ActualFits p) h.is kind) ∙ is.null) refl refl)
-      ∙ sym (ap (λ (b : Actual). source.argument_seen heap (Some b)) h.is)
-  sight_is operand.Null a fits kind (inl h) =
-      let is : a ≡ ReferenceActual h.name Empty = h.is ∙ ap (λ (r : Reference). ReferenceActual h.name (as_static r)) (null_only h.reference h.agrees) in
-      let of_reference : IsReferenceKind p = subst (ActualFits p) is kind in
-      ap (λ (b : Actual). shown operand.Null b) is
-      ∙ by_reference operand.Null h.name None Empty tt refl refl refl refl refl (kind_null p of_reference) refl (is_kind p of_reference)
-      ∙ sym (ap (λ (b : Actual). source.argument_seen heap (Some b)) is)
-    where
-      null_only : (r : Reference) → ReferenceAgrees scene.space None r → r ≡ None
-      null_only None h = refl
-      null_only (Some n) h = absurd h
-  sight_is operand.Null a fits kind (inr (inl h)) =
-      let is : a ≡ FieldActual None = h.is ∙ ap FieldActual (null_only h.field h.agrees) in
-      let of_field : p ≡ kinds.FieldID = subst (ActualFits p) is kind in
-      ap (λ (b : Actual). shown operand.Null b) is
-      ∙ same_sight refl refl refl refl refl refl (ap (λ (q : ParameterKind). null_seen true (Some q)) of_field) refl (ap (λ (q : ParameterKind). is_reference_kind (Some q)) of_field)
-      ∙ sym (ap (λ (b : Actual). source.argument_seen heap (Some b)) is)
-    where
-      null_only : (f : Option FieldId) → FieldAgrees scene.classes None f → f ≡ None
-      null_only None h = refl
-      null_only (Some f) h = absurd h
-  sight_is operand.Null a fits kind (inr (inr (inl h))) =
-      let is : a ≡ MethodActual None = h.is ∙ ap MethodActual (null_only h.method h.agrees) in
-      let of_method : p ≡ kinds.MethodID = subst (ActualFits p) is kind in
-      ap (λ (b : Actual). shown operand.Null b) is
-      ∙ same_sight refl refl refl refl refl refl (ap (λ (q : ParameterKind). null_seen true (Some q)) of_method) refl (ap (λ (q : ParameterKind). is_reference_kind (Some q)) of_method)
-      ∙ sym (ap (λ (b : Actual). source.argument_seen heap (Some b)) is)
-    where
-      null_only : (m : Option MethodId) → MethodAgrees scene.unit scene.classes None m → m ≡ None
-      null_only None h = refl
-      null_only (Some m) h = absurd h
-  sight_is operand.Null a fits kind (inr (inr (inr h))) =
-      let of_copy : p ≡ kinds.IsCopy = subst (ActualFits p) h kind in
-      ap (λ (b : Actual). shown operand.Null b) h
-      ∙ same_sight refl refl refl refl refl refl (ap (λ (q : ParameterKind). null_seen true (Some q)) of_copy) refl (ap (λ (q : ParameterKind). is_reference_kind (Some q)) of_copy)
-      ∙ sym (ap (λ (b : Actual). source.argument_seen heap (Some b)) h)
+  not_deleted : (x : Identifier) (r : Reference) → false ≡ is_deleted (ReferenceActual x (as_static r))
+  not_deleted x None = refl
+  not_deleted x (Some n) = refl
+
+  reference_sight : {p : ParameterKind} {o : Operand} {r : StaticReference} → IsReferenceKind p → (x : Identifier) → ReferenceIsGiven scene.space scene.references p o r → shown p o (ReferenceActual x r) ≡ source.argument_seen heap (Some (ReferenceActual x r))
+  reference_sight {p} kind x (given.null takes) = by_reference p operand.Null x None Empty tt refl refl refl refl refl (kind_null p kind) refl (is_kind p kind)
+  reference_sight {p} kind x (given.local {i = i} r takes there) =
+      by_reference p (operand.Local i) x r (as_static r) there (as_it_is x r) refl refl refl (not_deleted x r)
+      (null_stays (gives_null scene.references scene.fields (operand.Local i)) p kind ∙ no_local_null scene x (operand_at scene.references (operand.Local i)) r there) refl refl
+  reference_sight {p} kind x (given.static {i = i} {r = r} takes there) =
+      let is = static_is scene x (static_at scene.references i) r there in
+      by_reference p (operand.Static i) x (reference_in_actual (Some (ReferenceActual x r))) r is.name refl refl refl refl is.deleted
+      (null_stays (gives_null scene.references scene.fields (operand.Static i)) p kind ∙ is.null) refl refl
+
+  field_null : (b : Bool) → null_seen b (Some kinds.FieldID) ≡ b
+  field_null true = refl
+  field_null false = refl
+
+  method_null : (b : Bool) → null_seen b (Some kinds.MethodID) ≡ b
+  method_null true = refl
+  method_null false = refl
+
+  -- what is seen of an operand is what the argument is
+  pub sight_is : {p : ParameterKind} {o : Operand} {a : Actual} → IsGiven scene.unit scene.classes scene.space scene.references scene.fields p o a → shown p o a ≡ source.argument_seen heap (Some a)
+  sight_is (given.reference {x = x} kind there) = reference_sight kind x there
+  sight_is (given.field {i = i} {f = f} there) =
+      let h = field_at scene.fields (operand.FieldId i) in
+      same_sight refl refl (field_is scene.classes h f there) refl refl refl (field_null (is_none h) ∙ no_field_null scene.classes h f there) refl refl
+  sight_is (given.method {i = i} {m = m} there) =
+      let h = method_at scene.fields (operand.MethodId i) in
+      same_sight refl refl refl (method_is scene.unit scene.classes h m there) refl refl (method_null (is_none h) ∙ no_method_null scene.unit scene.classes h m there) refl refl
+  sight_is (given.mode {m = m}) = same_sight refl refl refl refl (mode_is m) refl refl refl refl
+  sight_is h = refl

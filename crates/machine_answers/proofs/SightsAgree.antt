@@ -21,11 +21,14 @@ use Rattle.semantics.specs.CallSight.{ArgumentSight, CallSight}
 use Rattle.semantics.specs.Checks.{go_together, trap_of}
 use Rattle.semantics.specs.Heap.{Heap}
 use Rattle.semantics.specs.Variable.{Variable, Variables}
-use Rattle.code_meaning.specs.Does.{ActualFits, OperandFits, texts_given, words_given}
-use Rattle.machine_scenes.specs.Given.{HasArray, IsGiven, operand_of, operand_or_null}
+use Rattle.code_meaning.specs.Does as list
+use Rattle.code_meaning.specs.Does.{AllTogether, texts_given, words_given}
+use Rattle.machine_scenes.specs.Given as given
+use Rattle.machine_scenes.specs.Given.{HasArray, IsGiven, ReferenceIsGiven, operand_of, operand_or_null}
 use Rattle.machine_scenes.specs.HeapAgrees.{HeapAgrees}
 use Rattle.machine_scenes.specs.Scenes.{Scene}
 use Rattle.machine_answers.specs.Sights.{argument_seen, each_seen, element_wanted, elements_seen, kinds, number_at, operand_seen, takes_word, text_seen, texts_of, words_of, array_in}
+use Rattle.machine_answers.proofs.ArgumentPlaces.{Place, There, Past, at_kind, place_at, with_each}
 use Rattle.machine_answers.proofs.SightArguments.{sight_is}
 use Rattle.machine_answers.proofs.SightPlaces.{number_is, text_is}
 use Rattle.tables.specs.Locals.{LocalTable, popped}
@@ -50,7 +53,10 @@ use Rattle.machine_scenes.specs.Buffers.{Acquired}
 use Rattle.machine_scenes.specs.FieldIds.{FieldAgrees}
 use Rattle.machine_scenes.specs.Given.{field_at, field_there, name_there, operand_at}
 use Rattle.machine_scenes.specs.StoreAgrees.{HeldAgrees}
-use Rattle.machine_scenes.specs.Statics.{static_at}
+use Rattle.machine_scenes.specs.Statics.{References, static_at}
+use Rattle.machine_scenes.specs.declared.handle.Handle.{Handle}
+use Rattle.syntax.specs.Tree.{SourceUnit}
+use Rattle.class_rules.specs.Class.{Classes}
 use Rattle.machine_scenes.proofs.LocalFrames.{frame_ended, full_where}
 use Rattle.semantics.specs.Object.{Object, Reference}
 use Rattle.monitors.specs.Monitors.{monitor_of}
@@ -62,24 +68,6 @@ use Rattle.machine_answers.proofs.TrapsSeen.{depth_last, trap_without}
 use Rattle.semantics.proofs.CheckLaws.{together_without}
 use Rattle.machine_answers.proofs.SightParts.{name_is, name_seen_is, object_there_is, still_kind}
 
--- what stands at a place of a call's arguments, or that none does
-pub data Place (G : Operand → Actual → Type 0) (ps : List ParameterKind) (os : List Operand) (args : List Actual) (i : ℕ) : Type 0 where
-  There : (p : ParameterKind) (o : Operand) (a : Actual) → slice_get ps i ≡ Some p → slice_get os i ≡ Some o → slice_get args i ≡ Some a → OperandFits p o → ActualFits p a → G o a → Place G ps os args i
-  Past : slice_get ps i ≡ None → slice_get os i ≡ None → slice_get args i ≡ None → Place G ps os args i
-
-pub place_at : (G : Operand → Actual → Type 0) (i : ℕ) (ps : List ParameterKind) (os : List Operand) (args : List Actual) → AllZip OperandFits ps os → AllZip ActualFits ps args → AllZip G os args → Place G ps os args i
-place_at G i [] [] [] f k g = Past refl refl refl
-place_at G i [] (o ∷ os) args f k g = absurd f
-place_at G i (p ∷ ps) [] args f k g = absurd f
-place_at G i [] [] (a ∷ args) f k g = absurd k
-place_at G i (p ∷ ps) (o ∷ os) [] f k g = absurd k
-place_at G zero (p ∷ ps) (o ∷ os) (a ∷ args) f k g = There p o a refl refl refl f.0 k.0 g.0
-place_at G (suc i) (p ∷ ps) (o ∷ os) (a ∷ args) f k g = by_rest (place_at G i ps os args f.1 k.1 g.1)
-  where
-    by_rest : Place G ps os args i → Place G (p ∷ ps) (o ∷ os) (a ∷ args) (suc i)
-    by_rest (There q r b at_p at_o at_a fits kind given) = There q r b at_p at_o at_a fits kind given
-    by_rest (Past at_p at_o at_a) = Past at_p at_o at_a
-
 -- as many are seen as there are, each as it is
 each_is : (seen : ℕ → ArgumentSight) (is : Actual → ArgumentSight) (os : List Operand) (args : List Actual) → length os ≡ length args → ((i : ℕ) (a : Actual) → slice_get args i ≡ Some a → seen i ≡ is a) → each_seen seen os ≡ map is args
 each_is seen is [] [] count h = refl
@@ -89,22 +77,19 @@ each_is seen is (o ∷ os) (a ∷ args) count h =
     ap (λ (s : ArgumentSight). s ∷ each_seen (λ i. seen (suc i)) os) (h 0 a refl)
     ∙ ap (λ (ss : List ArgumentSight). is a ∷ ss) (each_is (λ i. seen (suc i)) is os args (let e : length os ≡ length args = cc in e) (λ i b e. h (suc i) b e))
 
-as_many : (G : Operand → Actual → Type 0) (os : List Operand) (args : List Actual) → AllZip G os args → length os ≡ length args
-as_many G [] [] h = refl
-as_many G [] (a ∷ args) h = absurd h
-as_many G (o ∷ os) [] h = absurd h
-as_many G (o ∷ os) (a ∷ args) h = ap suc (as_many G os args h.1)
+as_many : {G : ParameterKind → Operand → Actual → Type 0} {ps : List ParameterKind} {os : List Operand} {args : List Actual} → AllTogether G ps os args → length os ≡ length args
+as_many list.none = refl
+as_many (list.more h rest) = ap suc (as_many rest)
 
 -- a call that sees this, with the arguments of the source's call
 module _ (scene : Scene) (locals : LocalTable) (callers : ℕ) (call : Call) (heap : Heap) (args : List Actual) (agrees : HeapAgrees scene.space heap)
-    (fits : AllZip OperandFits (parameters_for call.function (length args)) call.operands) (kind : AllZip ActualFits (parameters_for call.function (length args)) args)
-    (given : AllZip (IsGiven scene.unit scene.classes scene.space scene.references scene.fields) call.operands args)
+    (all : AllTogether (IsGiven scene.unit scene.classes scene.space scene.references scene.fields) (parameters_for call.function (length args)) call.operands args)
     (words : scene.stack ≡ words_given args) (texts : call.texts ≡ texts_given args) where
-  abbrev Given : Operand → Actual → Type 0
-  Given o a = IsGiven scene.unit scene.classes scene.space scene.references scene.fields o a
+  abbrev Given : ParameterKind → Operand → Actual → Type 0
+  Given p o a = IsGiven scene.unit scene.classes scene.space scene.references scene.fields p o a
 
   count : length call.operands ≡ length args
-  count = as_many Given call.operands args given
+  count = as_many all
 
   -- the kinds of the parameters, by the operands or the arguments
   same_kinds : kinds scene locals callers call ≡ parameters_for call.function (length args)
@@ -114,7 +99,7 @@ module _ (scene : Scene) (locals : LocalTable) (callers : ℕ) (call : Call) (he
   pub argument_is : (i : ℕ) → argument_seen scene locals callers call i ≡ source.argument_seen heap (slice_get args i)
   argument_is i =
       ap (λ (ps : List ParameterKind). by_kinds ps) same_kinds
-      ∙ by_place (place_at Given i (parameters_for call.function (length args)) call.operands args fits kind given)
+      ∙ by_place (place_at i all)
     where
       by_kinds : List ParameterKind → ArgumentSight
       by_kinds ps =
@@ -123,7 +108,7 @@ module _ (scene : Scene) (locals : LocalTable) (callers : ℕ) (call : Call) (he
           (text_seen call.texts (slice_get ps i) (texts_of (take i ps)))
 
       by_place : Place Given (parameters_for call.function (length args)) call.operands args i → by_kinds (parameters_for call.function (length args)) ≡ source.argument_seen heap (slice_get args i)
-      by_place (There p o a at_p at_o at_a fit is_kind is_given) =
+      by_place (There p o a at_p at_o at_a h) =
           ap (λ (q : Option ParameterKind). operand_seen scene q (operand_of call.operands i)
           (if takes_word q (operand_of call.operands i) then number_at scene.stack (words_of (drop (suc i) (parameters_for call.function (length args))) (drop (suc i) call.operands)) else pos 0)
           (text_seen call.texts q (texts_of (take i (parameters_for call.function (length args)))))) at_p
@@ -131,10 +116,10 @@ module _ (scene : Scene) (locals : LocalTable) (callers : ℕ) (call : Call) (he
           (if takes_word (Some p) (operand_or_null r) then number_at scene.stack (words_of (drop (suc i) (parameters_for call.function (length args))) (drop (suc i) call.operands)) else pos 0)
           (text_seen call.texts (Some p) (texts_of (take i (parameters_for call.function (length args)))))) at_o
           ∙ ap (λ z. operand_seen scene (Some p) o z (text_seen call.texts (Some p) (texts_of (take i (parameters_for call.function (length args))))))
-          (number_is scene i (parameters_for call.function (length args)) call.operands args p o a kind given words at_a is_kind is_given)
+          (number_is scene i all words at_a h)
           ∙ ap (λ (t : List ℕ). operand_seen scene (Some p) o (number_in_actual (Some a)) t)
-          (text_is call.texts i (parameters_for call.function (length args)) args p a kind texts at_a is_kind)
-          ∙ sight_is scene heap agrees p o a fit is_kind is_given
+          (text_is scene i all texts at_a h)
+          ∙ sight_is scene heap agrees h
           ∙ sym (ap (source.argument_seen heap) at_a)
       by_place (Past at_p at_o at_a) =
           ap (λ (q : Option ParameterKind). operand_seen scene q (operand_of call.operands i)
@@ -169,30 +154,21 @@ held_is space held.Deleted Deleted h = refl
 held_is space x r h = absurd h
 
 -- an array is given where one is asked for
-array_is : (numbers : List ℕ) (vs : Variables) (T : ElementType) (o : Operand) (a : Actual) → OperandFits (ArrayVariable T) o → HasArray numbers vs o a
+array_is : (numbers : List ℕ) (vs : Variables) {T : ElementType} {unit : SourceUnit} {classes : Classes} {space : Space} {references : References} {fields : List (Option Handle)} {o : Operand} {a : Actual} → IsGiven unit classes space references fields (ArrayVariable T) o a → HasArray numbers vs o a
     → (array_in o).len ≡ length (local_array (lookup (variable_in_actual (Some a)) vs))
-array_is numbers vs T (operand.Array array) a fits h =
+array_is numbers vs given.array h =
     sym (ap (λ (b : Actual). length (local_array (lookup (variable_in_actual (Some b)) vs))) h.1 ∙ ap (λ (v : Option Variable). length (local_array v)) h.2.is ∙ h.2.count)
-array_is numbers vs T operand.Number a (inl e) h = absurd (cc)
-array_is numbers vs T operand.Number a (inr e) h = absurd (cc)
-array_is numbers vs T (operand.FieldId i) a fits h = absurd (cc)
-array_is numbers vs T (operand.MethodId i) a fits h = absurd (cc)
-array_is numbers vs T operand.Text a fits h = absurd (cc)
-array_is numbers vs T operand.Null a fits h = absurd fits
-array_is numbers vs T (operand.Local i) a fits h = absurd fits
-array_is numbers vs T (operand.Static i) a fits h = absurd fits
-array_is numbers vs T (operand.Buffer i) a fits h = absurd (let e = fits.1 in cc)
-array_is numbers vs T (operand.Mode mode) a fits h = absurd (cc)
-array_is numbers vs T (operand.IsCopy i) a fits h = absurd (cc)
+array_is numbers vs (given.reference kind there) h = absurd kind
 
 -- a field ID is NULL or that of a field
-known_field : (scene : Scene) (o : Operand) (a : Actual) → IsGiven scene.unit scene.classes scene.space scene.references scene.fields o a → (h : FieldHandle) → field_at scene.fields o ≡ Some h → IsSome (field_of scene.classes h)
-known_field scene (operand.FieldId i) a given h e = by_field given.field (subst (λ (x : Option FieldHandle). FieldAgrees scene.classes x given.field) e given.agrees)
+known_field : (scene : Scene) {p : ParameterKind} {o : Operand} {a : Actual} → IsGiven scene.unit scene.classes scene.space scene.references scene.fields p o a → (h : FieldHandle) → field_at scene.fields o ≡ Some h → IsSome (field_of scene.classes h)
+known_field scene (given.field {f = f} there) h e = by_field f (subst (λ (x : Option FieldHandle). FieldAgrees scene.classes x f) e there)
   where
     by_field : (f : Option FieldId) → FieldAgrees scene.classes (Some h) f → IsSome (field_of scene.classes h)
     by_field None agrees = absurd agrees
     by_field (Some f) agrees = ap is_some agrees
-known_field scene o a given h e = absurd (cc)
+known_field scene (given.reference kind (given.null takes)) h e = absurd (cc)
+known_field scene there h e = absurd (cc)
 
 -- a parameter for a static alone is given one
 abbrev IsOfStatics : ParameterKind → Type 0
@@ -200,32 +176,17 @@ IsOfStatics StaticVariable = Unit {0}
 IsOfStatics WeakVariable = Unit {0}
 IsOfStatics p = ⊥
 
-statics_alone : (p : ParameterKind) (o : Operand) → IsOfStatics p → OperandFits p o → (i : ℕ) × (o ≡ operand.Static i)
-statics_alone p (operand.Static i) is fits = (i, refl)
-statics_alone p operand.Number is (inl e) = absurd (subst IsOfStatics e is)
-statics_alone p operand.Number is (inr e) = absurd (subst IsOfStatics e is)
-statics_alone p (operand.FieldId i) is fits = absurd (subst IsOfStatics fits is)
-statics_alone p (operand.MethodId i) is fits = absurd (subst IsOfStatics fits is)
-statics_alone p operand.Text is fits = absurd (subst IsOfStatics fits is)
-statics_alone StaticVariable operand.Null is fits = absurd fits
-statics_alone WeakVariable operand.Null is fits = absurd fits
-statics_alone StaticVariable (operand.Local i) is fits = absurd fits
-statics_alone WeakVariable (operand.Local i) is fits = absurd fits
-statics_alone p operand.Null is fits = absurd is
-statics_alone p (operand.Local i) is fits = absurd is
-statics_alone p (operand.Array array) is fits = absurd (subst IsOfStatics fits.1 is)
-statics_alone p (operand.Buffer i) is fits = absurd (subst IsOfStatics fits.1 is)
-statics_alone p (operand.Mode mode) is fits = absurd (subst IsOfStatics fits is)
-statics_alone p (operand.IsCopy i) is fits = absurd (subst IsOfStatics fits is)
+statics_alone : {space : Space} {references : References} {p : ParameterKind} {o : Operand} {r : StaticReference} → IsOfStatics p → ReferenceIsGiven space references p o r → (i : ℕ) × (o ≡ operand.Static i)
+statics_alone of (given.static {i = i} takes agrees) = (i, refl)
+statics_alone {p = StaticVariable} of (given.null takes) = absurd takes
+statics_alone {p = WeakVariable} of (given.null takes) = absurd takes
+statics_alone {p = StaticVariable} of (given.local r takes agrees) = absurd takes
+statics_alone {p = WeakVariable} of (given.local r takes agrees) = absurd takes
+statics_alone of h = absurd of
 
--- the kind at a place
-kind_at : {r : Option ParameterKind} (q : ParameterKind) → r ≡ Some q → (r ≡ Some StaticVariable) ⊎ (r ≡ Some WeakVariable) → (q ≡ StaticVariable) ⊎ (q ≡ WeakVariable)
-kind_at q e (inl f) = inl (cc)
-kind_at q e (inr f) = inr (cc)
-
-no_kind : {r : Option ParameterKind} → r ≡ None → (r ≡ Some StaticVariable) ⊎ (r ≡ Some WeakVariable) → ⊥
-no_kind e (inl f) = absurd (cc)
-no_kind e (inr f) = absurd (cc)
+static_alone : {unit : SourceUnit} {classes : Classes} {space : Space} {references : References} {fields : List (Option Handle)} {p : ParameterKind} {o : Operand} {a : Actual} → IsOfStatics p → IsGiven unit classes space references fields p o a → (i : ℕ) × (o ≡ operand.Static i)
+static_alone of (given.reference kind there) = statics_alone of there
+static_alone of h = absurd of
 
 -- ---- the call
 
@@ -239,7 +200,7 @@ module _ (p : Lowered) (w : World) (store : Store) (pending : Option ℕ) (activ
   seen i = argument_seen scene activation.locals (length s.callers) call i
 
   same : (i : ℕ) → seen i ≡ source.argument_seen shared.heap (slice_get args i)
-  same i = argument_is scene activation.locals (length s.callers) call shared.heap args h.store_agrees.heap h.kinds h.fit h.given h.words h.texts i
+  same i = argument_is scene activation.locals (length s.callers) call shared.heap args h.store_agrees.heap h.given h.words h.texts i
 
   -- the class object of a class of the table
   declaring_is : (c : ℕ) → (c ≡ 0) ⊎ (c ≤ length w.classes) → object_seen store.heap (class_object_seen store.loaded.items c) ≡ source.object_seen shared.heap c
@@ -260,7 +221,7 @@ module _ (p : Lowered) (w : World) (store : Store) (pending : Option ℕ) (activ
 
   -- the class that declares the field of the second argument is one of the table
   class_within_table : (field_there w.classes (field_at scene.fields (operand_of call.operands 1))).class ≡ 0 ⊎ ((field_there w.classes (field_at scene.fields (operand_of call.operands 1))).class ≤ length w.classes)
-  class_within_table = by_place (place_at (IsGiven scene.unit scene.classes scene.space scene.references scene.fields) 1 (parameters_for call.function (length args)) call.operands args h.kinds h.fit h.given)
+  class_within_table = by_place (place_at 1 h.given)
     where
       by_handle : (o : Option Operand) (x : Option FieldHandle) → field_at scene.fields (operand_or_null o) ≡ x → ((i : FieldHandle) → x ≡ Some i → IsSome (field_of w.classes i))
           → ((field_there w.classes x).class ≡ 0) ⊎ ((field_there w.classes x).class ≤ length w.classes)
@@ -269,9 +230,9 @@ module _ (p : Lowered) (w : World) (store : Store) (pending : Option ℕ) (activ
 
       by_place : Place (IsGiven scene.unit scene.classes scene.space scene.references scene.fields) (parameters_for call.function (length args)) call.operands args 1
           → ((field_there w.classes (field_at scene.fields (operand_of call.operands 1))).class ≡ 0) ⊎ ((field_there w.classes (field_at scene.fields (operand_of call.operands 1))).class ≤ length w.classes)
-      by_place (There q o a at_p at_o at_a fits kind given) =
+      by_place (There q o a at_p at_o at_a there) =
           by_handle (slice_get call.operands 1) (field_at scene.fields (operand_of call.operands 1)) refl
-          (λ i e. known_field scene o a given i (sym (ap (λ (x : Option Operand). field_at scene.fields (operand_or_null x)) at_o) ∙ e))
+          (λ i e. known_field scene there i (sym (ap (λ (x : Option Operand). field_at scene.fields (operand_or_null x)) at_o) ∙ e))
       by_place (Past at_p at_o at_a) = inl (ap (λ (x : Option Operand). (field_there w.classes (field_at scene.fields (operand_or_null x))).class) at_o)
 
   elements_are : elements_seen (slice_get (prototype call.function).parameters 3) (operand_of call.operands 3) ≡ source.elements_seen s.variables (slice_get (prototype call.function).parameters 3) (variable_given args 3)
@@ -280,19 +241,16 @@ module _ (p : Lowered) (w : World) (store : Store) (pending : Option ℕ) (activ
       fourth : (q : ParameterKind) → slice_get (prototype call.function).parameters 3 ≡ Some q → slice_get (parameters_for call.function (length args)) 3 ≡ Some q
       fourth q e = still_kind (prototype call.function).parameters _ 3 q e
 
-      by_place : (T : ElementType) → slice_get (parameters_for call.function (length args)) 3 ≡ Some (ArrayVariable T)
-          → Place (HasArray activation.slots.numbers.items s.variables) (parameters_for call.function (length args)) call.operands args 3
-          → (array_in (operand_of call.operands 3)).len ≡ length (local_array (lookup (variable_given args 3) s.variables))
-      by_place T is (There q o a at_p at_o at_a fits kind given) =
-          let same_kind : q ≡ ArrayVariable T = let e : Some q ≡ Some (ArrayVariable T) = sym at_p ∙ is in cc in
-          ap (λ (x : Option Operand). (array_in (operand_or_null x)).len) at_o
-          ∙ array_is activation.slots.numbers.items s.variables T o a (subst (λ (r : ParameterKind). OperandFits r o) same_kind fits) given
-          ∙ sym (ap (λ (x : Option Actual). length (local_array (lookup (variable_in_actual x) s.variables))) at_a)
-      by_place T is (Past at_p at_o at_a) = absurd (let e : None ≡ Some (ArrayVariable T) = sym at_p ∙ is in cc)
+      by_place : {T : ElementType} → slice_get (parameters_for call.function (length args)) 3 ≡ Some (ArrayVariable T) → (array_in (operand_of call.operands 3)).len ≡ length (local_array (lookup (variable_given args 3) s.variables))
+      by_place is =
+          let fourth = at_kind 3 (with_each h.given h.arrays) is in
+          ap (λ (x : Option Operand). (array_in (operand_or_null x)).len) fourth.at
+          ∙ array_is activation.slots.numbers.items s.variables fourth.given.0 fourth.given.1
+          ∙ sym (ap (λ (x : Option Actual). length (local_array (lookup (variable_in_actual x) s.variables))) fourth.is)
 
       by_kind : (q : Option ParameterKind) → slice_get (prototype call.function).parameters 3 ≡ q → elements_seen q (operand_of call.operands 3) ≡ source.elements_seen s.variables q (variable_given args 3)
       by_kind (Some (ArrayVariable T)) e =
-          by_place T (fourth (ArrayVariable T) e) (place_at (HasArray activation.slots.numbers.items s.variables) 3 (parameters_for call.function (length args)) call.operands args h.kinds h.fit h.arrays)
+          by_place (fourth (ArrayVariable T) e)
       by_kind q e = refl
 
   monitor_alike : option_map monitor_seen (monitor_of store.monitors (name_there store.heap (operand_at scene.references (operand_of call.operands 0))))
@@ -308,7 +266,7 @@ module _ (p : Lowered) (w : World) (store : Store) (pending : Option ℕ) (activ
   pub others_agree : {o o' : Option StaticReference} → o ≡ o' → record (call_seen scene activation.locals (length s.callers) call) { held = o } ≡ record (source.sight_of_call shared s call.function args) { held = o' }
   others_agree held_alike =
       let declares = declaring_is (field_there w.classes (field_at scene.fields (operand_of call.operands 1))).class class_within_table ∙ ap (λ (a : ArgumentSight). source.object_seen shared.heap a.field.class) (same 1) in
-      let all = arguments_are scene activation.locals (length s.callers) call shared.heap args h.store_agrees.heap h.kinds h.fit h.given h.words h.texts in
+      let all = arguments_are scene activation.locals (length s.callers) call shared.heap args h.store_agrees.heap h.given h.words h.texts in
       let room = full_where store.heap activation.locals s.frames h.frames_agree in
       let below = full_where store.heap (popped activation.locals) (drop 1 s.frames) (frame_ended store.heap activation.locals s.frames h.frames_agree) in
       whole all (same 0) (same 1) (same 2) declares monitor_alike elements_are held_alike (name_seen_is store.heap pending s.pending h.pending_agrees) (sym room) (sym below)
@@ -353,20 +311,19 @@ module _ (p : Lowered) (w : World) (store : Store) (pending : Option ℕ) (activ
 
   -- the first operand of a function that ends the reference of a static is a static
   pub static_given : deletes_static call.function ≡ true → (i : ℕ) × (operand_of call.operands 0 ≡ operand.Static i)
-  static_given deletes_one = by_place (place_at (IsGiven scene.unit scene.classes scene.space scene.references scene.fields) 0 (parameters_for call.function (length args)) call.operands args h.kinds h.fit h.given)
+  static_given deletes_one = by_kind (first_kind call.function deletes_one)
     where
       first_kind : (f : JniFunction) → deletes_static f ≡ true → (slice_get (parameters_for f (length args)) 0 ≡ Some StaticVariable) ⊎ (slice_get (parameters_for f (length args)) 0 ≡ Some WeakVariable)
       first_kind DeleteGlobalRef e = inl refl
       first_kind DeleteWeakGlobalRef e = inr refl
       first_kind f e = absurd (cc)
 
-      by_operand : (q : ParameterKind) (o : Operand) → OperandFits q o → (q ≡ StaticVariable) ⊎ (q ≡ WeakVariable) → (i : ℕ) × (o ≡ operand.Static i)
-      by_operand q o fits (inl e) = statics_alone StaticVariable o tt (subst (λ (r : ParameterKind). OperandFits r o) e fits)
-      by_operand q o fits (inr e) = statics_alone WeakVariable o tt (subst (λ (r : ParameterKind). OperandFits r o) e fits)
+      of_kind : {q : ParameterKind} → IsOfStatics q → slice_get (parameters_for call.function (length args)) 0 ≡ Some q → (i : ℕ) × (operand_of call.operands 0 ≡ operand.Static i)
+      of_kind of e = let first = at_kind 0 h.given e in let is = static_alone of first.given in (is.0, ap operand_or_null first.at ∙ is.1)
 
-      by_place : Place (IsGiven scene.unit scene.classes scene.space scene.references scene.fields) (parameters_for call.function (length args)) call.operands args 0 → (i : ℕ) × (operand_of call.operands 0 ≡ operand.Static i)
-      by_place (There q o a at_p at_o at_a fits kind given) = let is = by_operand q o fits (kind_at q at_p (first_kind call.function deletes_one)) in (is.0, ap operand_or_null at_o ∙ is.1)
-      by_place (Past at_p at_o at_a) = absurd (no_kind at_p (first_kind call.function deletes_one))
+      by_kind : (slice_get (parameters_for call.function (length args)) 0 ≡ Some StaticVariable) ⊎ (slice_get (parameters_for call.function (length args)) 0 ≡ Some WeakVariable) → (i : ℕ) × (operand_of call.operands 0 ≡ operand.Static i)
+      by_kind (inl e) = of_kind tt e
+      by_kind (inr e) = of_kind tt e
 
   -- what is deleted is there
   held_alike : deleted_seen scene call.function (operand_of call.operands 0) ≡ source.held_seen shared.statics call.function (variable_given args 0)

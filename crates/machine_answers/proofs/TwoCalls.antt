@@ -14,7 +14,7 @@ use Rattle.semantics.specs.Heap.{class_of, object_at}
 use Rattle.semantics.specs.Object.{Object, Reference}
 use Rattle.semantics.specs.World.{loaded_objects}
 use Rattle.semantics_typing.proofs.TableKinds.{grown_long}
-use Rattle.code_meaning.specs.Does.{OperandFits}
+use Rattle.code_meaning.specs.Does.{AllTogether}
 use Rattle.code_meaning.specs.Fits.{IsReferenceKind}
 use Rattle.machine_scenes.specs.declared.handle.Handle.{Handle}
 use Rattle.machine_scenes.specs.Buffers.{Acquired, acquired_by, beside}
@@ -23,7 +23,7 @@ use Rattle.machine_scenes.specs.NewObjects.{IsMakeable}
 use Rattle.machine_answers.specs.Asked.{references_of}
 use Rattle.machine_scenes.specs.Statics.{References}
 use Rattle.machine_answers.specs.Checked.{some_misfit, some_missing, may_be_null}
-use Rattle.machine_scenes.specs.Given.{operand_at, operand_of, class_there}
+use Rattle.machine_scenes.specs.Given.{IsGiven, operand_at, operand_of, class_there}
 use Rattle.machine_scenes.specs.HeapAgrees.{ReferenceAgrees}
 use Rattle.machine_answers.specs.Sights.{name_seen}
 use Rattle.machine_answers.specs.WorkedOut.{class_object}
@@ -57,7 +57,7 @@ module _ (both : TwoCalls) where
   at i = operand_at references (operand_of call.operands i)
 
   pub agrees : (f : JniFunction) → Asked both f → (i : ℕ) → ReferenceAgrees store.heap (at i) (reference_given args i)
-  agrees f h i = reference_at_place (unit both) w.classes store.heap references fields call.operands args i h.given
+  agrees f h i = reference_at_place (unit both) w.classes store.heap references fields i h.given
 
   pub table_of : (f : JniFunction) → Asked both f → (c : ℕ) → 0 < c → c ≤ length w.classes → ReferenceAgrees store.heap (class_object store.loaded.items (Some c)) (Some c)
   table_of f h c low high = class_object_is store.heap store.loaded.items (length (loaded_objects w)) c h.store_agrees.table low (omega (arith, high, classes_loaded w))
@@ -84,7 +84,7 @@ module _ (both : TwoCalls) where
   pub object_given_at : (f : JniFunction) (before : List ParameterKind) (q : ParameterKind) (after : List ParameterKind) → IsReferenceKind q → may_be_null q ≡ false → parameters_for f (length args) ≡ before ++ q ∷ after → Asked both f
       → Passes both → GivenObject (unit both) w.classes store.heap references fields call.operands args (length before)
   object_given_at f before q after kind never are h free =
-      object_at_place (unit both) w.classes store.heap references fields before q after kind never call.operands args (subst (λ (l : List ParameterKind). AllZip OperandFits l call.operands) are h.kinds) h.given
+      object_at_place (unit both) w.classes store.heap references fields before q after kind never (subst (λ (l : List ParameterKind). AllTogether (IsGiven (unit both) w.classes store.heap references fields) l call.operands args) are h.given)
       (none_deleted p w store pending activation call others k owner shared s target f args h free)
       (subst (λ (l : List ParameterKind). some_missing references fields l call.operands ≡ false) are (none_lacking p w store pending activation call others k owner shared s target f args h free))
 
@@ -99,7 +99,6 @@ module _ (both : TwoCalls) where
       let object = object_of f h given.address given.name given.named in
       let class : class_of shared.heap given.name ≡ object.0.class = ap (λ (o : Option Object). option_map_or (λ (x : Object). x.class) o 0) object.1 in
       let of_class : class_there store.heap given.address ≡ class_class = is_class (unit both) w.classes store.heap references fields before after call.operands given.address given.at
-      (subst (λ (l : List ParameterKind). AllZip OperandFits l call.operands) are h.kinds)
       (subst (λ (l : List ParameterKind). some_misfit w.classes store.heap references l call.operands ≡ false) are (none_unfit p w store pending activation call others k owner shared s target f args h free)) in
       let same : object.0.class ≡ class_class = sym class ∙ sym (class_is (unit both) w.classes store.heap references fields shared.heap h.store_agrees.heap.blocks given.address given.name given.named) ∙ of_class in
       let name : name_or_zero (name_seen store.heap (at (length before))) ≡ given.name = ap (λ (o : Option ℕ). name_or_zero (name_seen store.heap o)) given.at ∙ ap name_or_zero given.named in

@@ -24,7 +24,7 @@ use Rattle.semantics.specs.Variable.{StaticReference}
 use Rattle.semantics.specs.World.{World}
 use Rattle.semantics_safety.specs.StepSafe.{came_from}
 use Rattle.semantics_typing.specs.Objects.{AreTypedObjects, AreTypedVariables}
-use Rattle.code_meaning.specs.Does.{OperandFits, ActualFits, words_given, texts_given}
+use Rattle.code_meaning.specs.Does.{AllTogether, words_given, texts_given}
 use Rattle.code_meaning.specs.Lowered.{Lowered}
 use Rattle.code_meaning.specs.Slots.{static_index}
 use Rattle.machine_scenes.specs.declared.store.Store.{Store}
@@ -99,9 +99,8 @@ pub record IsAsked (p : Lowered) (w : World) (store : Store) (pending : Option �
   pub frames_agree : FramesAgree store.heap activation.locals s.frames
   pub same_function : call.function ≡ f
   pub count : length args ≡ length (parameters_for f (length args))
-  pub kinds : AllZip OperandFits (parameters_for f (length args)) call.operands
-  pub fit : AllZip ActualFits (parameters_for f (length args)) args
-  pub given : AllZip (IsGiven (unit_tree p.unit) w.classes store.heap (references_of store activation) activation.slots.fields.items) call.operands args
+  pub given : AllTogether (IsGiven (unit_tree p.unit) w.classes store.heap (references_of store activation) activation.slots.fields.items)
+      (parameters_for f (length args)) call.operands args
   pub arrays : AllZip (HasArray activation.slots.numbers.items s.variables) call.operands args
   pub buffers : AllZip (HasBuffer store.heap (buffers_of store activation owner) s.variables) call.operands args
   pub key : f ≡ DeleteLocalRef → IsKeyGiven store.heap activation.locals (key_at (references_of store activation) (operand_of call.operands 0))

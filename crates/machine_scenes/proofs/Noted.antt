@@ -35,7 +35,6 @@ use Rattle.machine_scenes.specs.declared.references.Held.{Held}
 use Rattle.machine_scenes.specs.declared.store.Store.{Store}
 use Rattle.machine_scenes.specs.Buffers as in_slot
 use Rattle.machine_scenes.specs.Buffers.{Acquired, AreViewed, BufferAgrees, BuffersAgree, HeldBuffers, HoldsBuffer, IsTaken, viewed_in}
-use Rattle.machine_scenes.specs.Given.{AreAddresses, HasBuffer, IsGiven, ReferenceIsGiven, StaticIsGiven, operand_at}
 use Rattle.machine_scenes.specs.HeapAgrees.{BlockAgrees, BlocksAgree, HeapAgrees, IsTable, NamesAgree, ReferenceAgrees, SlotsAgree, ValueAgrees, ValuesAgree, times}
 use Rattle.machine_scenes.specs.Locals.{FramesAgree, IsKeyOf, KeysAgree}
 use Rattle.machine_scenes.specs.NewObjects.{Describes, IsObject}
@@ -132,48 +131,6 @@ module _ (space : Space) (o : Option Marks) where
 
   pub are_viewed_noted : (slots : List Buffer) (t : Thread) → AreViewed space slots t → AreViewed noted_space slots t
   are_viewed_noted slots t h = λ n. subst (λ (names : List ℕ). times n names ≤ times n (objects_viewed t.variables)) (sym (viewed_noted slots)) (h n)
-
-  pub holds_buffer_noted : (buffers : HeldBuffers) (slot : ℕ) (v : Option Variable) → HoldsBuffer space buffers slot v → HoldsBuffer noted_space buffers slot v
-  holds_buffer_noted buffers slot v h = record { type = h.type; buffer = h.buffer; is = h.is; held = h.held; there = h.there; agrees = buffer_noted h.agrees }
-
-  -- ---- what operands give
-
-  pub reference_given_noted : (references : References) (x : Operand) (actual : Actual) → ReferenceIsGiven space references x actual → ReferenceIsGiven noted_space references x actual
-  reference_given_noted references x actual h = record { name = h.name; reference = h.reference; is = h.is; agrees = reference_noted (operand_at references x) h.reference h.agrees }
-
-  pub static_given_noted : (references : References) (i : ℕ) (actual : Actual) → StaticIsGiven space references i actual → StaticIsGiven noted_space references i actual
-  static_given_noted references i actual h = record { name = h.name; reference = h.reference; is = h.is; agrees = held_noted (held_argument (static_at references i)) h.reference h.agrees }
-
-  pub given_noted : (unit : SourceUnit) (classes : Classes) (references : References) (fields : List (Option Handle)) (x : Operand) (actual : Actual) → IsGiven unit classes space references fields x actual → IsGiven unit classes noted_space references fields x actual
-  given_noted unit classes references fields operand.Null actual (inl h) = inl (reference_given_noted references operand.Null actual h)
-  given_noted unit classes references fields operand.Null actual (inr h) = inr h
-  given_noted unit classes references fields (operand.Local i) actual h = reference_given_noted references (operand.Local i) actual h
-  given_noted unit classes references fields (operand.Static i) actual h = static_given_noted references i actual h
-  given_noted unit classes references fields operand.Number actual h = h
-  given_noted unit classes references fields (operand.FieldId i) actual h = h
-  given_noted unit classes references fields (operand.MethodId i) actual h = h
-  given_noted unit classes references fields operand.Text actual h = h
-  given_noted unit classes references fields (operand.Array array) actual h = h
-  given_noted unit classes references fields (operand.Buffer i) actual h = h
-  given_noted unit classes references fields (operand.Mode mode) actual h = h
-  given_noted unit classes references fields (operand.IsCopy i) actual h = h
-
-  pub has_buffer_noted : (buffers : HeldBuffers) (vs : Variables) (x : Operand) (actual : Actual) → HasBuffer space buffers vs x actual → HasBuffer noted_space buffers vs x actual
-  has_buffer_noted buffers vs operand.Null actual h = h
-  has_buffer_noted buffers vs (operand.Local i) actual h = h
-  has_buffer_noted buffers vs (operand.Static i) actual h = h
-  has_buffer_noted buffers vs operand.Number actual h = h
-  has_buffer_noted buffers vs (operand.FieldId i) actual h = h
-  has_buffer_noted buffers vs (operand.MethodId i) actual h = h
-  has_buffer_noted buffers vs operand.Text actual h = h
-  has_buffer_noted buffers vs (operand.Array array) actual h = h
-  has_buffer_noted buffers vs (operand.Buffer i) actual h = (h.0, h.1, holds_buffer_noted buffers i (lookup h.0 vs) h.2)
-  has_buffer_noted buffers vs (operand.Mode mode) actual h = h
-  has_buffer_noted buffers vs (operand.IsCopy i) actual h = h
-
-  pub addresses_noted : (references : References) (operands : List Operand) → AreAddresses space references operands → AreAddresses noted_space references operands
-  addresses_noted references [] h = h
-  addresses_noted references (x ∷ operands) h = (h.0, addresses_noted references operands h.1)
 
   -- ---- objects to be made
 

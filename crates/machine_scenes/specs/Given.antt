@@ -13,12 +13,16 @@ use Rattle.code.specs.declared.instr.LocalArray.{LocalArray as ArraySlots}
 use Rattle.code.specs.declared.instr.Operand.{Operand}
 use Rattle.code.specs.declared.instr.Operand.TheVariants as operand
 use Rattle.code_meaning.specs.Coding.{mode_code}
+use Rattle.code_meaning.specs.Fits.{IsReferenceKind, TakesNull, TakesLocal, TakesGlobal}
 use Rattle.heap.specs.Heap.{Space, IsAddress, class_at, name_at}
+use Rattle.jni.specs.declared.access.Access.{Access}
+use Rattle.jni.specs.declared.kinds.ParameterKind.{ParameterKind}
+use Rattle.jni.specs.declared.kinds.ParameterKind.TheVariants.{FieldID, MethodID, IntNumber, Passed, TextBytes, ArrayVariable, BufferVariable, Mode, IsCopy}
 use Rattle.jni.specs.declared.mode.ReleaseMode.{ReleaseMode}
 use Rattle.semantics.specs.Arguments.{Actual, ReferenceActual, FieldActual, MethodActual, NumberActual, TextActual, VariableActual, ModeActual, NothingActual}
 use Rattle.semantics.specs.Method.{MethodId}
 use Rattle.semantics.specs.Object.{Reference}
-use Rattle.semantics.specs.Variable.{Variable, LocalArray, Variables, StaticReference, as_static}
+use Rattle.semantics.specs.Variable.{Variable, LocalArray, Variables, StaticReference, Empty, as_static}
 use Rattle.machine_scenes.specs.Buffers.{HeldBuffers, HoldsBuffer}
 use Rattle.machine_scenes.specs.FieldIds.{FieldAgrees, MethodAgrees, field_held, method_held}
 use Rattle.machine_scenes.specs.declared.handle.Handle.{Handle}
@@ -54,47 +58,36 @@ abbrev pub method_at : List (Option Handle) → Operand → Option MethodHandle
 method_at fields (operand.MethodId i) = method_held (held_in (slice_get fields i))
 method_at fields o = None
 
--- an operand gives the reference that the source's argument is
-pub record ReferenceIsGiven (space : Space) (references : References) (operand : Operand) (actual : Actual) : Type 0 where
-  pub name : Identifier
-  pub reference : Reference
-  pub is : actual ≡ ReferenceActual name (as_static reference)
-  pub agrees : ReferenceAgrees space (operand_at references operand) reference
+-- an operand gives the reference that an argument of the source is: NULL, the object of a local reference, or what a static holds
+pub data ReferenceIsGiven (space : Space) (references : References) (p : ParameterKind) : Operand → StaticReference → Type 0 where
+  null : TakesNull p → ReferenceIsGiven space references p operand.Null Empty
+  local : {i : ℕ} (r : Reference) → TakesLocal p → ReferenceAgrees space (operand_at references (operand.Local i)) r
+      → ReferenceIsGiven space references p (operand.Local i) (as_static r)
+  static : {i : ℕ} {r : StaticReference} → TakesGlobal p → HeldAgrees space (held_argument (static_at references i)) r
+      → ReferenceIsGiven space references p (operand.Static i) r
 
--- a static holds what the source's argument is
-pub record StaticIsGiven (space : Space) (references : References) (i : ℕ) (actual : Actual) : Type 0 where
-  pub name : Identifier
-  pub reference : StaticReference
-  pub is : actual ≡ ReferenceActual name reference
-  pub agrees : HeldAgrees space (held_argument (static_at references i)) reference
-
--- an operand gives the field ID that the source's argument is
-pub record FieldIsGiven (classes : Classes) (fields : List (Option Handle)) (operand : Operand) (actual : Actual) : Type 0 where
-  pub field : Option FieldId
-  pub is : actual ≡ FieldActual field
-  pub agrees : FieldAgrees classes (field_at fields operand) field
-
--- an operand gives the method ID that the source's argument is
-pub record MethodIsGiven (unit : SourceUnit) (classes : Classes) (fields : List (Option Handle)) (operand : Operand) (actual : Actual) : Type 0 where
-  pub method : Option MethodId
-  pub is : actual ≡ MethodActual method
-  pub agrees : MethodAgrees unit classes (method_at fields operand) method
-
--- an operand gives what the source's argument is; a number is on the stack, a text among the call's, and a variable itself
--- in its slots
-abbrev pub IsGiven : SourceUnit → Classes → Space → (references : References) → (fields : List (Option Handle)) → Operand → Actual → Type 0
-IsGiven unit classes space references fields operand.Number actual = (z : ℤ) × (actual ≡ NumberActual z) × FitsSigned w32 z
-IsGiven unit classes space references fields operand.Text actual = (bytes : List ℕ) × (actual ≡ TextActual bytes)
-IsGiven unit classes space references fields (operand.FieldId i) actual = FieldIsGiven classes fields (operand.FieldId i) actual
-IsGiven unit classes space references fields (operand.MethodId i) actual = MethodIsGiven unit classes fields (operand.MethodId i) actual
-IsGiven unit classes space references fields operand.Null actual = ReferenceIsGiven space references operand.Null actual
-    ⊎ FieldIsGiven classes fields operand.Null actual ⊎ MethodIsGiven unit classes fields operand.Null actual ⊎ (actual ≡ NothingActual)
-IsGiven unit classes space references fields (operand.Local i) actual = ReferenceIsGiven space references (operand.Local i) actual
-IsGiven unit classes space references fields (operand.Static i) actual = StaticIsGiven space references i actual
-IsGiven unit classes space references fields (operand.Array array) actual = (x : Identifier) × (actual ≡ VariableActual x)
-IsGiven unit classes space references fields (operand.Buffer i) actual = (x : Identifier) × (actual ≡ VariableActual x)
-IsGiven unit classes space references fields (operand.Mode mode) actual = (m : ReleaseMode) × (actual ≡ ModeActual m) × (mode ≡ mode_code m)
-IsGiven unit classes space references fields (operand.IsCopy i) actual = (x : Identifier) × (actual ≡ VariableActual x)
+-- an argument of the source is what its parameter asks for, and an operand gives it; a number is on the stack, a text among the call's, and a
+-- variable itself in its slots
+pub data IsGiven (unit : SourceUnit) (classes : Classes) (space : Space) (references : References) (fields : List (Option Handle)) :
+    ParameterKind → Operand → Actual → Type 0 where
+  number : {z : ℤ} → FitsSigned w32 z → IsGiven unit classes space references fields IntNumber operand.Number (NumberActual z)
+  passed : {z : ℤ} → FitsSigned w32 z → IsGiven unit classes space references fields Passed operand.Number (NumberActual z)
+  text : {bytes : List ℕ} → IsGiven unit classes space references fields TextBytes operand.Text (TextActual bytes)
+  reference : {p : ParameterKind} {o : Operand} {x : Identifier} {r : StaticReference} → IsReferenceKind p
+      → ReferenceIsGiven space references p o r → IsGiven unit classes space references fields p o (ReferenceActual x r)
+  null_field : IsGiven unit classes space references fields FieldID operand.Null (FieldActual None)
+  field : {i : ℕ} {f : Option FieldId} → FieldAgrees classes (field_at fields (operand.FieldId i)) f
+      → IsGiven unit classes space references fields FieldID (operand.FieldId i) (FieldActual f)
+  null_method : IsGiven unit classes space references fields MethodID operand.Null (MethodActual None)
+  method : {i : ℕ} {m : Option MethodId} → MethodAgrees unit classes (method_at fields (operand.MethodId i)) m
+      → IsGiven unit classes space references fields MethodID (operand.MethodId i) (MethodActual m)
+  array : {t : ElementType} {slots : ArraySlots} {x : Identifier}
+      → IsGiven unit classes space references fields (ArrayVariable t) (operand.Array slots) (VariableActual x)
+  buffer : {access : Access} {i : ℕ} {x : Identifier}
+      → IsGiven unit classes space references fields (BufferVariable access) (operand.Buffer i) (VariableActual x)
+  mode : {m : ReleaseMode} → IsGiven unit classes space references fields Mode (operand.Mode (mode_code m)) (ModeActual m)
+  not_told : IsGiven unit classes space references fields IsCopy operand.Null NothingActual
+  told : {i : ℕ} {x : Identifier} → IsGiven unit classes space references fields IsCopy (operand.IsCopy i) (VariableActual x)
 
 -- a local array has these elements, each in its slot as a word
 pub record HasElements (numbers : List ℕ) (array : ArraySlots) (v : Option Variable) : Type 0 where
@@ -107,7 +100,7 @@ pub record HasElements (numbers : List ℕ) (array : ArraySlots) (v : Option Var
 
 -- an operand that is a local array has the elements of the variable that is named
 abbrev pub HasArray : (numbers : List ℕ) → Variables → Operand → Actual → Type 0
-HasArray numbers vs (operand.Array array) actual = (x : Identifier) × (actual ≡ VariableActual x) × HasElements numbers array (lookup x vs)
+HasArray numbers vs (operand.Array slots) actual = (x : Identifier) × (actual ≡ VariableActual x) × HasElements numbers slots (lookup x vs)
 HasArray numbers vs o actual = Unit {0}
 
 -- an operand that is a buffer stands for the variable that is named
@@ -117,7 +110,7 @@ HasBuffer space buffers vs o actual = Unit {0}
 
 -- a reference is NULL or the address of a block
 abbrev pub ReferenceIsThere : Space → Option ℕ → Type 0
-ReferenceIsThere space reference = (a : ℕ) → reference ≡ Some a → IsAddress space a
+ReferenceIsThere space r = (a : ℕ) → r ≡ Some a → IsAddress space a
 
 -- each operand gives NULL or the address of a block
 abbrev pub AreAddresses : Space → References → List Operand → Type 0
@@ -169,7 +162,7 @@ field_there classes (Some h) = unwrap_or (field_of classes h) no_field
 
 -- a field ID is NULL or a handle of a field
 abbrev pub FieldIsThere : Classes → Option FieldHandle → Type 0
-FieldIsThere classes field = (h : FieldHandle) → field ≡ Some h → IsSome (field_of classes h)
+FieldIsThere classes field_id = (h : FieldHandle) → field_id ≡ Some h → IsSome (field_of classes h)
 
 -- each operand that is a field ID gives NULL or a handle of a field
 abbrev pub AreHandles : Classes → List (Option Handle) → List Operand → Type 0

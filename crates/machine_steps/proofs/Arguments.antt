@@ -1,5 +1,5 @@
 -- The operands of a call give what the arguments of the source's call are.
-use Rattle.std.proofs.Common.{inl, inr, ◌≡◌, ℕ, ℤ, zero, suc, ◌+◌, ◌-◌, ◌<◌, ◌≤◌, List, [], ◌∷◌, length, Option, Some, None, refl, sym, ap, ◌∙◌, subst, arith, length-append}
+use Rattle.std.proofs.Common.{◌≡◌, ℕ, ℤ, zero, suc, ◌+◌, ◌-◌, ◌<◌, ◌≤◌, List, [], ◌∷◌, length, Option, Some, None, refl, sym, ap, ◌∙◌, subst, arith, length-append}
 use Rattle.std.specs.Prelude.{slice_get, FitsSigned}
 use Rattle.std.specs.Int.{w32, cast_unsigned}
 use Rattle.std.specs.List.{AllByRecursion, AllZip}
@@ -29,14 +29,17 @@ use Rattle.tables.specs.Elements.{OwnedNumbers}
 use Rattle.heap.specs.Heap.{Space}
 use Rattle.semantics.specs.Method.{MethodId}
 use Rattle.semantics.specs.Object.{Reference}
-use Rattle.semantics.specs.Arguments.{Actual, ReferenceActual, FieldActual, MethodActual}
+use Rattle.semantics.specs.Arguments.{Actual, FieldActual, MethodActual}
 use Rattle.semantics.specs.Task.{Task}
 use Rattle.semantics.specs.Thread.{Frame}
 use Rattle.code.specs.declared.instr.Operand.{Operand}
 use Rattle.code.specs.declared.instr.Operand.TheVariants as operand
 use Rattle.code.specs.Depth.{Listing, words_taken, with_fewer}
 use Rattle.code_meaning.specs.Slots.{Shows, ShowsStatic, Slots, Visible, visible_to, OfField, OfMethod}
-use Rattle.code_meaning.specs.Does.{IsOperand, word_given, words_given}
+use Rattle.code_meaning.specs.Does as gives
+use Rattle.code_meaning.specs.Does.{AllTogether, GivesReference, IsOperand, word_given, words_given}
+use Rattle.jni.specs.declared.kinds.ParameterKind.{ParameterKind}
+use Rattle.jni.specs.declared.kinds.ParameterKind.TheVariants.{FieldID, MethodID}
 use Rattle.code_meaning.specs.Lowered.{Lowered}
 use Rattle.machine_scenes.specs.declared.activation.Activation.{Activation}
 use Rattle.machine_scenes.specs.FieldIds.{FieldAgrees, HandleAgrees, HandlesAgree, MethodAgrees, field_held, method_held}
@@ -50,7 +53,8 @@ use Rattle.machine_scenes.specs.declared.references.Held.{Held}
 use Rattle.machine_scenes.specs.declared.references.Held.TheVariants as held_by
 use Rattle.machine_calls.proofs.HeldStatics.{static_there}
 use Rattle.machine_scenes.proofs.KeyLaws.{address_there}
-use Rattle.machine_scenes.specs.Given.{HasArray, HasElements, held_in, IsGiven}
+use Rattle.machine_scenes.specs.Given as given
+use Rattle.machine_scenes.specs.Given.{HasArray, HasElements, held_in, IsGiven, ReferenceIsGiven}
 use Rattle.machine_steps.proofs.Calls.{Ready}
 use Rattle.machine_threads.specs.SlotsHold.{slots_of}
 
@@ -140,46 +144,42 @@ module _ (p : Lowered) (classes : Classes) (space : Space) (copies : List (Optio
   abbrev references : References
   references = record { keys = call.slots.references.items; locals = call.locals; statics = helds }
 
-  one_given : (o : Operand) (a : Actual) → HasOwner r.meant.references r.meant.owners o → IsOperand code r.known call.place call.stack (slots_of call r.meant) visible o a → IsGiven (unit_tree p.unit) classes space references call.slots.fields.items o a
-  one_given operand.Null a owned (inl h) = inl (record { name = h.0; reference = None; is = h.1; agrees = tt })
-  one_given operand.Null a owned (inr (inl h)) = inr (inl (record { field = None; is = h; agrees = tt }))
-  one_given operand.Null a owned (inr (inr (inl h))) = inr (inr (inl (record { method = None; is = h; agrees = tt })))
-  one_given operand.Null a owned (inr (inr (inr h))) = inr (inr (inr h))
-  one_given (operand.Local i) a owned h =
-      let shown = r.shows.each h.0 (record { ty = Ref; index = i }) h.2 in
-      record {
-        name = h.0;
-        reference = shown.reference;
-        is = h.1 ∙ ap (ReferenceActual h.0) shown.is;
-        agrees = address_there space call.locals call.slots.references.items r.meant.references r.meant.owners i shown.reference r.holds.keys shown.there (λ n is. owned n (shown.there ∙ ap (λ (q : Reference). Some q) is));
-      }
-  one_given (operand.Static i) a owned h =
-      let shown = static_shown code r.known visible (slots_of call r.meant) r.shows h.0 i h.2 in
-      record {
-        name = h.0;
-        reference = as_argument shown.static.held;
-        is = h.1 ∙ ap (ReferenceActual h.0) shown.reference;
-        agrees = argument_agrees space (held_or_null (slice_get helds i)) shown.static.held (static_there space h.0 helds visible.statics i shown.static.held statics shown.static.place shown.static.there);
-      }
-  one_given operand.Number a owned h = h
-  one_given (operand.FieldId i) a owned h =
-      let shown = r.shows.each h.0 (record { ty = types.FieldId; index = i }) h.2 in
-      record { field = shown.field; is = h.1 ∙ ap FieldActual shown.is; agrees = field_there (unit_tree p.unit) classes call.slots.fields.items r.meant.fields i shown.field r.holds.fields shown.there }
-  one_given (operand.MethodId i) a owned h =
-      let shown = r.shows.each h.0 (record { ty = types.MethodId; index = i }) h.2 in
-      record { method = shown.method; is = h.1 ∙ ap MethodActual shown.is; agrees = method_there (unit_tree p.unit) classes call.slots.fields.items r.meant.fields i shown.method r.holds.fields shown.there }
-  one_given operand.Text a owned h = h
-  one_given (operand.Array array) a owned h = (h.0, h.1)
-  one_given (operand.Buffer i) a owned h = (h.0, h.1)
-  one_given (operand.Mode mode) a owned h = h
-  one_given (operand.IsCopy i) a owned h = (h.0, h.1)
+  reference_given : {q : ParameterKind} {o : Operand} {x : Identifier} {s : StaticReference} → HasOwner r.meant.references r.meant.owners o → GivesReference r.known visible q o x s → ReferenceIsGiven space references q o s
+  reference_given owned (gives.null takes) = given.null takes
+  reference_given {q} owned (gives.local {i = i} {x = x} takes at) =
+      let shown = r.shows.each x (record { ty = Ref; index = i }) at in
+      subst (ReferenceIsGiven space references q (operand.Local i)) (sym shown.is)
+      (given.local shown.reference takes (address_there space call.locals call.slots.references.items r.meant.references r.meant.owners i shown.reference r.holds.keys shown.there (λ n is. owned n (shown.there ∙ ap (λ (q : Reference). Some q) is))))
+  reference_given {q} owned (gives.static {i = i} {x = x} takes at) =
+      let shown = static_shown code r.known visible (slots_of call r.meant) r.shows x i at in
+      subst (ReferenceIsGiven space references q (operand.Static i)) (sym shown.reference)
+      (given.static takes (argument_agrees space (held_or_null (slice_get helds i)) shown.static.held (static_there space x helds visible.statics i shown.static.held statics shown.static.place shown.static.there)))
 
-  pub all_given : (operands : List Operand) (args : List Actual) → AllByRecursion (HasOwner r.meant.references r.meant.owners) operands → AllZip (IsOperand code r.known call.place call.stack (slots_of call r.meant) visible) operands args
-      → AllZip (IsGiven (unit_tree p.unit) classes space references call.slots.fields.items) operands args
-  all_given [] [] owned h = tt
-  all_given [] (a ∷ args) owned h = absurd h
-  all_given (o ∷ operands) [] owned h = absurd h
-  all_given (o ∷ operands) (a ∷ args) owned h = (one_given o a owned.0 h.0, all_given operands args owned.1 h.1)
+  one_given : {q : ParameterKind} {o : Operand} {a : Actual} → HasOwner r.meant.references r.meant.owners o → IsOperand r.known visible q o a → IsGiven (unit_tree p.unit) classes space references call.slots.fields.items q o a
+  one_given owned (gives.number fits) = given.number fits
+  one_given owned (gives.passed fits) = given.passed fits
+  one_given owned gives.text = given.text
+  one_given owned (gives.reference kind there) = given.reference kind (reference_given owned there)
+  one_given owned gives.no_field = given.null_field
+  one_given owned (gives.field {i = i} {x = x} at) =
+      let shown = r.shows.each x (record { ty = types.FieldId; index = i }) at in
+      subst (λ (f : Option FieldId). IsGiven (unit_tree p.unit) classes space references call.slots.fields.items FieldID (operand.FieldId i) (FieldActual f)) (sym shown.is)
+      (given.field (field_there (unit_tree p.unit) classes call.slots.fields.items r.meant.fields i shown.field r.holds.fields shown.there))
+  one_given owned gives.no_method = given.null_method
+  one_given owned (gives.has_method {i = i} {x = x} at) =
+      let shown = r.shows.each x (record { ty = types.MethodId; index = i }) at in
+      subst (λ (m : Option MethodId). IsGiven (unit_tree p.unit) classes space references call.slots.fields.items MethodID (operand.MethodId i) (MethodActual m)) (sym shown.is)
+      (given.method (method_there (unit_tree p.unit) classes call.slots.fields.items r.meant.fields i shown.method r.holds.fields shown.there))
+  one_given owned (gives.array at) = given.array
+  one_given owned (gives.buffer at) = given.buffer
+  one_given owned gives.mode = given.mode
+  one_given owned gives.not_told = given.not_told
+  one_given owned (gives.told at) = given.told
+
+  pub all_given : {ps : List ParameterKind} {operands : List Operand} {args : List Actual} → AllByRecursion (HasOwner r.meant.references r.meant.owners) operands → AllTogether (IsOperand r.known visible) ps operands args
+      → AllTogether (IsGiven (unit_tree p.unit) classes space references call.slots.fields.items) ps operands args
+  all_given owned gives.none = gives.none
+  all_given owned (gives.more h rest) = gives.more (one_given owned.0 h) (all_given owned.1 rest)
 
 -- ---- local arrays
 
@@ -209,24 +209,14 @@ module _ (code : Listing) (known : Known) (place : ℕ) (stack : List ℕ) (slot
             (subst (FitsSigned w32) same e.fits, e.word ∙ ap (λ (y : ℤ). Some (cast_unsigned w32 y)) same);
       }
 
-  one_array : (o : Operand) (a : Actual) → IsOperand code known place stack slots (visible_to own shared s) o a → HasArray slots.numbers s.variables o a
-  one_array operand.Null a h = tt
-  one_array (operand.Local i) a h = tt
-  one_array (operand.Static i) a h = tt
-  one_array operand.Number a h = tt
-  one_array (operand.FieldId i) a h = tt
-  one_array (operand.MethodId i) a h = tt
-  one_array operand.Text a h = tt
-  one_array (operand.Array array) a h = (h.0, h.1, array_held h.0 h.2 array h.3)
-  one_array (operand.Buffer i) a h = tt
-  one_array (operand.Mode mode) a h = tt
-  one_array (operand.IsCopy i) a h = tt
+  one_array : {q : ParameterKind} {o : Operand} {a : Actual} → IsOperand known (visible_to own shared s) q o a → HasArray slots.numbers s.variables o a
+  one_array (gives.array {u = t} {slots = array} {x = x} at) = (x, refl, array_held x t array at)
+  one_array (gives.reference kind (gives.null takes)) = tt
+  one_array h = tt
 
-  pub arrays_held : (operands : List Operand) (args : List Actual) → AllZip (IsOperand code known place stack slots (visible_to own shared s)) operands args → AllZip (HasArray slots.numbers s.variables) operands args
-  arrays_held [] [] h = tt
-  arrays_held [] (a ∷ args) h = absurd h
-  arrays_held (o ∷ operands) [] h = absurd h
-  arrays_held (o ∷ operands) (a ∷ args) h = (one_array o a h.0, arrays_held operands args h.1)
+  pub arrays_held : {ps : List ParameterKind} {operands : List Operand} {args : List Actual} → AllTogether (IsOperand known (visible_to own shared s)) ps operands args → AllZip (HasArray slots.numbers s.variables) operands args
+  arrays_held gives.none = tt
+  arrays_held (gives.more h rest) = (one_array h, arrays_held rest)
 
 -- ---- words
 
@@ -234,90 +224,46 @@ module _ (code : Listing) (known : Known) (place : ℕ) (stack : List ℕ) (slot
 abbrev one_taken : Operand → ℕ
 one_taken o = words_taken (o ∷ [])
 
-module _ (unit : SourceUnit) (classes : Classes) (space : Space) (references : References) (fields : List (Option Handle)) where
-  word_of_one : (o : Operand) (a : Actual) → IsGiven unit classes space references fields o a → length (word_given a) ≡ one_taken o
-  word_of_one operand.Null a (inl h) = ap (λ (b : Actual). length (word_given b)) h.is
-  word_of_one operand.Null a (inr (inl h)) = ap (λ (b : Actual). length (word_given b)) h.is
-  word_of_one operand.Null a (inr (inr (inl h))) = ap (λ (b : Actual). length (word_given b)) h.is
-  word_of_one operand.Null a (inr (inr (inr h))) = ap (λ (b : Actual). length (word_given b)) h
-  word_of_one (operand.Local i) a h = ap (λ (b : Actual). length (word_given b)) h.is
-  word_of_one (operand.Static i) a h = ap (λ (b : Actual). length (word_given b)) h.is
-  word_of_one operand.Number a h = ap (λ (b : Actual). length (word_given b)) h.1
-  word_of_one (operand.FieldId i) a h = ap (λ (b : Actual). length (word_given b)) h.is
-  word_of_one (operand.MethodId i) a h = ap (λ (b : Actual). length (word_given b)) h.is
-  word_of_one operand.Text a h = ap (λ (b : Actual). length (word_given b)) h.1
-  word_of_one (operand.Array array) a h = ap (λ (b : Actual). length (word_given b)) h.1
-  word_of_one (operand.Buffer i) a h = ap (λ (b : Actual). length (word_given b)) h.1
-  word_of_one (operand.Mode mode) a h = ap (λ (b : Actual). length (word_given b)) h.1
-  word_of_one (operand.IsCopy i) a h = ap (λ (b : Actual). length (word_given b)) h.1
+first_taken : (o : Operand) (operands : List Operand) → words_taken (o ∷ operands) ≡ one_taken o + words_taken operands
+first_taken operand.Null operands = let taken : one_taken operand.Null ≡ 0 = refl in omega (arith, taken)
+first_taken (operand.Local i) operands = let taken : one_taken (operand.Local i) ≡ 0 = refl in omega (arith, taken)
+first_taken (operand.Static i) operands = let taken : one_taken (operand.Static i) ≡ 0 = refl in omega (arith, taken)
+first_taken operand.Number operands = let taken : one_taken operand.Number ≡ 1 = refl in omega (arith, taken)
+first_taken (operand.FieldId i) operands = let taken : one_taken (operand.FieldId i) ≡ 0 = refl in omega (arith, taken)
+first_taken (operand.MethodId i) operands = let taken : one_taken (operand.MethodId i) ≡ 0 = refl in omega (arith, taken)
+first_taken operand.Text operands = let taken : one_taken operand.Text ≡ 0 = refl in omega (arith, taken)
+first_taken (operand.Array array) operands = let taken : one_taken (operand.Array array) ≡ 0 = refl in omega (arith, taken)
+first_taken (operand.Buffer i) operands = let taken : one_taken (operand.Buffer i) ≡ 0 = refl in omega (arith, taken)
+first_taken (operand.Mode mode) operands = let taken : one_taken (operand.Mode mode) ≡ 0 = refl in omega (arith, taken)
+first_taken (operand.IsCopy i) operands = let taken : one_taken (operand.IsCopy i) ≡ 0 = refl in omega (arith, taken)
 
-  first_taken : (o : Operand) (operands : List Operand) → words_taken (o ∷ operands) ≡ one_taken o + words_taken operands
-  first_taken operand.Null operands = let taken : one_taken operand.Null ≡ 0 = refl in omega (arith, taken)
-  first_taken (operand.Local i) operands = let taken : one_taken (operand.Local i) ≡ 0 = refl in omega (arith, taken)
-  first_taken (operand.Static i) operands = let taken : one_taken (operand.Static i) ≡ 0 = refl in omega (arith, taken)
-  first_taken operand.Number operands = let taken : one_taken operand.Number ≡ 1 = refl in omega (arith, taken)
-  first_taken (operand.FieldId i) operands = let taken : one_taken (operand.FieldId i) ≡ 0 = refl in omega (arith, taken)
-  first_taken (operand.MethodId i) operands = let taken : one_taken (operand.MethodId i) ≡ 0 = refl in omega (arith, taken)
-  first_taken operand.Text operands = let taken : one_taken operand.Text ≡ 0 = refl in omega (arith, taken)
-  first_taken (operand.Array array) operands = let taken : one_taken (operand.Array array) ≡ 0 = refl in omega (arith, taken)
-  first_taken (operand.Buffer i) operands = let taken : one_taken (operand.Buffer i) ≡ 0 = refl in omega (arith, taken)
-  first_taken (operand.Mode mode) operands = let taken : one_taken (operand.Mode mode) ≡ 0 = refl in omega (arith, taken)
-  first_taken (operand.IsCopy i) operands = let taken : one_taken (operand.IsCopy i) ≡ 0 = refl in omega (arith, taken)
-
-  taken_words : (operands : List Operand) (args : List Actual) → AllZip (IsGiven unit classes space references fields) operands args → words_taken operands ≡ length (words_given args)
-  taken_words [] [] h = refl
-  taken_words [] (a ∷ args) h = absurd h
-  taken_words (o ∷ operands) [] h = absurd h
-  taken_words (o ∷ operands) (a ∷ args) h = omega (arith, first_taken o operands, word_of_one o a h.0, taken_words operands args h.1, length-append (words_given args) (word_given a))
+taken_words : {G : ParameterKind → Operand → Actual → Type 0} {ps : List ParameterKind} {operands : List Operand} {args : List Actual} → ((q : ParameterKind) (o : Operand) (a : Actual) → G q o a → length (word_given a) ≡ one_taken o)
+    → AllTogether G ps operands args → words_taken operands ≡ length (words_given args)
+taken_words each gives.none = refl
+taken_words each (gives.more {x = q} {y = o} {z = a} {ys = operands} {zs = args} h rest) = omega (arith, first_taken o operands, each q o a h, taken_words each rest, length-append (words_given args) (word_given a))
 
 none_left : (n : ℕ) → with_fewer n n ≡ Some 0
 none_left n = rw (le-leb n n (omega arith)) (ap (λ (m : ℕ). Some m) (let e : n - n ≡ 0 = omega arith in e))
 
--- a call takes all the words on the stack
-pub none_left_after : (unit : SourceUnit) (classes : Classes) (space : Space) (references : References) (fields : List (Option Handle)) (operands : List Operand) (args : List Actual) (stack : List ℕ) → AllZip (IsGiven unit classes space references fields) operands args → stack ≡ words_given args
-    → with_fewer (words_taken operands) (length stack) ≡ Some 0
-none_left_after unit classes space references fields operands args stack given words =
-    let count : length stack ≡ words_taken operands = ap length words ∙ sym (taken_words unit classes space references fields operands args given) in
+none_left_where : (operands : List Operand) (args : List Actual) (stack : List ℕ) → words_taken operands ≡ length (words_given args) → stack ≡ words_given args → with_fewer (words_taken operands) (length stack) ≡ Some 0
+none_left_where operands args stack taken words =
+    let count : length stack ≡ words_taken operands = ap length words ∙ sym taken in
     subst (λ (n : ℕ). with_fewer (words_taken operands) n ≡ Some 0) (sym count) (none_left (words_taken operands))
 
+-- a call takes all the words on the stack
+pub none_left_after : {unit : SourceUnit} {classes : Classes} {space : Space} {references : References} {fields : List (Option Handle)} {ps : List ParameterKind} {operands : List Operand} {args : List Actual} {stack : List ℕ}
+    → AllTogether (IsGiven unit classes space references fields) ps operands args → stack ≡ words_given args → with_fewer (words_taken operands) (length stack) ≡ Some 0
+none_left_after {unit} {classes} {space} {references} {fields} {operands = operands} {args = args} {stack = stack} all words = none_left_where operands args stack (taken_words each all) words
+  where
+    each : (q : ParameterKind) (o : Operand) (a : Actual) → IsGiven unit classes space references fields q o a → length (word_given a) ≡ one_taken o
+    each q o a (given.reference kind (given.null takes)) = refl
+    each q o a h = refl
+
 -- the same by what the operands are
-module _ (code : Listing) (known : Known) (place : ℕ) (stack : List ℕ) (slots : Slots) (visible : Visible) where
-  word_of_operand : (o : Operand) (a : Actual) → IsOperand code known place stack slots visible o a → length (word_given a) ≡ one_taken o
-  word_of_operand operand.Null a (inl h) = ap (λ (b : Actual). length (word_given b)) h.1
-  word_of_operand operand.Null a (inr (inl h)) = ap (λ (b : Actual). length (word_given b)) h
-  word_of_operand operand.Null a (inr (inr (inl h))) = ap (λ (b : Actual). length (word_given b)) h
-  word_of_operand operand.Null a (inr (inr (inr h))) = ap (λ (b : Actual). length (word_given b)) h
-  word_of_operand (operand.Local i) a h = ap (λ (b : Actual). length (word_given b)) h.1
-  word_of_operand (operand.Static i) a h = ap (λ (b : Actual). length (word_given b)) h.1
-  word_of_operand operand.Number a h = ap (λ (b : Actual). length (word_given b)) h.1
-  word_of_operand (operand.FieldId i) a h = ap (λ (b : Actual). length (word_given b)) h.1
-  word_of_operand (operand.MethodId i) a h = ap (λ (b : Actual). length (word_given b)) h.1
-  word_of_operand operand.Text a h = ap (λ (b : Actual). length (word_given b)) h.1
-  word_of_operand (operand.Array array) a h = ap (λ (b : Actual). length (word_given b)) h.1
-  word_of_operand (operand.Buffer i) a h = ap (λ (b : Actual). length (word_given b)) h.1
-  word_of_operand (operand.Mode mode) a h = ap (λ (b : Actual). length (word_given b)) h.1
-  word_of_operand (operand.IsCopy i) a h = ap (λ (b : Actual). length (word_given b)) h.1
-
-  first_word : (o : Operand) (operands : List Operand) → words_taken (o ∷ operands) ≡ one_taken o + words_taken operands
-  first_word operand.Null operands = let taken : one_taken operand.Null ≡ 0 = refl in omega (arith, taken)
-  first_word (operand.Local i) operands = let taken : one_taken (operand.Local i) ≡ 0 = refl in omega (arith, taken)
-  first_word (operand.Static i) operands = let taken : one_taken (operand.Static i) ≡ 0 = refl in omega (arith, taken)
-  first_word operand.Number operands = let taken : one_taken operand.Number ≡ 1 = refl in omega (arith, taken)
-  first_word (operand.FieldId i) operands = let taken : one_taken (operand.FieldId i) ≡ 0 = refl in omega (arith, taken)
-  first_word (operand.MethodId i) operands = let taken : one_taken (operand.MethodId i) ≡ 0 = refl in omega (arith, taken)
-  first_word operand.Text operands = let taken : one_taken operand.Text ≡ 0 = refl in omega (arith, taken)
-  first_word (operand.Array array) operands = let taken : one_taken (operand.Array array) ≡ 0 = refl in omega (arith, taken)
-  first_word (operand.Buffer i) operands = let taken : one_taken (operand.Buffer i) ≡ 0 = refl in omega (arith, taken)
-  first_word (operand.Mode mode) operands = let taken : one_taken (operand.Mode mode) ≡ 0 = refl in omega (arith, taken)
-  first_word (operand.IsCopy i) operands = let taken : one_taken (operand.IsCopy i) ≡ 0 = refl in omega (arith, taken)
-
-  operand_words : (operands : List Operand) (args : List Actual) → AllZip (IsOperand code known place stack slots visible) operands args → words_taken operands ≡ length (words_given args)
-  operand_words [] [] h = refl
-  operand_words [] (a ∷ args) h = absurd h
-  operand_words (o ∷ operands) [] h = absurd h
-  operand_words (o ∷ operands) (a ∷ args) h = omega (arith, first_word o operands, word_of_operand o a h.0, operand_words operands args h.1, length-append (words_given args) (word_given a))
-
-  pub none_left_by : (operands : List Operand) (args : List Actual) → AllZip (IsOperand code known place stack slots visible) operands args → stack ≡ words_given args → with_fewer (words_taken operands) (length stack) ≡ Some 0
-  none_left_by operands args given words =
-      let count : length stack ≡ words_taken operands = ap length words ∙ sym (operand_words operands args given) in
-      subst (λ (n : ℕ). with_fewer (words_taken operands) n ≡ Some 0) (sym count) (none_left (words_taken operands))
+pub none_left_by : {known : Known} {visible : Visible} {ps : List ParameterKind} {operands : List Operand} {args : List Actual} {stack : List ℕ}
+    → AllTogether (IsOperand known visible) ps operands args → stack ≡ words_given args → with_fewer (words_taken operands) (length stack) ≡ Some 0
+none_left_by {known} {visible} {operands = operands} {args = args} {stack = stack} all words = none_left_where operands args stack (taken_words each all) words
+  where
+    each : (q : ParameterKind) (o : Operand) (a : Actual) → IsOperand known visible q o a → length (word_given a) ≡ one_taken o
+    each q o a (gives.reference kind (gives.null takes)) = refl
+    each q o a h = refl

@@ -7,6 +7,7 @@ use Rattle.heap.specs.Heap.{Space}
 use Rattle.jni.specs.declared.function.JniFunction.{JniFunction}
 use Rattle.jni.specs.declared.function.JniFunction.TheVariants.{DeleteLocalRef}
 use Rattle.jni.specs.JniFunction.{parameters_for, prototype}
+use Rattle.jni.specs.declared.kinds.ParameterKind.{ParameterKind}
 use Rattle.jni.specs.declared.kinds.ResultKind.{ResultKind}
 use Rattle.jni.specs.declared.kinds.ResultKind.TheVariants.{NewLocal, NewGlobal, NewWeak, GivesFlag, GivesInt, GivesField, GivesMethod, GivesNothing, GivesBuffer}
 use Rattle.syntax.specs.Views.{unit_tree}
@@ -25,10 +26,10 @@ use Rattle.code.specs.Depth.{Listing, with_fewer, words_taken}
 use Rattle.code.specs.declared.instr.Call.{Call as InMemory}
 use Rattle.code.specs.declared.instr.Instr.TheVariants as instr
 use Rattle.code.specs.declared.instr.Operand.{Operand}
-use Rattle.code.specs.declared.instr.Operand.TheVariants as operand
 use Rattle.code.specs.declared.instr.Target.{Target as Destination}
 use Rattle.code.specs.declared.instr.Target.TheVariants as destination
-use Rattle.code_meaning.specs.Does.{CallsFunction, IsOperand, OperandFits, TakesResult}
+use Rattle.code_meaning.specs.Does as gives
+use Rattle.code_meaning.specs.Does.{AllTogether, CallsFunction, IsOperand, TakesResult}
 use Rattle.code_meaning.specs.Lowered.{Lowered}
 use Rattle.code_meaning.specs.Fits.{HaveOwnSlots}
 use Rattle.code_meaning.specs.Slots.{Visible, visible_to}
@@ -184,50 +185,30 @@ module _ (p : Lowered) (classes : Classes) (space : Space) (copies : List (Optio
   element_there line destination.Test kind target h = sym (ap (target_element s.variables) h.1.is)
 
   -- an operand that is a buffer has what the slot holds
-  one_buffer : (o : Operand) (a : Actual) → IsOperand code r.known call.place call.stack (slots_of call r.meant) (visible_to own shared s) o a → HasBuffer space (holding call.slots.buffers.items copies k) s.variables o a
-  one_buffer (operand.Buffer i) a h =
-      let shown = r.shows.each h.0 (record { ty = Buffer h.2 h.3; index = i }) h.4 in
-      let variable = buffer_by_kind (lookup h.0 s.variables) h.2 shown.kind in
+  one_buffer : {q : ParameterKind} {o : Operand} {a : Actual} → IsOperand r.known (visible_to own shared s) q o a → HasBuffer space (holding call.slots.buffers.items copies k) s.variables o a
+  one_buffer (gives.buffer {t = t} {writable = writable} {i = i} {x = x} at) =
+      let shown = r.shows.each x (record { ty = Buffer t writable; index = i }) at in
+      let variable = buffer_by_kind (lookup x s.variables) t shown.kind in
       let same : variable.0 ≡ shown.buffer = sym (ap held_buffer variable.1) ∙ shown.is in
       let slot = buffer_held space copies k call.slots.buffers.items r.meant.buffers i shown.buffer r.holds.buffers shown.there in
-      (h.0, h.1, record { type = h.2; buffer = shown.buffer; is = variable.1 ∙ ap (λ (b : source_variable.Buffer). Some (Elements h.2 b)) same; held = slot.0; there = slot.1; agrees = slot.2 })
-  one_buffer operand.Null a h = tt
-  one_buffer (operand.Local i) a h = tt
-  one_buffer (operand.Static i) a h = tt
-  one_buffer operand.Number a h = tt
-  one_buffer (operand.FieldId i) a h = tt
-  one_buffer (operand.MethodId i) a h = tt
-  one_buffer operand.Text a h = tt
-  one_buffer (operand.Array array) a h = tt
-  one_buffer (operand.Mode mode) a h = tt
-  one_buffer (operand.IsCopy i) a h = tt
+      (x, refl, record { type = t; buffer = shown.buffer; is = variable.1 ∙ ap (λ (b : source_variable.Buffer). Some (Elements t b)) same; held = slot.0; there = slot.1; agrees = slot.2 })
+  one_buffer (gives.reference kind (gives.null takes)) = tt
+  one_buffer h = tt
 
-  buffers_there : (operands : List Operand) (args : List Actual) → AllZip (IsOperand code r.known call.place call.stack (slots_of call r.meant) (visible_to own shared s)) operands args → AllZip (HasBuffer space (holding call.slots.buffers.items copies k) s.variables) operands args
-  buffers_there [] [] h = tt
-  buffers_there [] (a ∷ args) h = absurd h
-  buffers_there (o ∷ operands) [] h = absurd h
-  buffers_there (o ∷ operands) (a ∷ args) h = (one_buffer o a h.0, buffers_there operands args h.1)
+  buffers_there : {ps : List ParameterKind} {operands : List Operand} {args : List Actual} → AllTogether (IsOperand r.known (visible_to own shared s)) ps operands args → AllZip (HasBuffer space (holding call.slots.buffers.items copies k) s.variables) operands args
+  buffers_there gives.none = tt
+  buffers_there (gives.more h rest) = (one_buffer h, buffers_there rest)
 
   -- the slot of the flag for `isCopy` is there
-  one_told : (o : Operand) (a : Actual) → IsOperand code r.known call.place call.stack (slots_of call r.meant) (visible_to own shared s) o a → HasTold (told_slot (Some o)) (length call.slots.numbers.items)
-  one_told (operand.IsCopy i) a h = let shown = r.shows.each h.0 (record { ty = types.Flag; index = i }) h.2 in slice_get_within call.slots.numbers.items i (word_of shown.value) shown.word
-  one_told operand.Null a h = tt
-  one_told (operand.Local i) a h = tt
-  one_told (operand.Static i) a h = tt
-  one_told operand.Number a h = tt
-  one_told (operand.FieldId i) a h = tt
-  one_told (operand.MethodId i) a h = tt
-  one_told operand.Text a h = tt
-  one_told (operand.Array array) a h = tt
-  one_told (operand.Buffer i) a h = tt
-  one_told (operand.Mode mode) a h = tt
+  one_told : {q : ParameterKind} {o : Operand} {a : Actual} → IsOperand r.known (visible_to own shared s) q o a → HasTold (told_slot (Some o)) (length call.slots.numbers.items)
+  one_told (gives.told {i = i} {x = x} at) = let shown = r.shows.each x (record { ty = types.Flag; index = i }) at in slice_get_within call.slots.numbers.items i (word_of shown.value) shown.word
+  one_told (gives.reference kind (gives.null takes)) = tt
+  one_told h = tt
 
-  told_there : (operands : List Operand) (args : List Actual) → AllZip (IsOperand code r.known call.place call.stack (slots_of call r.meant) (visible_to own shared s)) operands args → HasTold (told_slot (slice_get operands 1)) (length call.slots.numbers.items)
-  told_there [] args h = tt
-  told_there (o ∷ []) args h = tt
-  told_there (o ∷ q ∷ operands) [] h = absurd h
-  told_there (o ∷ q ∷ operands) (a ∷ []) h = absurd h.1
-  told_there (o ∷ q ∷ operands) (a ∷ b ∷ args) h = one_told q b h.1.0
+  told_there : {ps : List ParameterKind} {operands : List Operand} {args : List Actual} → AllTogether (IsOperand r.known (visible_to own shared s)) ps operands args → HasTold (told_slot (slice_get operands 1)) (length call.slots.numbers.items)
+  told_there gives.none = tt
+  told_there (gives.more first gives.none) = tt
+  told_there (gives.more first (gives.more second rest)) = one_told second
 
 -- a local reference has room in frames of which the source's have
 pub room_by : (kind : ResultKind) (locals : LocalTable) (left checked_frames : List source.Frame) (space : Space) → (kind ≡ NewLocal → left ≡ checked_frames) → FramesAgree space locals left → (kind ≡ NewLocal → is_full (slice_get checked_frames 0) ≡ false) → HasRoom kind locals
@@ -250,7 +231,7 @@ pub record CalledAs (p : Lowered) (w : World) (store : Store) (pending : Option 
   pub is : effect ≡ Calls line target f args
   pub asked : IsAsked p w store pending call function others k owner shared s target f args
   pub same_line : function.line ≡ line
-  pub operands : AllZip (IsOperand code r.known call.place call.stack (slots_of call r.meant) (visible_to own shared s)) function.operands args
+  pub operands : AllTogether (IsOperand r.known (visible_to own shared s)) (parameters_for f (length args)) function.operands args
   pub goes : TakesResult code r.known call.place call.stack (slots_of call r.meant) (visible_to own shared s) line function.target (prototype f).result target rest
   pub left : with_fewer (words_taken function.operands) (length call.stack) ≡ Some 0
   pub own_slots : HaveOwnSlots r.known
@@ -282,11 +263,10 @@ module _ (p : Lowered) (w : World) (store : Store) (pending : Option ℕ) (call 
   called_by : (line : ℕ) (target : Target) (f : JniFunction) (args : List Actual) → CallsFunction h.code r.known call.place call.stack (slots_of call r.meant) (visible_to own shared s) line target f args rest → effect_of (sight_of shared s) task ≡ Calls line target f args → Called (Calls line target f args)
   called_by line target f args c step =
       let same : c.call ≡ function = let both : instr.Call c.call ≡ instr.Call function = cc (h.at, c.at) in cc in
-      let operands = subst (λ (x : Call). AllZip (IsOperand h.code r.known call.place call.stack (slots_of call r.meant) (visible_to own shared s)) x.operands args) same c.given in
+      let operands = subst (λ (x : Call). AllTogether (IsOperand r.known (visible_to own shared s)) (parameters_for f (length args)) x.operands args) same c.given in
       let goes = subst (λ (x : Call). TakesResult h.code r.known call.place call.stack (slots_of call r.meant) (visible_to own shared s) line x.target (prototype f).result target rest) same c.goes in
-      let owned = operands_owned p w.classes store.heap store.elements owner call h.code own shared s task rest r line target f args function.operands step (h.steady.owned task rest h.tasks) operands in
-      let kinds = subst (λ (x : Call). AllZip OperandFits (parameters_for f (length args)) x.operands) same c.kinds in
-      let given = all_given p w.classes store.heap store.elements owner call h.code (visible_to own shared s) s.frames task rest r (all_held store.globals store.weaks store.statics.items) h.shares.statics function.operands args owned operands in
+      let owned = operands_owned p w.classes store.heap store.elements owner call h.code own shared s task rest r line target f args step (h.steady.owned task rest h.tasks) operands in
+      let given = all_given p w.classes store.heap store.elements owner call h.code (visible_to own shared s) s.frames task rest r (all_held store.globals store.weaks store.statics.items) h.shares.statics owned operands in
       record {
         line = line;
         target = target;
@@ -299,15 +279,13 @@ module _ (p : Lowered) (w : World) (store : Store) (pending : Option ℕ) (call 
           frames_agree = r.frames_agree;
           same_function = ap (λ (x : Call). x.function) (sym same) ∙ c.same_function;
           count = c.count;
-          kinds = kinds;
-          fit = c.fit;
           given = given;
-          arrays = arrays_held h.code r.known call.place call.stack (slots_of call r.meant) own shared s r.shows function.operands args operands;
-          buffers = buffers_there p w.classes store.heap store.elements owner call h.code own shared s s.frames task rest r function.operands args operands;
+          arrays = arrays_held h.code r.known call.place call.stack (slots_of call r.meant) own shared s r.shows operands;
+          buffers = buffers_there p w.classes store.heap store.elements owner call h.code own shared s s.frames task rest r operands;
           key = λ deletes. own_key args
-              (deletes_key p w.classes store.heap store.elements owner call h.code own shared s task rest r line target f args function.operands step (h.steady.owned task rest h.tasks) operands
-              (subst (λ (g : JniFunction). AllZip OperandFits (parameters_for g (length args)) function.operands) deletes kinds));
-          held = λ deletes i at. static_held p w.classes store.heap store.elements owner call h.code own shared s task rest r (all_held store.globals store.weaks store.statics.items) h.shares.statics function.operands args i operands at;
+              (deletes_key p w.classes store.heap store.elements owner call h.code own shared s task rest r line target f args step (h.steady.owned task rest h.tasks)
+              (subst (λ (g : JniFunction). AllTogether (IsOperand r.known (visible_to own shared s)) (parameters_for g (length args)) function.operands args) deletes operands));
+          held = λ deletes i at. static_held p w.classes store.heap store.elements owner call h.code own shared s task rest r (all_held store.globals store.weaks store.statics.items) h.shares.statics i operands at;
           wanted = element_there p w.classes store.heap store.elements owner call h.code own shared s s.frames task rest r line function.target (prototype f).result target goes;
           typed = h.steady.objects;
           typed_variables = h.steady.variables;
@@ -323,7 +301,7 @@ module _ (p : Lowered) (w : World) (store : Store) (pending : Option ℕ) (call 
         same_line = ap (λ (x : Call). x.line) (sym same) ∙ c.same_line;
         operands = operands;
         goes = goes;
-        left = none_left_after (unit_tree p.unit) w.classes store.heap (references_of store call) call.slots.fields.items function.operands args call.stack given c.words;
+        left = none_left_after given c.words;
         own_slots = c.own_slots;
       }
 
@@ -356,8 +334,8 @@ module _ (p : Lowered) (w : World) (store : Store) (pending : Option ℕ) (call 
   -- the key that DeleteLocalRef is given
   pub deleted : called.f ≡ DeleteLocalRef → DeletesKey p w.classes store.heap store.elements owner call h.code own shared s task rest r function.operands called.args
   deleted deletes =
-      deletes_key p w.classes store.heap store.elements owner call h.code own shared s task rest r called.line called.target called.f called.args function.operands called.is (h.steady.owned task rest h.tasks) called.operands
-      (subst (λ (f : JniFunction). AllZip OperandFits (parameters_for f (length called.args)) function.operands) deletes called.asked.kinds)
+      deletes_key p w.classes store.heap store.elements owner call h.code own shared s task rest r called.line called.target called.f called.args called.is (h.steady.owned task rest h.tasks)
+      (subst (λ (f : JniFunction). AllTogether (IsOperand r.known (visible_to own shared s)) (parameters_for f (length called.args)) function.operands called.args) deletes called.operands)
 
   -- this and the source's
   abbrev pub two_calls : IsSound w → TwoCalls
@@ -369,7 +347,7 @@ module _ (p : Lowered) (w : World) (store : Store) (pending : Option ℕ) (call 
 
   -- and so is the flag's
   pub has_told : HasTold (told_slot (slice_get in_memory.operands.items 1)) (length call.slots.numbers.items)
-  has_told = told_there p w.classes store.heap store.elements owner call h.code own shared s s.frames task rest r function.operands called.args called.operands
+  has_told = told_there p w.classes store.heap store.elements owner call h.code own shared s s.frames task rest r called.operands
 
   -- its static is there, as long as there are as many
   pub has_static : (statics : ℕ) → length shared.statics ≡ statics → HasStatic in_memory.target statics

@@ -298,7 +298,7 @@ module _ (p : Lowered) (w : World) (store : Store) (pending : Option ℕ) (call 
           by_kept (inl same) = goes_same same
           by_kept (inr (inl nothing)) = nowhere function.target kind nothing called.goes
           by_kept (inr (inr told)) =
-              let number = told_number h.code r.known call.place call.stack (slots_of call r.meant) own shared s r.shows called.f (length called.args) function.operands called.args told.0 called.asked.kinds called.operands in
+              let number = told_number h.code r.known call.place call.stack (slots_of call r.meant) own shared s r.shows called.f (length called.args) told.0 called.operands in
               buffer_goes (λ x. ap (λ (us : Variables). kind_of_variable (lookup x us)) told.1 ∙ told_kind told_variable x c s.variables number) function.target kind called.target told.0 called.goes
 
       -- a variable that takes a local reference was there before

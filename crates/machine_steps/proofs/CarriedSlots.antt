@@ -2,7 +2,7 @@
 use Rattle.syntax.specs.Tree.{SourceUnit}
 use Rattle.std.proofs.Common.{◌≡◌, ◌≢◌, ◌⊎◌, inl, inr, take, drop, ℕ, ℤ, ◌≤◌, Bool, true, false, List, [], ◌∷◌, length, Option, Some, None, refl, sym, ap, ◌∙◌, subst, arith, ⊎_elim}
 use Rattle.std.specs.Prelude.{slice_get, slice_set, if◌then◌else◌}
-use Rattle.std.specs.List.{AllByRecursion, AllZip}
+use Rattle.std.specs.List.{AllByRecursion}
 use Rattle.std.proofs.lemmas.List.{length-map, length-take}
 use Rattle.std.proofs.lemmas.Option.{slice_get_within}
 use Rattle.base.specs.Bytes.{Identifier, lookup}
@@ -17,7 +17,6 @@ use Rattle.jni.specs.declared.kinds.ParameterKind.{ParameterKind}
 use Rattle.jni.specs.declared.kinds.ParameterKind.TheVariants.{IsCopy}
 use Rattle.jni.specs.declared.kinds.ResultKind.{ResultKind}
 use Rattle.jni.specs.declared.kinds.ResultKind.TheVariants.{GivesNothing}
-use Rattle.jni.specs.Prototype.{owner as owner_kind}
 use Rattle.syntax.specs.Views.{unit_tree}
 use Rattle.jni.specs.declared.mode.ReleaseMode.{ReleaseMode}
 use Rattle.jni.specs.declared.mode.ReleaseMode.TheVariants.{CopyBackAndFree, CopyBack, FreeUncopied}
@@ -47,7 +46,8 @@ use Rattle.code.specs.declared.instr.Operand.TheVariants as operand
 use Rattle.type_rules.specs.declared.ty.ExprType.TheVariants as types
 use Rattle.type_rules.specs.declared.ty.ExprType.TheVariants.{Buffer}
 use Rattle.code_meaning.specs.Coding.{mode_code}
-use Rattle.code_meaning.specs.Does.{ActualFits, IsOperand, OperandFits}
+use Rattle.code_meaning.specs.Does as gives
+use Rattle.code_meaning.specs.Does.{AllTogether, IsOperand}
 use Rattle.code_meaning.specs.Fits.{HaveOwnSlots}
 use Rattle.code_meaning.specs.Layout.{Known, Slot}
 use Rattle.code_meaning.specs.Lowered.{Lowered}
@@ -102,22 +102,10 @@ module _ (code : Listing) (known : Known) (place : ℕ) (stack : List ℕ) (slot
   abbrev IsNoFlag : Operand → Actual → Type 0
   IsNoFlag o a = (told_slot (Some o) ≡ None) × (address_in_actual (Some a) ≡ None)
 
-  flag_operand : (o : Operand) (a : Actual) → OperandFits IsCopy o → ActualFits IsCopy a → IsOperand code known place stack slots visible o a → IsFlag o a ⊎ IsNoFlag o a
-  flag_operand (operand.IsCopy i) a kind fit h = inl (record { slot = i; variable = h.0; told = refl; address = ap (λ (b : Actual). address_in_actual (Some b)) h.1; there = h.2 })
-  flag_operand operand.Null a kind fit (inl h) = absurd (subst (ActualFits IsCopy) h.1 fit)
-  flag_operand operand.Null a kind fit (inr (inl h)) = absurd (let e = subst (ActualFits IsCopy) h fit in cc)
-  flag_operand operand.Null a kind fit (inr (inr (inl h))) = absurd (let e = subst (ActualFits IsCopy) h fit in cc)
-  flag_operand operand.Null a kind fit (inr (inr (inr h))) = inr (refl, ap (λ (b : Actual). address_in_actual (Some b)) h)
-  flag_operand (operand.Local i) a kind fit h = absurd kind
-  flag_operand (operand.Static i) a kind fit h = absurd kind
-  flag_operand operand.Number a (inl kind) fit h = absurd (cc)
-  flag_operand operand.Number a (inr kind) fit h = absurd (cc)
-  flag_operand (operand.FieldId i) a kind fit h = absurd (cc)
-  flag_operand (operand.MethodId i) a kind fit h = absurd (cc)
-  flag_operand operand.Text a kind fit h = absurd (cc)
-  flag_operand (operand.Array array) a kind fit h = absurd (let e = kind.1 in cc)
-  flag_operand (operand.Buffer i) a kind fit h = absurd (let e = kind.1 in cc)
-  flag_operand (operand.Mode mode) a kind fit h = absurd (cc)
+  flag_operand : {o : Operand} {a : Actual} → IsOperand known visible IsCopy o a → IsFlag o a ⊎ IsNoFlag o a
+  flag_operand (gives.told {i = i} {x = x} at) = inl (record { slot = i; variable = x; told = refl; address = refl; there = at })
+  flag_operand gives.not_told = inr (refl, refl)
+  flag_operand (gives.reference kind there) = absurd kind
 
   -- the second argument is the address of a flag, or NULL
   record TellsFlag (operands : List Operand) (args : List Actual) : Type 0 where
@@ -130,25 +118,20 @@ module _ (code : Listing) (known : Known) (place : ℕ) (stack : List ℕ) (slot
   abbrev TellsNothing : List Operand → List Actual → Type 0
   TellsNothing operands args = (told_slot (slice_get operands 1) ≡ None) × (address_given args 1 ≡ None)
 
-  flag_given : (p : ParameterKind) (operands : List Operand) (args : List Actual) → AllZip OperandFits (p ∷ IsCopy ∷ []) operands → AllZip ActualFits (p ∷ IsCopy ∷ []) args → AllZip (IsOperand code known place stack slots visible) operands args
-      → TellsFlag operands args ⊎ TellsNothing operands args
-  flag_given p [] args kinds fit h = absurd kinds
-  flag_given p (o ∷ []) args kinds fit h = absurd kinds.1
-  flag_given p (o ∷ q ∷ operands) [] kinds fit h = absurd h
-  flag_given p (o ∷ q ∷ operands) (a ∷ []) kinds fit h = absurd h.1
-  flag_given p (o ∷ q ∷ operands) (a ∷ b ∷ args) kinds fit h =
-      ⊎_elim (λ (f : IsFlag q b). inl (record { slot = f.slot; variable = f.variable; told = f.told; address = f.address; there = f.there })) (λ (n : IsNoFlag q b). inr n) (flag_operand q b kinds.1.0 fit.1.0 h.1.0)
+  flag_given : {p : ParameterKind} {operands : List Operand} {args : List Actual} → AllTogether (IsOperand known visible) (p ∷ IsCopy ∷ []) operands args → TellsFlag operands args ⊎ TellsNothing operands args
+  flag_given (gives.more first (gives.more {y = q} {z = b} second rest)) =
+      ⊎_elim (λ (f : IsFlag q b). inl (record { slot = f.slot; variable = f.variable; told = f.told; address = f.address; there = f.there })) (λ (n : IsNoFlag q b). inr n) (flag_operand second)
 
   -- a buffer that is an operand has its slot
-  buffer_known : (operands : List Operand) (args : List Actual) → AllZip (IsOperand code known place stack slots visible) operands args → (i : ℕ) → operand_of operands 1 ≡ operand.Buffer i
+  slot_known : {q : ParameterKind} {i : ℕ} {a : Actual} → IsOperand known visible q (operand.Buffer i) a → (t : ElementType) × (writable : Bool) × (lookup (variable_in_actual (Some a)) known ≡ Some (record { ty = Buffer t writable; index = i }))
+  slot_known (gives.buffer {t = t} {writable = writable} at) = (t, writable, at)
+  slot_known (gives.reference kind there) = elim there [ ]
+
+  buffer_known : {ps : List ParameterKind} {operands : List Operand} {args : List Actual} → AllTogether (IsOperand known visible) ps operands args → (i : ℕ) → operand_of operands 1 ≡ operand.Buffer i
       → (t : ElementType) × (writable : Bool) × (lookup (variable_given args 1) known ≡ Some (record { ty = Buffer t writable; index = i }))
-  buffer_known [] args h i at = absurd (cc)
-  buffer_known (o ∷ []) args h i at = absurd (cc)
-  buffer_known (o ∷ q ∷ operands) [] h i at = absurd h
-  buffer_known (o ∷ q ∷ operands) (a ∷ []) h i at = absurd h.1
-  buffer_known (o ∷ q ∷ operands) (a ∷ b ∷ args) h i at =
-      let is = subst (λ (x : Operand). IsOperand code known place stack slots visible x b) at h.1.0 in
-      (is.2, is.3, ap (λ (c : Actual). lookup (variable_in_actual (Some c)) known) is.1 ∙ is.4)
+  buffer_known gives.none i at = absurd (cc)
+  buffer_known (gives.more first gives.none) i at = absurd (cc)
+  buffer_known (gives.more first (gives.more {x = q} {z = b} second rest)) i at = slot_known (subst (λ (o : Operand). IsOperand known visible q o b) at second)
 
 -- a function that gives a buffer
 gets_buffer : (f : JniFunction) → IsBufferResult (prototype f).result → (access : Access) × (f ≡ GetBuffer access)
@@ -323,7 +306,7 @@ module _ (p : Lowered) (w : World) (store : Store) (pending : Option ℕ) (call 
 
     -- it is that of the variable of argument 1
     released_known : (release : Release) → Frees release → (type : ElementType) × (writable : Bool) × (lookup (variable_given called.args 1) r.known ≡ Some (record { ty = Buffer type writable; index = release.slot }))
-    released_known release f = buffer_known h.code r.known call.place call.stack (slots_of call r.meant) (visible_to own shared s) function.operands called.args called.operands release.slot f.given
+    released_known release f = buffer_known h.code r.known call.place call.stack (slots_of call r.meant) (visible_to own shared s) called.operands release.slot f.given
 
     -- ---- what carrying out the answer leaves
 
@@ -385,7 +368,7 @@ module _ (p : Lowered) (w : World) (store : Store) (pending : Option ℕ) (call 
     copied_shown : WasCopied → Shown (variables_left false s effect) (slots_after store.heap answer call.slots.numbers.items) (meant_after answer r.meant.buffers)
     copied_shown it =
         let c = it.copied in
-        let named = array_known h.code r.known call.place call.stack (slots_of call r.meant) (visible_to own shared s) function.operands called.args c.array called.operands c.given in
+        let named = array_known c.array called.operands c.given in
         let numbers : slots_after store.heap answer call.slots.numbers.items ≡ overlaid call.slots.numbers.items c.array.start (words_of store.heap it.region) =
         ap (λ (a : Answer). slots_after store.heap a call.slots.numbers.items) it.is ∙ ap (λ (i : ℕ). overlaid call.slots.numbers.items i (words_of store.heap it.region)) c.slot in
         let buffers : meant_after answer r.meant.buffers ≡ r.meant.buffers = ap (λ (a : Answer). meant_after a r.meant.buffers) it.is in
@@ -431,7 +414,7 @@ module _ (p : Lowered) (w : World) (store : Store) (pending : Option ℕ) (call 
     copied_viewed : WasCopied → Viewed (variables_left false s effect) (buffers_after answer call.slots.buffers.items)
     copied_viewed it =
         let c = it.copied in
-        let named = array_known h.code r.known call.place call.stack (slots_of call r.meant) (visible_to own shared s) function.operands called.args c.array called.operands c.given in
+        let named = array_known c.array called.operands c.given in
         same_viewed (variables_left false s effect) (buffers_after answer call.slots.buffers.items)
         (ap taken_by (copied_left it)
         ∙ copied_taken h.code r.known own_left shared s (left_slots call.slots.numbers.items r.meant.buffers) as_before array_variable named.0 c.array named.1 (words_of store.heap it.region) (copied_numbers it) c.words (few_copied it))
@@ -481,9 +464,8 @@ module _ (p : Lowered) (w : World) (store : Store) (pending : Option ℕ) (call 
     flag_or_none : IsBufferResult kind → TellsFlag h.code r.known call.place call.stack (slots_of call r.meant) (visible_to own shared s) function.operands called.args ⊎ TellsNothing h.code r.known call.place call.stack (slots_of call r.meant) (visible_to own shared s) function.operands called.args
     flag_or_none buffer =
         let by = gets_buffer called.f buffer in
-        flag_given h.code r.known call.place call.stack (slots_of call r.meant) (visible_to own shared s) (owner_kind by.0) function.operands called.args
-        (subst (λ (f : JniFunction). AllZip OperandFits (parameters_for f (length called.args)) function.operands) by.1 called.asked.kinds)
-        (subst (λ (f : JniFunction). AllZip ActualFits (parameters_for f (length called.args)) called.args) by.1 called.asked.fit) called.operands
+        flag_given h.code r.known call.place call.stack (slots_of call r.meant) (visible_to own shared s)
+        (subst (λ (f : JniFunction). AllTogether (IsOperand r.known (visible_to own shared s)) (parameters_for f (length called.args)) function.operands called.args) by.1 called.operands)
 
     module _ (vs : Variables) (numbers : List ℕ) (buffers : List source_variable.Buffer) (shows : Shown vs numbers buffers) (g : Given) (c : CallResult) where
       abbrev ToldShown : Type 0

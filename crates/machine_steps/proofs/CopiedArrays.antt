@@ -1,8 +1,8 @@
 -- What the slots show once numbers have gone into a local array.
-use Rattle.std.proofs.Common.{None, true, ◌≡◌, ◌⊎◌, inl, inr, ℕ, ℤ, zero, suc, ◌+◌, ◌<◌, ◌≤◌, false, List, [], ◌∷◌, length, Option, Some, refl, sym, ap, ◌∙◌, subst, arith}
+use Rattle.std.proofs.Common.{true, ◌≡◌, ◌⊎◌, inl, inr, ℕ, ℤ, zero, suc, ◌+◌, ◌<◌, ◌≤◌, false, List, [], ◌∷◌, length, Option, Some, refl, sym, ap, ◌∙◌, subst, arith}
 use Rattle.std.specs.Prelude.{slice_get, slice_set, nat_le, FitsSigned, if◌then◌else◌}
 use Rattle.std.specs.Int.{w32, cast_unsigned}
-use Rattle.std.specs.List.{AllByRecursion, AllZip}
+use Rattle.std.specs.List.{AllByRecursion}
 use Rattle.std.specs.Option.{option_map}
 use Rattle.std.proofs.lemmas.Bool.{cases_lt, cond_both}
 use Rattle.std.proofs.lemmas.List.{length-map}
@@ -18,7 +18,10 @@ use Rattle.code.specs.declared.instr.LocalArray.{LocalArray as ArraySlots}
 use Rattle.code.specs.declared.instr.Operand.{Operand}
 use Rattle.code.specs.declared.instr.Operand.TheVariants as operand
 use Rattle.type_rules.specs.declared.ty.ExprType.TheVariants.{Array}
-use Rattle.code_meaning.specs.Does.{IsOperand}
+use Rattle.code_meaning.specs.Does as gives
+use Rattle.code_meaning.specs.Does.{AllTogether, IsOperand}
+use Rattle.jni.specs.declared.kinds.ParameterKind.{ParameterKind}
+use Rattle.machine_answers.proofs.ArgumentPlaces.{Place, There, Past, place_at}
 use Rattle.code_meaning.specs.Fits.{HaveOwnSlots, IsArray}
 use Rattle.code_meaning.specs.Layout.{Known}
 use Rattle.code_meaning.specs.Slots.{Shows, ShowsElement, Slots, Visible, type_of_array, visible_to}
@@ -137,23 +140,19 @@ module _ (code : Listing) (known : Known) (own : Owners) (shared : Shared) (s : 
 
 -- ---- the array that a call names
 
-zip_at : {A B : Type 0} (P : A → B → Type 0) (xs : List A) (ys : List B) (i : ℕ) (x : A) → AllZip P xs ys → slice_get xs i ≡ Some x → (y : B) × (slice_get ys i ≡ Some y) × P x y
-zip_at P [] ys i x h at = absurd (cc (at))
-zip_at P (a ∷ xs) [] i x h at = absurd h
-zip_at P (a ∷ xs) (b ∷ ys) zero x h at = let first : a ≡ x = cc (at) in (b, refl, subst (λ v. P v b) first h.0)
-zip_at P (a ∷ xs) (b ∷ ys) (suc i) x h at = zip_at P xs ys i x h.1 at
+array_there : {known : Known} {visible : Visible} {q : ParameterKind} {array : ArraySlots} {a : Actual} → IsOperand known visible q (operand.Array array) a → (t : ElementType) × IsArray known (variable_in_actual (Some a)) t array.len array.start
+array_there (gives.array {u = t} at) = (t, at)
+array_there (gives.reference kind there) = elim there [ ]
 
-array_operand : (o : Option Operand) (array : ArraySlots) → operand_or_null o ≡ operand.Array array → o ≡ Some (operand.Array array)
-array_operand None array h = absurd (cc)
-array_operand (Some o) array h = ap (λ (x : Operand). Some x) h
-
-pub array_known : (code : Listing) (known : Known) (place : ℕ) (stack : List ℕ) (slots : Slots) (visible : Visible) (operands : List Operand) (args : List Actual) (array : ArraySlots) → AllZip (IsOperand code known place stack slots visible) operands args
+pub array_known : {known : Known} {visible : Visible} {ps : List ParameterKind} {operands : List Operand} {args : List Actual} (array : ArraySlots) → AllTogether (IsOperand known visible) ps operands args
     → operand_of operands 3 ≡ operand.Array array → (t : ElementType) × IsArray known (variable_given args 3) t array.len array.start
-array_known code known place stack slots visible operands args array h given =
-    let it = zip_at (IsOperand code known place stack slots visible) operands args 3 (operand.Array array) h (array_operand (slice_get operands 3) array given) in
-    let is = it.2 in
-    let same : is.0 ≡ variable_given args 3 = sym (ap variable_in_actual it.1 ∙ ap (λ (a : Actual). variable_in_actual (Some a)) is.1) in
-    (is.2, subst (λ (x : Identifier). IsArray known x is.2 array.len array.start) same is.3)
+array_known {known} {visible} {ps} {operands} {args} array h given = by_place (place_at 3 h)
+  where
+    by_place : Place (IsOperand known visible) ps operands args 3 → (t : ElementType) × IsArray known (variable_given args 3) t array.len array.start
+    by_place (There q o a at_p at_o at_a operand_is) =
+        let it = array_there (subst (λ (x : Operand). IsOperand known visible q x a) (sym (ap operand_or_null at_o) ∙ given) operand_is) in
+        (it.0, subst (λ (x : Option Actual). IsArray known (variable_in_actual x) it.0 array.len array.start) (sym at_a) it.1)
+    by_place (Past at_p at_o at_a) = absurd (let clash : operand.Null ≡ operand.Array array = sym (ap operand_or_null at_o) ∙ given in cc)
 
 -- ---- which answers change variables
 

@@ -1,9 +1,9 @@
 -- What a call gives that is a buffer, and what the variable that is told of it was.
 use Rattle.syntax.specs.Tree.{SourceUnit}
-use Rattle.std.proofs.Common.{◌≡◌, inl, inr, ℕ, ℤ, ◌+◌, Bool, true, false, List, [], ◌∷◌, length, Option, Some, None, refl, sym, ap, ◌∙◌, subst, arith, if◌then◌else◌}
+use Rattle.std.proofs.Common.{◌≡◌, ℕ, ℤ, ◌+◌, Bool, true, false, List, [], ◌∷◌, length, Option, Some, None, refl, sym, ap, ◌∙◌, subst, arith, if◌then◌else◌}
 use Rattle.std.specs.Prelude.{FitsSigned, nat_le, nat_lt}
 use Rattle.std.specs.Int.{w32}
-use Rattle.std.specs.List.{AllByRecursion, AllZip}
+use Rattle.std.specs.List.{AllByRecursion}
 use Rattle.std.specs.Str.{bytes_eq}
 use Rattle.std.proofs.lemmas.Bool.{leb-true}
 use Rattle.std.proofs.lemmas.Slice.Eq.{bytes_eq-Decides}
@@ -14,10 +14,9 @@ use Rattle.jni.specs.declared.function.JniFunction.TheVariants.{GetBuffer}
 use Rattle.jni.specs.JniFunction.{parameters_for, prototype}
 use Rattle.jni.specs.declared.access.Access.{Access}
 use Rattle.jni.specs.declared.kinds.ParameterKind.{ParameterKind}
-use Rattle.jni.specs.declared.kinds.ParameterKind.TheVariants.{ArrayVariable, BufferVariable, IsCopy}
+use Rattle.jni.specs.declared.kinds.ParameterKind.TheVariants.{IsCopy}
 use Rattle.jni.specs.declared.kinds.ResultKind.{ResultKind}
 use Rattle.jni.specs.declared.kinds.ResultKind.TheVariants.{GivesBuffer}
-use Rattle.jni.specs.Prototype.{owner}
 use Rattle.base.specs.Bytes.{Identifier, lookup}
 use Rattle.semantics.specs.Arguments.{Actual, address_given, address_in_actual}
 use Rattle.semantics.specs.Answer as source_answer
@@ -35,8 +34,8 @@ use Rattle.semantics.specs.Variable.{Variables, Scalar, Elements, NoBuffer, Copy
 use Rattle.semantics_safety.specs.StepSafe.{HoldsNoBuffer}
 use Rattle.code.specs.Depth.{Listing}
 use Rattle.code.specs.declared.instr.Operand.{Operand}
-use Rattle.code.specs.declared.instr.Operand.TheVariants as operand
-use Rattle.code_meaning.specs.Does.{IsOperand, OperandFits}
+use Rattle.code_meaning.specs.Does as gives
+use Rattle.code_meaning.specs.Does.{AllTogether, IsOperand}
 use Rattle.code_meaning.specs.Layout.{Known}
 use Rattle.code_meaning.specs.Slots.{Shows, Slots, kind_of_variable, visible_to}
 use Rattle.code_meaning.specs.Stands.{IsBufferResult}
@@ -104,36 +103,20 @@ module _ (code : Listing) (known : Known) (place : ℕ) (stack : List ℕ) (slot
   abbrev IsTellable : Option Identifier → Type 0
   IsTellable y = (z : Identifier) → y ≡ Some z → kind_of_variable (lookup z s.variables) ≡ Some kinds.Number
 
-  one_told : (o : Operand) (a : Actual) → OperandFits IsCopy o → IsOperand code known place stack slots (visible_to own shared s) o a → IsTellable (address_in_actual (Some a))
-  one_told (operand.IsCopy i) a kind h z is =
-      let shown = shows.each h.0 (record { ty = types.Flag; index = i }) h.2 in
-      let same : h.0 ≡ z = let both : Some h.0 ≡ Some z = sym (ap (λ (b : Actual). address_in_actual (Some b)) h.1) ∙ is in cc in
-      subst (λ (x : Identifier). kind_of_variable (lookup x s.variables) ≡ Some kinds.Number) same shown.kind
-  one_told operand.Null a kind (inl h) z is = absurd (let clash : None ≡ Some z = sym (ap (λ (b : Actual). address_in_actual (Some b)) h.1) ∙ is in cc)
-  one_told operand.Null a kind (inr (inl h)) z is = absurd (let clash : None ≡ Some z = sym (ap (λ (b : Actual). address_in_actual (Some b)) h) ∙ is in cc)
-  one_told operand.Null a kind (inr (inr (inl h))) z is = absurd (let clash : None ≡ Some z = sym (ap (λ (b : Actual). address_in_actual (Some b)) h) ∙ is in cc)
-  one_told operand.Null a kind (inr (inr (inr h))) z is = absurd (let clash : None ≡ Some z = sym (ap (λ (b : Actual). address_in_actual (Some b)) h) ∙ is in cc)
-  one_told (operand.Local i) a kind h z is = absurd kind
-  one_told (operand.Static i) a kind h z is = absurd kind
-  one_told operand.Number a (inl kind) h z is = absurd (cc (kind))
-  one_told operand.Number a (inr kind) h z is = absurd (cc (kind))
-  one_told (operand.FieldId i) a kind h z is = absurd (cc (kind))
-  one_told (operand.MethodId i) a kind h z is = absurd (cc (kind))
-  one_told operand.Text a kind h z is = absurd (cc (kind))
-  one_told (operand.Array array) a kind h z is = absurd (let clash : IsCopy ≡ ArrayVariable kind.0 = kind.1 in cc)
-  one_told (operand.Buffer i) a kind h z is = absurd (let clash : IsCopy ≡ BufferVariable kind.0 = kind.1 in cc)
-  one_told (operand.Mode mode) a kind h z is = absurd (cc (kind))
+  one_told : {o : Operand} {a : Actual} → IsOperand known (visible_to own shared s) IsCopy o a → IsTellable (address_in_actual (Some a))
+  one_told (gives.told {i = i} {x = x} at) z is =
+      let shown = shows.each x (record { ty = types.Flag; index = i }) at in
+      let same : x ≡ z = let both : Some x ≡ Some z = is in cc in
+      subst (λ (y : Identifier). kind_of_variable (lookup y s.variables) ≡ Some kinds.Number) same shown.kind
+  one_told gives.not_told z is = absurd (let clash : None ≡ Some z = is in cc)
+  one_told (gives.reference kind there) z is = absurd kind
 
-  two_told : (p : ParameterKind) (operands : List Operand) (args : List Actual) → AllZip OperandFits (p ∷ IsCopy ∷ []) operands → AllZip (IsOperand code known place stack slots (visible_to own shared s)) operands args → IsTellable (address_given args 1)
-  two_told p [] args kinds h = absurd kinds
-  two_told p (o ∷ []) args kinds h = absurd kinds.1
-  two_told p (o ∷ q ∷ operands) [] kinds h = absurd h
-  two_told p (o ∷ q ∷ operands) (a ∷ []) kinds h = absurd h.1
-  two_told p (o ∷ q ∷ operands) (a ∷ b ∷ args) kinds h = one_told q b kinds.1.0 h.1.0
+  two_told : {p : ParameterKind} {operands : List Operand} {args : List Actual} → AllTogether (IsOperand known (visible_to own shared s)) (p ∷ IsCopy ∷ []) operands args → IsTellable (address_given args 1)
+  two_told (gives.more first (gives.more second rest)) = one_told second
 
-  pub told_number : (f : JniFunction) (n : ℕ) (operands : List Operand) (args : List Actual) → IsBufferResult (prototype f).result → AllZip OperandFits (parameters_for f n) operands → AllZip (IsOperand code known place stack slots (visible_to own shared s)) operands args → IsTellable (address_given args 1)
-  told_number (GetBuffer access) n operands args b kinds h = two_told (owner access) operands args kinds h
-  told_number f n operands args b kinds h = absurd (let clash : (prototype f).result ≡ GivesBuffer b.0 = b.1 in cc)
+  pub told_number : (f : JniFunction) (n : ℕ) {operands : List Operand} {args : List Actual} → IsBufferResult (prototype f).result → AllTogether (IsOperand known (visible_to own shared s)) (parameters_for f n) operands args → IsTellable (address_given args 1)
+  told_number (GetBuffer access) n b h = two_told h
+  told_number f n b h = absurd (let clash : (prototype f).result ≡ GivesBuffer b.0 = b.1 in cc)
 
 -- ---- a buffer that is given
 

@@ -1,7 +1,7 @@
 -- The local references that a call is given are its variables' own.
-use Rattle.std.proofs.Common.{inl, inr, ◌≡◌, ℕ, ℤ, Bool, true, false, List, [], ◌∷◌, ◌++◌, length, map, zip, Option, Some, None, refl, sym, ap, ◌∙◌, subst, if◌then◌else◌}
+use Rattle.std.proofs.Common.{◌≡◌, ℕ, ℤ, Bool, true, false, List, [], ◌∷◌, ◌++◌, length, map, zip, Option, Some, None, refl, sym, ap, ◌∙◌, subst, if◌then◌else◌}
 use Rattle.std.specs.Prelude.{flat_map, slice_get}
-use Rattle.std.specs.List.{AllByRecursion, AllZip}
+use Rattle.std.specs.List.{AllByRecursion}
 use Rattle.base.specs.Bytes.{Identifier, lookup}
 use Rattle.syntax.specs.Parts.{names_in}
 use Rattle.syntax.specs.Tree as tree
@@ -13,7 +13,7 @@ use Rattle.heap.specs.Heap.{Space}
 use Rattle.jni.specs.declared.function.JniFunction.{JniFunction}
 use Rattle.jni.specs.JniFunction.{parameters_for}
 use Rattle.jni.specs.declared.kinds.ParameterKind.{ParameterKind}
-use Rattle.jni.specs.declared.kinds.ParameterKind.TheVariants.{FieldID, MethodID, IntNumber, Passed, TextBytes, LocalVariable, ArrayVariable, BufferVariable, Mode, IsCopy}
+use Rattle.jni.specs.declared.kinds.ParameterKind.TheVariants.{FieldID, MethodID, LocalVariable, ArrayVariable, BufferVariable, Mode, IsCopy}
 use Rattle.type_rules.specs.declared.ty.ExprType.TheVariants.{Ref}
 use Rattle.semantics_safety.specs.Owners.{Owners, IsOwn}
 use Rattle.semantics_safety.specs.Used.{operand_names, task_names}
@@ -33,13 +33,13 @@ use Rattle.semantics.specs.Variable.{Variable, LocalRef, StaticReference, Empty,
 use Rattle.code.specs.Depth.{Listing}
 use Rattle.code.specs.declared.instr.Operand.{Operand as InMemory}
 use Rattle.code.specs.declared.instr.Operand.TheVariants as operand
-use Rattle.code_meaning.specs.Does.{IsOperand, OperandFits}
+use Rattle.code_meaning.specs.Does as gives
+use Rattle.code_meaning.specs.Does.{AllTogether, IsOperand}
 use Rattle.code_meaning.specs.Lowered.{Lowered}
 use Rattle.code_meaning.specs.Slots.{visible_to}
 use Rattle.machine_scenes.specs.declared.activation.Activation.{Activation}
 use Rattle.machine_steps.proofs.Arguments.{HasOwner}
 use Rattle.machine_steps.proofs.Calls.{Ready}
-use Rattle.machine_threads.specs.SlotsHold.{slots_of}
 use Rattle.machine_steps.proofs.Changes.{local_by_kind}
 use Rattle.machine_scenes.proofs.KeyLaws.{own_key_there}
 use Rattle.machine_scenes.specs.Locals.{IsKeyGiven}
@@ -207,8 +207,8 @@ static_some None n e = absurd (cc)
 static_some (Some m) n e = cc
 
 module _ (p : Lowered) (classes : Classes) (space : Space) (copies : List (Option OwnedNumbers)) (owner : ℕ) (call : Activation) (code : Listing) (own : Owners) (shared : Shared) (s : Thread) (task : Task) (rest : List Task) (r : Ready p classes space copies owner call code (visible_to own shared s) s.frames task rest) where
-  pub owner_of_one : (o : InMemory) (a : Actual) → IsOperand code r.known call.place call.stack (slots_of call r.meant) (visible_to own shared s) o a → IsArgumentOwn own s.variables a → HasOwner r.meant.references r.meant.owners o
-  owner_of_one (operand.Local i) a (x, is, at) owned = λ n found.
+  pub owner_of_one : {q : ParameterKind} {o : InMemory} {a : Actual} → IsOperand r.known (visible_to own shared s) q o a → IsArgumentOwn own s.variables a → HasOwner r.meant.references r.meant.owners o
+  owner_of_one (gives.reference kind (gives.local {i = i} {x = x} takes at)) owned = λ n found.
       let shown = r.shows.each x (record { ty = Ref; index = i }) at in
       let local = local_by_kind (lookup x s.variables) shown.kind in
       let object : shown.reference ≡ Some n = let both : Some shown.reference ≡ Some (Some n) = sym shown.there ∙ found in cc in
@@ -216,23 +216,21 @@ module _ (p : Lowered) (classes : Classes) (space : Space) (copies : List (Optio
       let held : held_reference (lookup x s.variables) (lookup x shared.statics) ≡ as_static local.1 = ap (λ (o : Option Variable). held_reference o (lookup x shared.statics)) local.2 in
       let same : local.1 ≡ Some n = static_some local.1 n (sym held ∙ seen) in
       let variable : lookup x s.variables ≡ Some (LocalRef local.0 (Some n)) = local.2 ∙ ap (λ (q : Reference). Some (LocalRef local.0 q)) same in
-      let actual : a ≡ ReferenceActual x (Live n) = is ∙ ap (ReferenceActual x) seen in
-      let is_own : IsOwn own x (lookup x s.variables) = subst (IsArgumentOwn own s.variables) actual owned in
+      let is_own : IsOwn own x (lookup x s.variables) = subst (IsArgumentOwn own s.variables) (ap (ReferenceActual x) seen) owned in
       let level : own x ≡ Some local.0 = subst (IsOwn own x) variable is_own in
       (local.0, shown.owner n local.0 object level)
-  owner_of_one o a h owned = tt
+  owner_of_one (gives.reference kind (gives.null takes)) owned = tt
+  owner_of_one h owned = tt
 
-  pub owners_there : (operands : List InMemory) (args : List Actual) → AllZip (IsOperand code r.known call.place call.stack (slots_of call r.meant) (visible_to own shared s)) operands args → AllByRecursion (IsArgumentOwn own s.variables) args
+  pub owners_there : {ps : List ParameterKind} {operands : List InMemory} {args : List Actual} → AllTogether (IsOperand r.known (visible_to own shared s)) ps operands args → AllByRecursion (IsArgumentOwn own s.variables) args
       → AllByRecursion (HasOwner r.meant.references r.meant.owners) operands
-  owners_there [] [] h owned = tt
-  owners_there [] (a ∷ args) h owned = absurd h
-  owners_there (o ∷ operands) [] h owned = absurd h
-  owners_there (o ∷ operands) (a ∷ args) h owned = (owner_of_one o a h.0 owned.0, owners_there operands args h.1 owned.1)
+  owners_there gives.none owned = tt
+  owners_there (gives.more h rest) owned = (owner_of_one h owned.0, owners_there rest owned.1)
 
   -- each operand of the call has an owner
-  pub operands_owned : (line : ℕ) (target : Target) (f : JniFunction) (args : List Actual) (operands : List InMemory) → effect_of (sight_of shared s) task ≡ Calls line target f args → AllByRecursion (λ x. IsOwn own x (lookup x s.variables)) (task_names task)
-      → AllZip (IsOperand code r.known call.place call.stack (slots_of call r.meant) (visible_to own shared s)) operands args → AllByRecursion (HasOwner r.meant.references r.meant.owners) operands
-  operands_owned line target f args operands is owned h = owners_there operands args h (given_own own s.variables (sight_of shared s) task line target f args is owned)
+  pub operands_owned : (line : ℕ) (target : Target) (f : JniFunction) (args : List Actual) {ps : List ParameterKind} {operands : List InMemory} → effect_of (sight_of shared s) task ≡ Calls line target f args → AllByRecursion (λ x. IsOwn own x (lookup x s.variables)) (task_names task)
+      → AllTogether (IsOperand r.known (visible_to own shared s)) ps operands args → AllByRecursion (HasOwner r.meant.references r.meant.owners) operands
+  operands_owned line target f args is owned h = owners_there h (given_own own s.variables (sight_of shared s) task line target f args is owned)
 
   -- ---- the local reference that DeleteLocalRef is given
 
@@ -253,41 +251,31 @@ module _ (p : Lowered) (classes : Classes) (space : Space) (copies : List (Optio
     pub owned : HasOwner r.meant.references r.meant.owners (operand.Local slot)
     pub key : IsKeyGiven space call.locals (held_in (slice_get keys slot)) (reference_in_actual (Some a)) (level_of (lookup name s.variables))
 
-  named_key : (o : InMemory) (a : Actual) → OperandFits LocalVariable o → IsOperand code r.known call.place call.stack (slots_of call r.meant) (visible_to own shared s) o a → IsArgumentOwn own s.variables a → IsNamedKey o a
-  named_key (operand.Local i) a fits (x, is, at) owned =
+  named_key : {o : InMemory} {a : Actual} → IsOperand r.known (visible_to own shared s) LocalVariable o a → IsArgumentOwn own s.variables a → IsNamedKey o a
+  named_key {a = a} (gives.reference kind (gives.local {i = i} {x = x} takes at)) owned =
       let shown = r.shows.each x (record { ty = Ref; index = i }) at in
       let local = local_by_kind (lookup x s.variables) shown.kind in
       let held : held_reference (lookup x s.variables) (lookup x shared.statics) ≡ as_static local.1 = ap (λ (o : Option Variable). held_reference o (lookup x shared.statics)) local.2 in
-      let actual : a ≡ ReferenceActual x (as_static shown.reference) = is ∙ ap (ReferenceActual x) shown.is in
-      let given : reference_in_actual (Some a) ≡ shown.reference = ap (λ (b : Actual). reference_in_actual (Some b)) actual ∙ reference_is x shown.reference in
+      let given : reference_in_actual (Some a) ≡ shown.reference = ap (λ (b : StaticReference). reference_in_actual (Some (ReferenceActual x b))) shown.is ∙ reference_is x shown.reference in
       let level : level_of (lookup x s.variables) ≡ local.0 = ap level_of local.2 in
       let own_level : (n : ℕ) → shown.reference ≡ Some n → slice_get r.meant.owners i ≡ Some (Some local.0) = λ n object.
       let seen : (visible_to own shared s).sight.reference x ≡ Live n = shown.is ∙ some_static shown.reference n object in
       let same : local.1 ≡ Some n = static_some local.1 n (sym held ∙ seen) in
       let variable : lookup x s.variables ≡ Some (LocalRef local.0 (Some n)) = local.2 ∙ ap (λ (q : Reference). Some (LocalRef local.0 q)) same in
-      let is_own : IsOwn own x (lookup x s.variables) = subst (IsArgumentOwn own s.variables) (is ∙ ap (ReferenceActual x) seen) owned in
+      let is_own : IsOwn own x (lookup x s.variables) = subst (IsArgumentOwn own s.variables) (ap (ReferenceActual x) seen) owned in
       shown.owner n local.0 object (subst (IsOwn own x) variable is_own) in
       record {
         slot = i;
         is = refl;
         name = x;
-        variable = ap (λ (b : Actual). variable_given (b ∷ []) 0) is;
+        variable = refl;
         at = at;
-        owned = owner_of_one (operand.Local i) a (x, is, at) owned;
+        owned = owner_of_one {q = LocalVariable} (gives.reference kind (gives.local takes at)) owned;
         key = subst (λ (q : Reference). IsKeyGiven space call.locals (held_in (slice_get keys i)) q (level_of (lookup x s.variables))) (sym given)
             (subst (IsKeyGiven space call.locals (held_in (slice_get keys i)) shown.reference) (sym level) (own_key_there space call.locals keys r.meant.references r.meant.owners i shown.reference local.0 r.holds.keys shown.there own_level));
       }
-  named_key operand.Null a fits h owned = absurd fits
-  named_key (operand.Static i) a fits h owned = absurd fits
-  named_key operand.Number a (inl fits) h owned = absurd (let e : LocalVariable ≡ IntNumber = fits in cc)
-  named_key operand.Number a (inr fits) h owned = absurd (let e : LocalVariable ≡ Passed = fits in cc)
-  named_key (operand.FieldId i) a fits h owned = absurd (let e : LocalVariable ≡ FieldID = fits in cc)
-  named_key (operand.MethodId i) a fits h owned = absurd (let e : LocalVariable ≡ MethodID = fits in cc)
-  named_key operand.Text a fits h owned = absurd (let e : LocalVariable ≡ TextBytes = fits in cc)
-  named_key (operand.Array array) a fits h owned = absurd (let e : LocalVariable ≡ ArrayVariable fits.0 = fits.1 in cc)
-  named_key (operand.Buffer i) a fits h owned = absurd (let e : LocalVariable ≡ BufferVariable fits.0 = fits.1 in cc)
-  named_key (operand.Mode mode) a fits h owned = absurd (let e : LocalVariable ≡ Mode = fits in cc)
-  named_key (operand.IsCopy i) a fits h owned = absurd (let e : LocalVariable ≡ IsCopy = fits in cc)
+  named_key (gives.reference kind (gives.null takes)) owned = absurd takes
+  named_key (gives.reference kind (gives.static takes at)) owned = absurd takes
 
   -- of a call of DeleteLocalRef
   pub record DeletesKey (operands : List InMemory) (args : List Actual) : Type 0 where
@@ -299,14 +287,9 @@ module _ (p : Lowered) (classes : Classes) (space : Space) (copies : List (Optio
     pub owned : HasOwner r.meant.references r.meant.owners (operand.Local slot)
     pub key : IsKeyGiven space call.locals (held_in (slice_get keys slot)) (reference_given args 0) (level_of (lookup name s.variables))
 
-  pub deletes_key : (line : ℕ) (target : Target) (f : JniFunction) (args : List Actual) (operands : List InMemory) → effect_of (sight_of shared s) task ≡ Calls line target f args → AllByRecursion (λ x. IsOwn own x (lookup x s.variables)) (task_names task)
-      → AllZip (IsOperand code r.known call.place call.stack (slots_of call r.meant) (visible_to own shared s)) operands args → AllZip OperandFits (LocalVariable ∷ []) operands → DeletesKey operands args
-  deletes_key line target f args operands is owned h fits = by_operand operands args fits h (given_own own s.variables (sight_of shared s) task line target f args is owned)
+  pub deletes_key : (line : ℕ) (target : Target) (f : JniFunction) (args : List Actual) {operands : List InMemory} → effect_of (sight_of shared s) task ≡ Calls line target f args → AllByRecursion (λ x. IsOwn own x (lookup x s.variables)) (task_names task)
+      → AllTogether (IsOperand r.known (visible_to own shared s)) (LocalVariable ∷ []) operands args → DeletesKey operands args
+  deletes_key line target f args is owned h = by_operand h (given_own own s.variables (sight_of shared s) task line target f args is owned)
     where
-      by_operand : (operands : List InMemory) (args : List Actual) → AllZip OperandFits (LocalVariable ∷ []) operands → AllZip (IsOperand code r.known call.place call.stack (slots_of call r.meant) (visible_to own shared s)) operands args
-          → AllByRecursion (IsArgumentOwn own s.variables) args → DeletesKey operands args
-      by_operand [] args fits h owned = absurd fits
-      by_operand (o ∷ p ∷ operands) args fits h owned = absurd (fits.1)
-      by_operand (o ∷ []) [] fits h owned = absurd h
-      by_operand (o ∷ []) (a ∷ b ∷ args) fits h owned = absurd (h.1)
-      by_operand (o ∷ []) (a ∷ []) fits h owned = let one = named_key o a fits.0 h.0 owned.0 in record { slot = one.slot; is = one.is; name = one.name; variable = one.variable; at = one.at; owned = one.owned; key = one.key }
+      by_operand : {operands : List InMemory} {args : List Actual} → AllTogether (IsOperand r.known (visible_to own shared s)) (LocalVariable ∷ []) operands args → AllByRecursion (IsArgumentOwn own s.variables) args → DeletesKey operands args
+      by_operand (gives.more h gives.none) owned = let one = named_key h owned.0 in record { slot = one.slot; is = one.is; name = one.name; variable = one.variable; at = one.at; owned = one.owned; key = one.key }

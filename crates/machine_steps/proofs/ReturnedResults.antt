@@ -9,7 +9,6 @@ use Rattle.class_rules.specs.Class.{Classes}
 use Rattle.code.specs.Depth.{Listing}
 use Rattle.code.specs.declared.instr.Instr.{Instr}
 use Rattle.code.specs.declared.instr.Instr.TheVariants as instr
-use Rattle.code.specs.declared.instr.Operand.TheVariants as operand
 use Rattle.code.specs.declared.instr.ReferenceOperand.TheVariants.{Null, Local}
 use Rattle.code_meaning.specs.Lowered.{Lowered}
 use Rattle.code_meaning.specs.Fits as rule
@@ -23,6 +22,8 @@ use Rattle.machine_steps.specs.declared.execute.ReturnValue.TheVariants as value
 use Rattle.machine_scenes.proofs.KeyLaws.{address_there}
 use Rattle.machine_scenes.specs.declared.activation.Activation.{Activation}
 use Rattle.machine_steps.proofs.Calls.{Ready}
+use Rattle.jni.specs.declared.kinds.ParameterKind.TheVariants.{LocalVariable}
+use Rattle.code_meaning.specs.Does as does
 use Rattle.machine_steps.proofs.OwnedKeys.{IsArgumentOwn, owner_of_one}
 use Rattle.machine_steps.specs.Returned.{ReturnAgrees, given_by, returned_at, top_of}
 use Rattle.semantics.specs.Arguments.{ReferenceActual, actuals}
@@ -138,7 +139,7 @@ module _ (p : Lowered) (classes : Classes) (space : Space) (copies : List (Optio
       let same : i ≡ instr.ReturnReference (Local n) = cc (at, there) in
       let named : Returns (ReferenceResult (as_reference (sees.reference x))) ≡ Returns c = sym (ap (λ (o : Outcome Value). returned_name line o (sees.reference x)) shown.no_number) ∙ is in
       let gives : ReferenceResult shown.reference ≡ c = ap (λ (q : Reference). ReferenceResult q) (sym (ap as_reference shown.is ∙ same_reference shown.reference)) ∙ (let both = named in cc) in
-      let has = owner_of_one p classes space copies owner call code own shared s task rest r (operand.Local n) (ReferenceActual x (sees.reference x)) (x, refl, found) (own_argument own s.variables x (sees.reference x) owned.0) in
+      let has = owner_of_one p classes space copies owner call code own shared s task rest r {q = LocalVariable} (does.reference tt (does.local tt found)) (own_argument own s.variables x (sees.reference x) owned.0) in
       subst (λ (j : Instr). ReturnAgrees space (given_by j call) c) (sym same)
       (subst (ReturnAgrees space (value.Reference (returned_at call (Local n)))) gives
       (address_there space call.locals call.slots.references.items r.meant.references r.meant.owners n shown.reference r.holds.keys shown.there (λ m object. has m (shown.there ∙ ap (λ (q : Reference). Some q) object))))

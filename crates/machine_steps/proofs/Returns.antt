@@ -297,7 +297,7 @@ module _ (p : Lowered) (w : World) (old : Store) (others : Acquired) (k : ℕ) (
       ends = finishes p w old.heap old.elements old (beside_callers others within) owner first.own shared shared (keeps_same old.heap shared) within caller first.agrees.stands.code (Invoke line c.target f first.agrees.operands) c.tasks r line f given_args caller.locals d.stacked
           (has_room p w.classes old w everything owner caller first.own shared c lowered shares first.agrees d.few can) r.holds.keys r.holds.buffers first.agrees.views c.frames r.frames_agree s.pending g back c.variables told refl parted agree
           (λ b is. absurd (subst IsNoBuffer is plain)) (λ b j key is copy at. absurd (no_buffer_kind (subst (λ (x : Given). ResultAgrees (unit_tree p.unit) w.classes old owner x kind back) is agree).0)) (λ goes. refl)
-          it.call it.at (none_left_by first.agrees.stands.code r.known caller.place caller.stack (slots_of caller r.meant) (seen_by first.own shared c) it.call.operands given_args it.given it.words) d.call d.statics
+          it.call it.at (none_left_by it.given it.words) d.call d.statics
           it.call.target c.target (λ local x level q is at. can.declared x level q is (sym first.agrees.result ∙ local) at) can.free refl it.goes received_it put_it
 
       abbrev next : source.Thread

@@ -1,16 +1,19 @@
 -- The static whose reference DeleteGlobalRef or DeleteWeakGlobalRef is given.
-use Rattle.std.proofs.Common.{◌≡◌, ℕ, List, [], ◌∷◌, Option, sym, subst}
-use Rattle.std.specs.List.{AllZip}
+use Rattle.std.proofs.Common.{◌≡◌, ℕ, List, [], ◌∷◌, Option, subst}
+use Rattle.base.specs.Bytes.{Identifier}
 use Rattle.class_rules.specs.Class.{Classes}
 use Rattle.tables.specs.Elements.{OwnedNumbers}
 use Rattle.heap.specs.Heap.{Space}
 use Rattle.semantics.specs.Arguments.{Actual, variable_given}
 use Rattle.semantics.specs.Task.{Task}
 use Rattle.semantics.specs.Thread.{Shared, Thread}
+use Rattle.semantics.specs.Variable.{StaticReference}
 use Rattle.code.specs.declared.instr.Operand.{Operand}
 use Rattle.code.specs.declared.instr.Operand.TheVariants as operand
 use Rattle.code.specs.Depth.{Listing}
-use Rattle.code_meaning.specs.Does.{IsOperand}
+use Rattle.code_meaning.specs.Does as gives
+use Rattle.code_meaning.specs.Does.{AllTogether, GivesReference, IsOperand}
+use Rattle.jni.specs.declared.kinds.ParameterKind.{ParameterKind}
 use Rattle.code_meaning.specs.Lowered.{Lowered}
 use Rattle.semantics_safety.specs.Owners.{Owners}
 use Rattle.code_meaning.specs.Slots.{visible_to}
@@ -29,23 +32,20 @@ module _ (p : Lowered) (classes : Classes) (space : Space) (copies : List (Optio
   abbrev references : References
   references = record { keys = call.slots.references.items; locals = call.locals; statics = helds }
 
-  abbrev Gives : Operand → Actual → Type 0
-  Gives o a = IsOperand code r.known call.place call.stack (slots_of call r.meant) (visible_to own shared s) o a
-
-  held_by_one : (i : ℕ) (a : Actual) → Gives (operand.Static i) a → HeldStatic space references shared (variable_given (a ∷ []) 0) i
-  held_by_one i a (x, is, at) =
+  held_by_one : {q : ParameterKind} {i : ℕ} {x : Identifier} {held : StaticReference} → GivesReference r.known (visible_to own shared s) q (operand.Static i) x held → HeldStatic space references shared x i
+  held_by_one {i = i} {x = x} (gives.static takes at) =
       let shown = static_shown code r.known (visible_to own shared s) (slots_of call r.meant) r.shows x i at in
-      subst (λ (b : Actual). HeldStatic space references shared (variable_given (b ∷ []) 0) i) (sym is)
-      (record {
+      record {
         place = shown.static.place;
         reference = shown.static.held;
         there = shown.static.there;
         agrees = static_there space x helds shared.statics i shown.static.held statics shown.static.place shown.static.there;
-      })
+      }
+
+  of_static : {q : ParameterKind} {i : ℕ} {a : Actual} → IsOperand r.known (visible_to own shared s) q (operand.Static i) a → HeldStatic space references shared (variable_given (a ∷ []) 0) i
+  of_static (gives.reference kind there) = held_by_one there
 
   -- what it holds stands for what it holds in the source
-  pub static_held : (operands : List Operand) (args : List Actual) (i : ℕ) → AllZip Gives operands args → operand_of operands 0 ≡ operand.Static i → HeldStatic space references shared (variable_given args 0) i
-  static_held [] [] i h is = absurd (cc)
-  static_held [] (a ∷ args) i h is = absurd h
-  static_held (o ∷ operands) [] i h is = absurd h
-  static_held (o ∷ operands) (a ∷ args) i h is = held_by_one i a (subst (λ (q : Operand). Gives q a) is h.0)
+  pub static_held : (i : ℕ) {ps : List ParameterKind} {operands : List Operand} {args : List Actual} → AllTogether (IsOperand r.known (visible_to own shared s)) ps operands args → operand_of operands 0 ≡ operand.Static i → HeldStatic space references shared (variable_given args 0) i
+  static_held i gives.none is = absurd (cc)
+  static_held i (gives.more {x = q} {z = a} h rest) is = of_static (subst (λ (o : Operand). IsOperand r.known (visible_to own shared s) q o a) is h)

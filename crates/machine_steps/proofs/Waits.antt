@@ -1,7 +1,6 @@
 -- Which steps wait for a monitor.
 use Rattle.std.proofs.Common.{◌≡◌, ◌<◌, ◌≤◌, ℕ, Bool, true, false, not, eqb, List, [], ◌∷◌, length, Option, Some, None, is_none, refl, sym, ap, ◌∙◌, subst, cond}
 use Rattle.std.specs.Prelude.{◌&&◌, nat_lt, slice_get}
-use Rattle.std.specs.List.{AllZip}
 use Rattle.std.proofs.lemmas.Bool.{and_right, eq-eqb}
 use Rattle.std.proofs.lemmas.Option.{slice_get_within}
 use Rattle.class_rules.specs.Class.{Classes}
@@ -30,7 +29,7 @@ use Rattle.code.specs.Depth.{Listing}
 use Rattle.code.specs.declared.instr.Call.{Call as InMemory}
 use Rattle.code.specs.declared.instr.Instr.{Instr}
 use Rattle.code.specs.declared.instr.Instr.TheVariants as instr
-use Rattle.code_meaning.specs.Does.{OperandFits}
+use Rattle.code_meaning.specs.Does.{AllTogether}
 use Rattle.code_meaning.specs.Lowered.{Lowered, IsLowered}
 use Rattle.code_meaning.specs.Slots.{visible_to}
 use Rattle.tables.specs.Elements.{OwnedNumbers}
@@ -45,7 +44,7 @@ use Rattle.machine_answers.specs.Asked.{references_of, scene_of}
 use Rattle.machine_answers.specs.Sights.{trap_seen}
 use Rattle.machine_scenes.specs.Buffers.{Acquired, AreViewed, acquired_by, beside}
 use Rattle.machine_answers.specs.Checked.{some_missing}
-use Rattle.machine_scenes.specs.Given.{operand_at, operand_of}
+use Rattle.machine_scenes.specs.Given.{IsGiven, operand_at, operand_of}
 use Rattle.machine_scenes.specs.StoreAgrees.{StoreAgrees}
 use Rattle.machine_answers.proofs.CallOperands.{GivenObject, object_at_place}
 use Rattle.machine_answers.proofs.CallTraps.{free_seen, none_deleted, none_lacking}
@@ -234,9 +233,8 @@ module _ (p : Lowered) (w : World) (store : Store) (pending : Option ℕ) (call 
 
     object : GivenObject (unit_tree p.unit) w.classes store.heap (references_of store call) call.slots.fields.items in_memory.operands.items it.args 0
     object =
-        object_at_place (unit_tree p.unit) w.classes store.heap (references_of store call) call.slots.fields.items [] NonNull [] tt refl in_memory.operands.items it.args
-        (subst (λ (f : JniFunction). AllZip OperandFits (parameters_for f (length it.args)) in_memory.operands.items) enters_it it.asked.kinds)
-        it.asked.given
+        object_at_place (unit_tree p.unit) w.classes store.heap (references_of store call) call.slots.fields.items [] NonNull [] tt refl
+        (subst (λ (f : JniFunction). AllTogether (IsGiven (unit_tree p.unit) w.classes store.heap (references_of store call) call.slots.fields.items) (parameters_for f (length it.args)) in_memory.operands.items it.args) enters_it it.asked.given)
         (none_deleted p w (store_unowned store) pending call (call_view in_memory) others k owner (unowned shared) s it.target it.f it.args it.asked seen_free)
         (subst (λ (f : JniFunction). some_missing (references_of store call) call.slots.fields.items (parameters_for f (length it.args)) in_memory.operands.items ≡ false) enters_it
         (none_lacking p w (store_unowned store) pending call (call_view in_memory) others k owner (unowned shared) s it.target it.f it.args it.asked seen_free))
