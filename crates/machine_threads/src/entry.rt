@@ -12,7 +12,6 @@ ghost use Rattle.machine_threads.specs.Held.{held_value};
 
 use crate::objects::held;
 use crate::thread::{Entering, PendingCall};
-use class_rules::ClassId;
 use code::code::Code;
 use code::stack::Stack;
 use heap::{Addr, Value};
@@ -86,8 +85,7 @@ pub fn begin(
         &mut locals,
         &mut references,
         loaded,
-        next.class,
-        &next.arguments,
+        next,
         slots.references as usize,
     );
     Ok(Activation {
@@ -130,8 +128,11 @@ pub fn begin_again(ended: &mut Activation, code: &Code, loaded: &[Addr], next: &
     ended.function = next.function;
     ended.place = 0;
     ended.stack.clear();
-    let arguments: &[Value] = &next.arguments;
-    let given = fill_numbers(&mut ended.slots.numbers, arguments, slots.numbers as usize);
+    let given = fill_numbers(
+        &mut ended.slots.numbers,
+        &next.arguments,
+        slots.numbers as usize,
+    );
     empty_fields(&mut ended.slots.fields, slots.field_ids as usize);
     empty_buffers(&mut ended.slots.buffers, slots.buffers as usize);
     ended.locals.restart(1 + given + MORE_LOCALS);
@@ -139,8 +140,7 @@ pub fn begin_again(ended: &mut Activation, code: &Code, loaded: &[Addr], next: &
         &mut ended.locals,
         &mut ended.slots.references,
         loaded,
-        next.class,
-        arguments,
+        next,
         slots.references as usize,
     );
 }
@@ -237,28 +237,27 @@ fn fill_zeros(slots: &mut Vec<u32>, count: usize)
     slots.resize(count, 0).unwrap();
 }
 
-/// Makes references to the class and to what the call is given but NULL, in the first frame, which has none yet. The first of
+/// Makes references to a call's class and to what it is given but NULL, in the first frame, which has none yet. The first of
 /// `count` slots have their keys, in order.
 #[inline(always)]
 fn fill_references(
     locals: &mut Locals,
     keys: &mut Vec<Option<Local>>,
     loaded: &[Addr],
-    class: ClassId,
-    arguments: &[Value],
+    next: &Entering,
     count: usize,
 )
-    requires frame { locals.old ≡ first_frame (length (references_in (filter_map given_address arguments.now)) + 17) }
-    requires class { (0 < class.number) × (class.number ≤ length loaded.now) }
-    requires given { length (filter_map given_address arguments.now) < count }
+    requires frame { locals.old ≡ first_frame (length (references_in (filter_map given_address next.now.arguments.items)) + 17) }
+    requires class { (0 < next.now.class.number) × (next.now.class.number ≤ length loaded.now) }
+    requires given { length (filter_map given_address next.now.arguments.items) < count }
     requires room { count ≤ vec_capacity keys.old }
-    ensures { AreEntryReferences count loaded.now class.number arguments.now locals.new keys.new.items }
+    ensures { AreEntryReferences count loaded.now next.now.class.number next.now.arguments.items locals.new keys.new.items }
 {
     keys.clear();
-    let object = object_of(loaded, ObjectId::of_class(class)).unwrap();
+    let object = object_of(loaded, ObjectId::of_class(next.class)).unwrap();
     let key = locals.make_in_room(object);
     keys.push_reserved(Some(key));
-    for argument in arguments {
+    for argument in &next.arguments {
         match argument {
             Value::Number(_) => {}
             Value::Null => keys.push_reserved(None),

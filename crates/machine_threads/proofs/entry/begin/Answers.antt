@@ -12,14 +12,13 @@ use Rattle.machine_threads.proofs.entry.begin.Goals as goal
 pub fill_references-requires-clause-given : goal.fill_references-requires-clause-given
 fill_references-requires-clause-given c =
     let room : length (filter_map given_address c.args.next.now.arguments.items) < c.args.code.now.slots.references = c.requires.room.references in
-    rw (c.deref-2.ensures.value, c.slots-slots.ensures.counts) room
+    rw c.slots-slots.ensures.counts room
 
 pub fill_references-requires-clause-frame : goal.fill_references-requires-clause-frame
 fill_references-requires-clause-frame c =
     let given = c.args.next.now.arguments.items in
     let count : c.fill_numbers-given.result ≡ length (references_in (filter_map given_address given)) = c.fill_numbers-given.ensures.references ∙ ap (λ (l : List Value). length (references_in (filter_map given_address l))) c.deref.ensures.value in
-    let same : length (references_in (filter_map given_address c.deref-2.result.now)) ≡ length (references_in (filter_map given_address given)) = ap (λ (l : List Value). length (references_in (filter_map given_address l))) c.deref-2.ensures.value in
-    let capacity : (1 + c.fill_numbers-given.result) + 16 ≡ length (references_in (filter_map given_address c.deref-2.result.now)) + 17 = omega (arith, count, same) in
+    let capacity : (1 + c.fill_numbers-given.result) + 16 ≡ length (references_in (filter_map given_address given)) + 17 = omega (arith, count) in
     c.in_ok-push_first.ensures.pushed ∙ ap (λ (t : LocalTable). pushed t ((1 + c.fill_numbers-given.result) + 16)) c.in_ok-locals.ensures ∙ ap first_frame capacity
 
 pub returns : goal.returns
@@ -29,7 +28,7 @@ returns c = record {
   stack = c.new-2.ensures;
   numbers = rw (sym c.slots-slots.ensures.counts, sym c.deref.ensures.value) c.fill_numbers-given.ensures.numbers;
   addresses = c.fill_references.ensures.addresses;
-  given = rw (sym c.slots-slots.ensures.counts, sym c.deref-2.ensures.value) c.fill_references.ensures.given;
+  given = rw (sym c.slots-slots.ensures.counts) c.fill_references.ensures.given;
   locals = c.fill_references.ensures.made;
   references = c.fill_references.ensures.held;
   fields = c.in_ok-resize.ensures.items ∙ resized None c.new-fields.result.items c.args.code.now.slots.field_ids c.slots-slots.result.field_ids (vec_len c.new-fields.result) c.new-fields.ensures.items c.new-fields.ensures.len (ap (λ (s : SlotCounts). s.field_ids) c.slots-slots.ensures.counts);

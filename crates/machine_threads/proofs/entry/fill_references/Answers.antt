@@ -1,4 +1,4 @@
-use Rattle.std.proofs.Common.{◌≡◌, ℕ, zero, suc, ◌+◌, ◌-◌, ◌≤◌, ◌<◌, List, [], ◌∷◌, ◌++◌, Option, Some, None, filter_map, length, replicate, take, refl, sym, ap, ◌∙◌, subst, arith, append-nil, length-append}
+use Rattle.std.proofs.Common.{◌≡◌, ℕ, zero, suc, ◌+◌, ◌-◌, ◌≤◌, ◌<◌, List, [], ◌∷◌, ◌++◌, Option, Some, None, filter_map, length, replicate, take, get_or, refl, sym, ap, ◌∙◌, subst, arith, append-nil, length-append}
 use Rattle.std.specs.Prelude.{slice_get, vec_len, vec_capacity}
 use Rattle.std.specs.Option.{IsSome}
 use Rattle.std.proofs.lemmas.List.{length-replicate, take_all}
@@ -22,19 +22,23 @@ is_there (x ∷ xs) (suc i) less = is_there xs i (omega (arith, less))
 pub unwrap-object-requires : goal.unwrap-object-requires
 unwrap-object-requires c =
     let class = c.requires.class in
-    let less : c.args.class.number - 1 < length c.args.loaded.now = omega (arith, class.0, class.1) in
-    subst IsSome (sym (c.object_of.ensures ∙ ap (λ (n : ℕ). slice_get c.args.loaded.now (n - 1)) c.of_class.ensures)) (is_there c.args.loaded.now (c.args.class.number - 1) less)
+    let less : c.args.next.now.class.number - 1 < length c.args.loaded.now = omega (arith, class.0, class.1) in
+    subst IsSome (sym (c.object_of.ensures ∙ ap (λ (n : ℕ). slice_get c.args.loaded.now (n - 1)) c.of_class.ensures)) (is_there c.args.loaded.now (c.args.next.now.class.number - 1) less)
 
 pub make_in_room-key-requires : goal.make_in_room-key-requires
 make_in_room-key-requires c =
-    let capacity : ℕ = length (references_in (filter_map given_address c.args.arguments.now)) + 17 in
+    let capacity : ℕ = length (references_in (filter_map given_address c.args.next.now.arguments.items)) + 17 in
     ap has_room c.requires.frame ∙ room_in_one capacity [] (omega arith)
 
 pub push_reserved-requires : goal.push_reserved-requires
 push_reserved-requires c =
     let none : vec_len c.clear.new.self ≡ 0 = c.clear.ensures.len in
-    let some : length (filter_map given_address c.args.arguments.now) < c.args.count = c.requires.given in
+    let some : length (filter_map given_address c.args.next.now.arguments.items) < c.args.count = c.requires.given in
     omega (arith, none, some, c.clear.ensures.capacity, c.requires.room)
+
+-- the argument that a turn reads
+read_there : (xs seen : List Value) (i : ℕ) (x : Value) → seen ≡ xs → i < length seen → x ≡ get_or seen i x → slice_get xs i ≡ Some x
+read_there xs seen i x same less is = ap (λ (l : List Value). slice_get l i) (sym same) ∙ slice_get_read seen (length seen) i x refl less is
 
 -- the addresses before an argument
 abbrev so_far : Option ℕ → List Value → ℕ → List (Option ℕ)
@@ -53,28 +57,28 @@ room_for keys first xs i x o len count capacity held at is counted given room =
 
 pub make_in_room-key-requires-in-Block : goal.make_in_room-key-requires-in-Block
 make_in_room-key-requires-in-Block c =
-    let xs = c.args.arguments.now in
+    let xs = c.args.next.now.arguments.items in
     let i = c.loop-argument.argument-index in
     let capacity : ℕ = length (references_in (filter_map given_address xs)) + 17 in
-    let object : Option ℕ = slice_get c.args.loaded.now (c.args.class.number - 1) in
+    let object : Option ℕ = slice_get c.args.loaded.now (c.args.next.now.class.number - 1) in
     let less = references_before xs i in
     let one = one_at_most object (filter_map given_address (take i xs)) in
     ap has_room c.loop-argument.invariant.table ∙ room_in_one capacity (references_in (so_far object xs i)) (omega (arith, less, one))
 
 pub push_reserved-requires-in-Null : goal.push_reserved-requires-in-Null
 push_reserved-requires-in-Null c =
-    let xs = c.args.arguments.now in
+    let xs = c.args.next.now.arguments.items in
     let i = c.loop-argument.argument-index in
-    let there = slice_get_read xs (length xs) i c.argument-item.result refl c.loop-argument-test.true c.argument-item.is in
-    room_for c.loop-argument.keys.items (slice_get c.args.loaded.now (c.args.class.number - 1)) xs i Null None (vec_len c.loop-argument.keys) c.args.count (vec_capacity c.loop-argument.keys)
+    let there = read_there xs c.deref-argument-items.result.now i c.argument-item.result c.deref-argument-items.ensures.value c.loop-argument-test.true c.argument-item.is in
+    room_for c.loop-argument.keys.items (slice_get c.args.loaded.now (c.args.next.now.class.number - 1)) xs i Null None (vec_len c.loop-argument.keys) c.args.count (vec_capacity c.loop-argument.keys)
     c.loop-argument.invariant.keys (there ∙ ap (λ (v : Value). Some v) c.in-Null.is) refl (grind (arith, common_steps)) c.requires.given c.loop-argument.invariant.capacity
 
 pub push_reserved-requires-in-Block : goal.push_reserved-requires-in-Block
 push_reserved-requires-in-Block c =
-    let xs = c.args.arguments.now in
+    let xs = c.args.next.now.arguments.items in
     let i = c.loop-argument.argument-index in
-    let there = slice_get_read xs (length xs) i c.argument-item.result refl c.loop-argument-test.true c.argument-item.is in
-    room_for c.loop-argument.keys.items (slice_get c.args.loaded.now (c.args.class.number - 1)) xs i (Block c.in-Block.addr) (Some c.in-Block.addr) (vec_len c.loop-argument.keys) c.args.count (vec_capacity c.loop-argument.keys)
+    let there = read_there xs c.deref-argument-items.result.now i c.argument-item.result c.deref-argument-items.ensures.value c.loop-argument-test.true c.argument-item.is in
+    room_for c.loop-argument.keys.items (slice_get c.args.loaded.now (c.args.next.now.class.number - 1)) xs i (Block c.in-Block.addr) (Some c.in-Block.addr) (vec_len c.loop-argument.keys) c.args.count (vec_capacity c.loop-argument.keys)
     c.loop-argument.invariant.keys (there ∙ ap (λ (v : Value). Some v) c.in-Block.is) refl (grind (arith, common_steps)) c.requires.given c.loop-argument.invariant.capacity
 
 -- the keys with a further one
@@ -88,12 +92,12 @@ next_key object xs i a at =
 
 pub loop-argument-preserved : goal.loop-argument-preserved
 loop-argument-preserved c =
-    let xs = c.args.arguments.now in
+    let xs = c.args.next.now.arguments.items in
     let i = c.loop-argument.argument-index in
-    let object : Option ℕ = slice_get c.args.loaded.now (c.args.class.number - 1) in
+    let object : Option ℕ = slice_get c.args.loaded.now (c.args.next.now.class.number - 1) in
     let capacity : ℕ = length (references_in (filter_map given_address xs)) + 17 in
     let given : List ℕ = references_in (so_far object xs i) in
-    let there = slice_get_read xs (length xs) i c.argument-item.result refl c.loop-argument-test.true c.argument-item.is in
+    let there = read_there xs c.deref-argument-items.result.now i c.argument-item.result c.deref-argument-items.ensures.value c.loop-argument-test.true c.argument-item.is in
     let old = c.loop-argument.invariant in
     record {
       table = elim c.match-argument.branch as (λ w. c.match-argument.locals ≡ one_frame capacity (references_in (so_far object xs (i + 1)))) [
@@ -130,9 +134,9 @@ loop-argument-preserved c =
 
 pub loop-argument-init : goal.loop-argument-init
 loop-argument-init c =
-    let capacity : ℕ = length (references_in (filter_map given_address c.args.arguments.now)) + 17 in
+    let capacity : ℕ = length (references_in (filter_map given_address c.args.next.now.arguments.items)) + 17 in
     let object = c.unwrap-object.result in
-    let is : slice_get c.args.loaded.now (c.args.class.number - 1) ≡ Some object = ap (λ (n : ℕ). slice_get c.args.loaded.now (n - 1)) (sym c.of_class.ensures) ∙ sym c.object_of.ensures ∙ c.unwrap-object.ensures in
+    let is : slice_get c.args.loaded.now (c.args.next.now.class.number - 1) ≡ Some object = ap (λ (n : ℕ). slice_get c.args.loaded.now (n - 1)) (sym c.of_class.ensures) ∙ sym c.object_of.ensures ∙ c.unwrap-object.ensures in
     let added = adds_one capacity [] c.make_in_room-key.result object c.make_in_room-key.new.self (subst (λ (t : LocalTable). IsMade t c.make_in_room-key.result object c.make_in_room-key.new.self) c.requires.frame c.make_in_room-key.ensures) in
     record {
       table = added.after_is ∙ ap (λ (o : Option ℕ). one_frame capacity (references_in (o ∷ []))) (sym is);
@@ -142,10 +146,10 @@ loop-argument-init c =
 
 pub add_nulls-requires-clause-given : goal.add_nulls-requires-clause-given
 add_nulls-requires-clause-given c =
-    let xs = c.args.arguments.now in
+    let xs = c.args.next.now.arguments.items in
     let given : List (Option ℕ) = filter_map given_address xs in
-    let object : Option ℕ = slice_get c.args.loaded.now (c.args.class.number - 1) in
-    let whole : take c.loop-argument.argument-index xs ≡ xs = take_all c.loop-argument.argument-index xs c.loop-argument-test.false in
+    let object : Option ℕ = slice_get c.args.loaded.now (c.args.next.now.class.number - 1) in
+    let whole : take c.loop-argument.argument-index xs ≡ xs = take_all c.loop-argument.argument-index xs (subst (λ (l : List Value). length l ≤ c.loop-argument.argument-index) c.deref-argument-items.ensures.value c.loop-argument-test.false) in
     let keys : c.loop-argument.keys.items ≡ keys_from 0 (object ∷ given) = c.loop-argument.invariant.keys ∙ ap (λ (l : List Value). keys_from 0 (object ∷ filter_map given_address l)) whole in
     let counted : length c.loop-argument.keys.items ≡ length (object ∷ given) = ap length keys ∙ keys_counted 0 (object ∷ given) in
     let few : length given < c.args.count = c.requires.given in
@@ -153,13 +157,13 @@ add_nulls-requires-clause-given c =
 
 pub returns : goal.returns
 returns c =
-    let xs = c.args.arguments.now in
+    let xs = c.args.next.now.arguments.items in
     let i = c.loop-argument.argument-index in
     let given : List (Option ℕ) = filter_map given_address xs in
     let capacity : ℕ = length (references_in given) + 17 in
-    let object : Option ℕ = slice_get c.args.loaded.now (c.args.class.number - 1) in
+    let object : Option ℕ = slice_get c.args.loaded.now (c.args.next.now.class.number - 1) in
     let is : object ≡ Some c.unwrap-object.result = ap (λ (n : ℕ). slice_get c.args.loaded.now (n - 1)) (sym c.of_class.ensures) ∙ sym c.object_of.ensures ∙ c.unwrap-object.ensures in
-    let whole : take i xs ≡ xs = take_all i xs c.loop-argument-test.false in
+    let whole : take i xs ≡ xs = take_all i xs (subst (λ (l : List Value). length l ≤ i) c.deref-argument-items.ensures.value c.loop-argument-test.false) in
     let all : List (Option ℕ) = object ∷ given in
     let keys : c.loop-argument.keys.items ≡ keys_from 0 all = c.loop-argument.invariant.keys ∙ ap (λ (l : List Value). keys_from 0 (object ∷ filter_map given_address l)) whole in
     let table : c.loop-argument.locals ≡ one_frame capacity (references_in all) = c.loop-argument.invariant.table ∙ ap (λ (l : List Value). one_frame capacity (references_in (object ∷ filter_map given_address l))) whole in

@@ -7,7 +7,7 @@ use Rattle.machine_threads.proofs.entry.fill_references.Given as goal
 
 abbrev pub invariant-loop-argument : goal.invariant-loop-argument
 invariant-loop-argument l = record {
-  table : l.locals ≡ one_frame (length (references_in (filter_map given_address l.arguments)) + 17) (references_in (slice_get l.loaded (l.fn.class.number - 1) ∷ filter_map given_address (take l.argument-index l.arguments)));
-  keys : l.keys.items ≡ keys_from 0 (slice_get l.loaded (l.fn.class.number - 1) ∷ filter_map given_address (take l.argument-index l.arguments));
+  table : l.locals ≡ one_frame (length (references_in (filter_map given_address l.fn.next.arguments.items)) + 17) (references_in (slice_get l.loaded (l.fn.next.class.number - 1) ∷ filter_map given_address (take l.argument-index l.fn.next.arguments.items)));
+  keys : l.keys.items ≡ keys_from 0 (slice_get l.loaded (l.fn.next.class.number - 1) ∷ filter_map given_address (take l.argument-index l.fn.next.arguments.items));
   capacity : l.count ≤ vec_capacity l.keys;
 }
