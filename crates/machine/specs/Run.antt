@@ -189,6 +189,19 @@ pub record AdvancesAndNotes (p : Lowered) (w : World) (store : Store) (threads :
   pub entries : noted.entries ≡ journal.entries ++ clearing_of cleared
   pub room : 0 < noted.room
 
+-- what a step changes: the store, the threads, and the journal as it is written
+pub record StepState : Type 0 where
+  pub store : Store
+  pub threads : List Thread
+  pub journal : Writing
+
+abbrev pub step_state : Store → List Thread → Writing → StepState
+step_state store threads journal = record { store = store; threads = threads; journal = journal }
+
+abbrev pub StepsAndNotes : Lowered → World → (index : ℕ) → (before after : StepState) → Advanced → Type 0
+StepsAndNotes p w index before after x =
+    AdvancesAndNotes p w before.store before.threads index before.journal after.store after.threads after.journal x
+
 -- whether its allocation was refused
 abbrev pub is_refused : Advanced → Bool
 is_refused (advanced.Did e) = false

@@ -1,26 +1,41 @@
 //! Steps of instructions that stay within their call and take no host memory, taken one after another.
 
-ghost use Rattle.std.specs.Prelude.{◌≡◌, ℕ, ◌+◌, ◌<◌, ◌≤◌, false, true, List, None};
+ghost use Rattle.std.specs.Prelude.{◌≡◌, ◌+◌, ◌<◌, ◌≤◌, false, true, None};
 ghost use Rattle.base.specs.Limits.{most_entries};
-ghost use Rattle.machine_steps.specs.Advances.{Stands, StepsFreely, within};
-ghost use Rattle.code_meaning.specs.Lowered.{IsLowered};
-ghost use Rattle.machine_scenes.specs.Buffers.{Acquired};
-ghost use Rattle.semantics.specs.Thread.{Shared, Thread as SourceThread};
-ghost use Rattle.semantics_safety.specs.Owners.{ThreadOwners};
 ghost use Rattle.semantics.specs.Journal.{steps_in};
-ghost use Rattle.machine.specs.Run.{CanGoOn, CanGoOnIn, WentOn};
+ghost use Rattle.code_meaning.specs.Lowered.{IsLowered};
+ghost use Rattle.machine_calls.specs.CallState.{state_of};
+ghost use Rattle.machine_steps.specs.Advances.{StandsForSome, StepsFreely};
+ghost use Rattle.machine.specs.PlainSteps.{CanGo, CanGoIn, Goes, GoesIn, IsLonger, moment_of};
 
 use crate::journal::Journal;
-use code::code::Code;
-use code_meaning::Program;
 use heap::Addr;
 use machine_scenes::activation::Activation;
 use machine_scenes::store::Store;
 use machine_steps::advance::{AtOnce, advance_at_once, owner_at};
 use machine_steps::change::{call_method, enter_at_once, return_to_caller};
+use machine_steps::context::{CodeContext, StepContext};
 use machine_threads::thread::Thread;
-use semantics::{Event, Printed, Stop};
-use world_values::World;
+use semantics::{Event, Stop};
+
+/// How steps are taken that a thread takes one after another.
+#[derive(Clone, Copy)]
+pub(crate) struct Turns<'s, 'a> {
+    /// What each goes by.
+    pub(crate) step: StepContext<'s, 'a>,
+    /// How many there are at most.
+    pub(crate) most: u32,
+    /// Whether they stay within the call in progress: one step is faster so, where a call follows no other.
+    pub(crate) stays: bool,
+}
+
+/// How steps are taken within a call, whose code is fetched once for all of them.
+#[derive(Clone, Copy)]
+struct CodeTurns<'s, 'a> {
+    context: CodeContext<'s, 'a>,
+    /// How many there are at most.
+    most: u32,
+}
 
 /// How many steps a thread took one after another, and whether it is at an instruction of another kind then, with room for
 /// another step.
@@ -55,46 +70,33 @@ struct Taken {
 /// Takes steps of a thread as long as its next instruction works on the stack and the number slots alone, or reads beside
 /// them whether a variable is NULL, or an element of a buffer, or calls a function of the JNI whose answer is seen at once, or a
 /// method that no check stops, or returns to a caller, or the thread enters a call for which there is memory.
-/// It is thread `k`, has not ended, and is of a machine that no trap has stopped. It takes this many at most, for which
-/// the journal has room and memory, and answers how many. A trap is the last. It may be told to stay within the call in progress: one step is
-/// faster so, where a call follows no other.
+/// The thread has not ended, and is of a machine that no trap has stopped. The journal has room and memory for the most steps
+/// that it is to take. The answer is how many it took. A trap is the last.
 #[inline(always)]
 pub(crate) fn take_plainly(
-    program: &Program<'_>,
-    world: &World,
+    turns: Turns<'_, '_>,
     store: &mut Store,
     thread: &mut Thread,
     stop: &mut Option<Stop>,
     journal: &mut Journal,
-    k: u8,
-    most: u32,
-    stays: bool,
 ) -> Ran
-    requires stands { (threads : List Thread) × (index : ℕ) × (printed : List Printed)
-        × CanGoOn program.now world.now store.old threads index printed journal.old.entries k thread.old }
+    requires stands { CanGo turns.step (moment_of store.old thread.old stop.old journal.old) }
     requires goes { stop.old ≡ None }
-    requires room { 0 < most → steps_in journal.old.entries + most ≤ most_entries }
-    requires memory { most ≤ journal.old.room }
-    ensures most { result.taken ≤ most }
-    ensures went { (threads : List Thread) (index : ℕ) (printed : List Printed)
-        → CanGoOn program.now world.now store.old threads index printed journal.old.entries k thread.old
-        → WentOn program.now world.now store.old store.new threads index printed journal.old.entries k result.taken thread.new
-        stop.new journal.new.entries }
-    ensures ready { result.ready ≡ true → (result.taken < most) × (stop.new ≡ None) × (thread.new.ending ≡ thread.old.ending)
-        × (steps_in journal.new.entries < most_entries) }
+    requires room { 0 < turns.most → steps_in journal.old.entries + turns.most ≤ most_entries }
+    requires memory { turns.most ≤ journal.old.room }
+    ensures most { result.taken ≤ turns.entry.most }
+    ensures went { Goes turns.entry.step result.taken (moment_of store.old thread.old stop.old journal.old)
+        (moment_of store.new thread.new stop.new journal.new) }
+    ensures ready { result.ready ≡ true → (result.taken < turns.entry.most) × (stop.new ≡ None)
+        × (thread.new.ending ≡ thread.old.ending) × (steps_in journal.new.entries < most_entries) }
 {
     let mut taken = 0;
-    while taken < most {
-        let ran = take_in_call(
-            program,
-            world,
-            store,
-            thread,
-            stop,
-            journal,
-            k,
-            most - taken,
-        );
+    while taken < turns.most {
+        let left = Turns {
+            most: turns.most - taken,
+            ..turns
+        };
+        let ran = take_in_call(left, store, thread, stop, journal);
         taken += ran.count;
         match ran.next {
             Next::Stop => return Ran {
@@ -103,13 +105,13 @@ pub(crate) fn take_plainly(
             },
             Next::Other => return Ran { taken, ready: true },
             _ => {
-                if stays {
+                if turns.stays {
                     return Ran { taken, ready: true };
                 }
-                if !change_call(program, world, store, thread, k, ran.next) {
+                if !change_call(turns.step, store, thread, ran.next) {
                     return Ran { taken, ready: true };
                 }
-                journal.push_step(k, false);
+                journal.push_step(turns.step.thread, false);
                 taken += 1;
             }
         }
@@ -124,26 +126,26 @@ pub(crate) fn take_plainly(
 /// is as before.
 #[inline(always)]
 fn change_call(
-    program: &Program<'_>,
-    world: &World,
+    context: StepContext<'_, '_>,
     store: &mut Store,
     thread: &mut Thread,
-    k: u8,
     next: Next,
 ) -> bool
-    requires lowered { IsLowered program.now }
-    requires stands { (others : Acquired) × (own : ThreadOwners) × (shared : Shared) × (s : SourceThread)
-        × Stands program.now world.now store.old others k own shared s thread.old }
-    ensures steps { result ≡ true
-        → StepsFreely program.now world.now k store.old store.new thread.old thread.new Event.Quiet }
+    requires lowered { IsLowered context.program.now }
+    requires stands { StandsForSome context.program.now context.world.now context.thread store.old thread.old }
+    ensures steps { result ≡ true → StepsFreely context.entry.program.now context.entry.world.now context.entry.thread
+        store.old store.new thread.old thread.new Event.Quiet }
     ensures store { result ≡ false → store.new ≡ store.old }
     ensures kept { result ≡ false → thread.new ≡ thread.old }
     ensures ending { thread.new.ending ≡ thread.old.ending }
 {
+    let program = context.program;
+    let world = context.world;
+    let number = context.thread;
     match next {
-        Next::Enter => enter_at_once(program, world, store, thread, k),
-        Next::Call => call_method(program, world, store, thread, k),
-        Next::Return => return_to_caller(program, world, store, thread, k),
+        Next::Enter => enter_at_once(program, world, store, thread, number),
+        Next::Call => call_method(program, world, store, thread, number),
+        Next::Return => return_to_caller(program, world, store, thread, number),
         Next::Stop | Next::Other => false,
     }
 }
@@ -151,32 +153,25 @@ fn change_call(
 /// The same up to a step that changes which call is in progress.
 #[inline(always)]
 fn take_in_call(
-    program: &Program<'_>,
-    world: &World,
+    turns: Turns<'_, '_>,
     store: &mut Store,
     thread: &mut Thread,
     stop: &mut Option<Stop>,
     journal: &mut Journal,
-    k: u8,
-    most: u32,
 ) -> Taken
-    requires stands { (threads : List Thread) × (index : ℕ) × (printed : List Printed)
-        × CanGoOn program.now world.now store.old threads index printed journal.old.entries k thread.old }
+    requires stands { CanGo turns.step (moment_of store.old thread.old stop.old journal.old) }
     requires goes { stop.old ≡ None }
-    requires some { 0 < most }
-    requires room { steps_in journal.old.entries + most ≤ most_entries }
-    requires memory { most ≤ journal.old.room }
-    ensures most { result.count ≤ most }
-    ensures went { (threads : List Thread) (index : ℕ) (printed : List Printed)
-        → CanGoOn program.now world.now store.old threads index printed journal.old.entries k thread.old
-        → WentOn program.now world.now store.old store.new threads index printed journal.old.entries k result.count thread.new
-        stop.new journal.new.entries }
-    ensures next { (result.next ≡ Next.Stop → ⊥) → (result.count < most) × (stop.new ≡ None) }
+    requires some { 0 < turns.most }
+    requires room { steps_in journal.old.entries + turns.most ≤ most_entries }
+    requires memory { turns.most ≤ journal.old.room }
+    ensures most { result.count ≤ turns.entry.most }
+    ensures went { Goes turns.entry.step result.count (moment_of store.old thread.old stop.old journal.old)
+        (moment_of store.new thread.new stop.new journal.new) }
+    ensures next { (result.next ≡ Next.Stop → ⊥) → (result.count < turns.entry.most) × (stop.new ≡ None) }
     ensures ending { thread.new.ending ≡ thread.old.ending }
-    ensures noted { (steps_in journal.new.entries ≡ steps_in journal.old.entries + result.count)
-        × (journal.new.room + result.count ≡ journal.old.room) }
+    ensures noted { IsLonger journal.old journal.new result.count }
 {
-    let owner = owner_at(k, thread.callers.len());
+    let owner = owner_at(turns.step.thread, thread.callers.len());
     match &mut thread.call {
         None => Taken {
             count: 0,
@@ -184,58 +179,51 @@ fn take_in_call(
         },
         Some(activation) => {
             let activation = activation.get_mut();
-            let code = program.code_at(activation.function);
-            take_in_code(
-                program,
-                world,
+            let code = turns.step.program.code_at(activation.function);
+            let context = CodeContext {
+                step: turns.step,
                 code,
+                owner,
+            };
+            let within = CodeTurns {
+                context,
+                most: turns.most,
+            };
+            take_in_code(
+                within,
                 store,
                 &mut thread.pending,
                 activation,
                 stop,
                 journal,
-                k,
-                owner,
-                most,
             )
         }
     }
 }
 
-/// The same of the call in progress of the thread, whose function has this code, and whose copies have this owner: none of these
-/// steps enters a call or leaves one, so the code is fetched once for all of them.
+/// The same of the call in progress of the thread: none of these steps enters a call or leaves one.
 #[inline(always)]
 fn take_in_code(
-    program: &Program<'_>,
-    world: &World,
-    code: &Code,
+    turns: CodeTurns<'_, '_>,
     store: &mut Store,
     pending: &mut Option<Addr>,
     activation: &mut Activation,
     stop: &mut Option<Stop>,
     journal: &mut Journal,
-    k: u8,
-    owner: u16,
-    most: u32,
 ) -> Taken
-    requires stands { (threads : List Thread) × (index : ℕ) × (printed : List Printed) × (thread : Thread)
-        × CanGoOnIn program.now world.now store.old threads index printed journal.old.entries k thread code.now activation.old
-        pending.old owner }
+    requires stands { CanGoIn turns.context (state_of store.old pending.old activation.old) journal.old }
     requires goes { stop.old ≡ None }
-    requires room { steps_in journal.old.entries + most ≤ most_entries }
-    requires memory { most ≤ journal.old.room }
-    ensures most { result.count ≤ most }
-    ensures went { (threads : List Thread) (index : ℕ) (printed : List Printed) (thread : Thread)
-        → CanGoOnIn program.now world.now store.old threads index printed journal.old.entries k thread code.now activation.old
-        pending.old owner
-        → WentOn program.now world.now store.old store.new threads index printed journal.old.entries k result.count
-        (within activation.new pending.new thread) stop.new journal.new.entries }
-    ensures next { (result.next ≡ Next.Stop → ⊥) → (result.count < most) × (stop.new ≡ None) }
-    ensures noted { (steps_in journal.new.entries ≡ steps_in journal.old.entries + result.count)
-        × (journal.new.room + result.count ≡ journal.old.room) }
+    requires room { steps_in journal.old.entries + turns.most ≤ most_entries }
+    requires memory { turns.most ≤ journal.old.room }
+    ensures most { result.count ≤ turns.entry.most }
+    ensures went { GoesIn turns.entry.context result.count (state_of store.old pending.old activation.old)
+        (state_of store.new pending.new activation.new) stop.new journal.old journal.new }
+    ensures next { (result.next ≡ Next.Stop → ⊥) → (result.count < turns.entry.most) × (stop.new ≡ None) }
+    ensures noted { IsLonger journal.old journal.new result.count }
 {
-    for taken in 0..most {
-        match advance_at_once(program, world, code, store, pending, activation, k, owner) {
+    let thread = turns.context.step.thread;
+    for taken in 0..turns.most {
+        match advance_at_once(turns.context, store, pending, activation) {
             AtOnce::Other => {
                 return Taken {
                     count: taken,
@@ -254,14 +242,10 @@ fn take_in_code(
                     next: Next::Return,
                 };
             }
-            AtOnce::Did(Event::Quiet) => journal.push_step(k, false),
+            AtOnce::Did(Event::Quiet) => journal.push_step(thread, false),
             AtOnce::Did(Event::Trapped { trap, line }) => {
-                journal.push_step(k, false);
-                *stop = Some(Stop {
-                    thread: k,
-                    trap,
-                    line,
-                });
+                journal.push_step(thread, false);
+                *stop = Some(Stop { thread, trap, line });
                 return Taken {
                     count: taken + 1,
                     next: Next::Stop,
@@ -271,7 +255,7 @@ fn take_in_code(
         }
     }
     Taken {
-        count: most,
+        count: turns.most,
         next: Next::Stop,
     }
 }

@@ -5,9 +5,10 @@ ghost use Rattle.machine.specs.Run.{replay_of, IsReady, EndsAt, RunsAlong, RunsI
 
 use crate::fault::RunFault;
 use crate::machine::Machine;
-use crate::plain_steps::{Ran, take_plainly};
+use crate::plain_steps::{Ran, Turns, take_plainly};
 use crate::step::turn_at_rest;
 use crate::turn::Turn;
+use machine_steps::context::StepContext;
 use semantics::ScheduleWord;
 use world_schedules::Schedule;
 
@@ -32,6 +33,7 @@ impl Machine<'_> {
     }
 
     /// Takes a word this many times.
+    #[inline(always)]
     fn repeat(&mut self, word: ScheduleWord, times: u32) -> Result<(), RunFault>
         ensures ok { OnOk result (RunsAlong self.old self.new (replicate times word)) }
         ensures err { IfErr result (RunsInto self.old self.new (replicate times word)) }
@@ -115,16 +117,19 @@ impl Machine<'_> {
             };
         }
         let most = self.journal.most_steps(most);
+        let step = StepContext {
+            program: &self.program,
+            world: &self.world,
+            thread: k,
+            may_refuse: false,
+        };
+        let turns = Turns { step, most, stays };
         take_plainly(
-            &self.program,
-            &self.world,
+            turns,
             &mut self.store,
             thread,
             &mut self.stop,
             &mut self.journal,
-            k,
-            most,
-            stays,
         )
     }
 

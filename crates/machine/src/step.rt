@@ -4,7 +4,7 @@ ghost use Rattle.std.specs.Prelude.{◌≡◌, ◌+◌, ◌<◌, ◌≤◌, ◌^
 ghost use Rattle.semantics.specs.EventViews.{printed_after, stop_after};
 ghost use Rattle.semantics.specs.Step.{is_unfinished};
 ghost use Rattle.semantics.specs.Journal.{Step};
-ghost use Rattle.machine.specs.Run.{replay_of, AdvancesAndNotes, CanAdvance, IsReady, CouldStep, TurnHolds, LacksRoom, event_of, is_refused, turn_after, turn_at_rest};
+ghost use Rattle.machine.specs.Run.{replay_of, CanAdvance, StepsAndNotes, step_state, IsReady, CouldStep, TurnHolds, LacksRoom, event_of, is_refused, turn_after, turn_at_rest};
 
 use crate::journal::Journal;
 use crate::machine::Machine;
@@ -13,11 +13,25 @@ use code_meaning::Program;
 use machine_collections::collecting::collect_blocks;
 use machine_scenes::store::Store;
 use machine_steps::advance::{Advanced, advance};
+use machine_steps::context::StepContext;
 use machine_steps::fault::StepFault;
 use machine_threads::thread::Thread;
 use semantics::{Event, Printed, Stop};
 use std::alloc::{AllocError, Global};
 use world_values::World;
+
+/// What the turn of a thread goes by.
+#[derive(Clone, Copy)]
+struct TurnContext<'s, 'a> {
+    /// What a collection takes its memory from.
+    alloc: Global,
+    program: &'s Program<'a>,
+    world: &'s World,
+    /// The thread's number, from 1.
+    thread: u8,
+    /// Its place among the threads.
+    index: usize,
+}
 
 impl Machine<'_> {
     /// Lets thread `k` take one step, where it isn't at rest and the journal isn't full: a trap hasn't stopped the machine,
@@ -48,15 +62,18 @@ impl Machine<'_> {
         ensures runs { IsSome (replay_of self.new) }
     {
         make_room(&mut self.printed, &mut self.journal)?;
+        let context = TurnContext {
+            alloc: self.alloc,
+            program: &self.program,
+            world: &self.world,
+            thread: k,
+            index: usize::from(k) - 1,
+        };
         let advanced = advance_or_collect(
-            self.alloc,
-            &self.program,
-            &self.world,
+            context,
             &mut self.store,
             &mut self.threads,
             &mut self.journal,
-            usize::from(k) - 1,
-            k,
         )?;
         Ok(write_step(
             &mut self.printed,
@@ -94,31 +111,41 @@ fn make_room(printed: &mut Vec<Printed>, journal: &mut Journal) -> Result<(), Al
     printed.reserve(1)
 }
 
-/// Takes one step of thread `k`, which is at this place, has not ended, and doesn't wait.
+/// Takes one step of a thread, which has not ended, and doesn't wait.
 /// Where what it makes has no room, which a step is asked for before anything has changed, there is a collection, one
 /// for all objects of the step, and then the allocation is refused where it has none still. Only a step that makes
 /// nothing takes host memory, so after the collection nothing can fail.
 #[inline(always)]
 fn advance_or_collect(
-    alloc: Global,
-    program: &Program<'_>,
-    world: &World,
+    context: TurnContext<'_, '_>,
     store: &mut Store,
     threads: &mut [Thread],
     journal: &mut Journal,
-    index: usize,
-    k: u8,
 ) -> Result<Advanced, AllocError>
     requires few { store.old.births + 2 < 2 ^ 32 }
-    requires number { k ≡ index + 1 }
+    requires number { context.thread ≡ context.index + 1 }
     requires room { 0 < journal.old.room }
-    requires stands { CanAdvance program.now world.now store.old threads.old index }
-    ensures advances { IfOk result (AdvancesAndNotes program.now world.now store.old threads.old index journal.old store.new threads.new journal.new) }
+    requires stands { CanAdvance context.program.now context.world.now store.old threads.old context.index }
+    ensures advances { IfOk result (StepsAndNotes context.entry.program.now context.entry.world.now context.entry.index
+        (step_state store.old threads.old journal.old) (step_state store.new threads.new journal.new)) }
     ensures store { OnErr result (store.new ≡ store.old) }
     ensures threads { OnErr result (threads.new ≡ threads.old) }
     ensures journal { OnErr result (journal.new.entries ≡ journal.old.entries) }
 {
-    match advance(program, world, store, &mut threads[index], k, false) {
+    let TurnContext {
+        alloc,
+        program,
+        world,
+        thread: k,
+        index,
+    } = context;
+    let first = StepContext {
+        program,
+        world,
+        thread: k,
+        may_refuse: false,
+    };
+    match advance(first, store, &mut threads[index]) {
         Ok(advanced) => Ok(advanced),
         Err(StepFault::Memory) => Err(AllocError),
         Err(StepFault::NoRoom) => {
@@ -145,7 +172,8 @@ fn collect_and_advance(
     requires stands { CanAdvance program.now world.now store.old threads.old index }
     requires lacks { (t : Thread) → slice_get threads.old index ≡ Some t
         → LacksRoom program.now world.now k store.old t }
-    ensures advances { IfOk result (AdvancesAndNotes program.now world.now store.old threads.old index journal.old store.new threads.new journal.new) }
+    ensures advances { IfOk result (StepsAndNotes program.now world.now index (step_state store.old threads.old journal.old)
+        (step_state store.new threads.new journal.new)) }
     ensures store { OnErr result (store.new ≡ store.old) }
     ensures threads { OnErr result (threads.new ≡ threads.old) }
     ensures journal { OnErr result (journal.new.entries ≡ journal.old.entries) }
@@ -153,7 +181,13 @@ fn collect_and_advance(
     journal.reserve_clearing()?;
     let cleared = collect_blocks(alloc, store, threads)?;
     journal.push_clearing(cleared);
-    match advance(program, world, store, &mut threads[index], k, true) {
+    let again = StepContext {
+        program,
+        world,
+        thread: k,
+        may_refuse: true,
+    };
+    match advance(again, store, &mut threads[index]) {
         Ok(advanced) => Ok(advanced),
         Err(_) => unreachable!(),
     }

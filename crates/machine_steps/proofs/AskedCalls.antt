@@ -63,7 +63,7 @@ use Rattle.semantics.specs.Checks.{frames_after as source_frames_after}
 use Rattle.semantics.specs.ThreadStep.{next_effect}
 use Rattle.machine_calls.proofs.HeldStatics.{place_below}
 use Rattle.std.specs.Prelude.{◌&&◌}
-use Rattle.semantics.specs.Object.{Reference, sizes}
+use Rattle.semantics.specs.Object.{sizes}
 use Rattle.world_values.specs.SoundWorlds.{IsSound}
 use Rattle.semantics.specs.CallEffects.{Halts}
 use Rattle.semantics.specs.CallStep.{after_call, checked, effect_of_call}

@@ -14,6 +14,9 @@ use Rattle.semantics.specs.declared.event.Ending.{Ending}
 use Rattle.semantics.specs.declared.event.Ending.TheVariants.{Ended, Uncaught, Unfinished}
 use Rattle.semantics.specs.declared.event.Event.{Event}
 use Rattle.semantics.specs.declared.event.Event.TheVariants.{Quiet}
+use Rattle.machine_calls.specs.CallState.{CallState}
+use Rattle.machine_steps.specs.declared.context.CodeContext.{CodeContext}
+use Rattle.machine_steps.specs.declared.context.StepContext.{StepContext}
 use Rattle.machine_steps.specs.declared.advance.Advanced.{Advanced}
 use Rattle.machine_steps.specs.declared.advance.Advanced.TheVariants as advanced
 use Rattle.machine_steps.specs.declared.advance.AtOnce.{AtOnce}
@@ -39,6 +42,11 @@ Stands p w store others k own shared s t =
     StoreAgrees p w store shared (beside (beside_callers others s) (acquired_by s))
     × ThreadAgrees p w.classes store.heap store.elements (length (loaded_objects w)) k own shared t s
     × IsSteady (unit_tree p.unit) w.classes own.current shared s
+
+-- some thread of the source is one for which it stands
+abbrev pub StandsForSome : Lowered → World → (k : ℕ) → Store → Thread → Type 0
+StandsForSome p w k store t =
+    (others : Acquired) × (own : ThreadOwners) × (shared : Shared) × (s : source.Thread) × Stands p w store others k own shared s t
 
 -- the same of a thread of which this call is in progress, in a function of this code
 pub record StandsInCode (p : Lowered) (w : World) (store : Store) (others : Acquired) (k : ℕ) (own : ThreadOwners)
@@ -119,7 +127,39 @@ IsHinderedAlways p w k store t may_refuse fault =
     HoldsAlways p w k store t (λ others own shared s. IsHindered (left_of store.heap) (cells_made shared
     (thread_step (unit_tree p.unit) w.classes (in_use_with (beside_callers others s) s) k shared s false)) may_refuse fault)
 
+-- ---- the step of the thread of a context
+
+-- it can take one, in such a store
+abbrev pub MayStep : StepContext → Store → Thread → Type 0
+MayStep context store t = StandsReady context.program.now context.world.now context.thread store t
+
+-- it took it
+abbrev pub TakesStep : StepContext → (old store : Store) → (t after : Thread) → Advanced → Type 0
+TakesStep context old store t after x = AdvancesAlways context.program.now context.world.now context.thread old store t after x
+
+-- or this is why it didn't
+abbrev pub IsHinderedStep : StepContext → Store → Thread → StepFault → Type 0
+IsHinderedStep context store t fault =
+    IsHinderedAlways context.program.now context.world.now context.thread store t context.may_refuse fault
+
 -- ---- what is done at once
+
+-- the call in progress, in a function of this code, is of a thread that stands for some thread of the source that no step breaks
+abbrev pub StandsInCall : CodeContext → CallState → Type 0
+StandsInCall context before =
+    (others : Acquired) × (own : ThreadOwners) × (shared : Shared) × (s : source.Thread) × (t : Thread)
+    × StandsWithin context.step.program.now context.step.world.now before.store others context.step.thread own shared s t context.code.now
+    before.activation before.pending context.owner
+
+-- of each thread that is, it took a step that is known not to wait, by what is seen of it
+abbrev pub StepsInCall : CodeContext → (before after : CallState) → Event → Type 0
+StepsInCall context before after event =
+    (others : Acquired) (own : ThreadOwners) (shared : Shared) (s : source.Thread) (t : Thread)
+    → StandsWithin context.step.program.now context.step.world.now before.store others context.step.thread own shared s t context.code.now
+    before.activation before.pending context.owner
+    → (waits context.step.world.now.classes context.step.thread shared s ≡ false)
+    × Advances context.step.program.now context.step.world.now before.store after.store others context.step.thread own shared s
+    (within after.activation after.pending t) false event
 
 -- this holds of what is seen of a step that was taken
 abbrev pub IfDid : AtOnce → (Event → Type 0) → Type 0

@@ -28,7 +28,7 @@ use Rattle.jni.specs.JniFunction.{calls_method, prototype}
 use Rattle.jni.specs.declared.kinds.ResultKind.TheVariants.{NewLocal}
 use Rattle.semantics.specs.Thread as source
 use Rattle.semantics.specs.Thread.{BuffersInUse, Shared, Advance, Advances, NoAdvance, sight_of, objects_viewed}
-use Rattle.semantics.specs.Variable.{LocalRef, Variables}
+use Rattle.semantics.specs.Variable.{LocalRef}
 use Rattle.semantics.specs.ThreadStep.{next_effect, after_effect, after_refused_effect}
 use Rattle.code_meaning.specs.Slots.{visible_to}
 use Rattle.code_meaning.specs.Lowered.{Lowered}

@@ -1,22 +1,18 @@
 //! A step of a thread.
 
-ghost use Rattle.std.specs.Prelude.{◌≡◌, ℕ, ◌+◌, ◌<◌, ◌≤◌, ◌^◌, true, false, Some, None, [], ◌∷◌, ◌++◌, List, length, Ok, IfOk, IfErr, OnErr};
+ghost use Rattle.std.specs.Prelude.{◌≡◌, ℕ, ◌+◌, ◌<◌, ◌≤◌, ◌^◌, true, Some, None, [], ◌∷◌, ◌++◌, List, length, Ok, IfOk, IfErr, OnErr};
 ghost use Rattle.std.specs.Option.{option_and_then};
 ghost use Rattle.heap.specs.Heap.{IsAddress, class_at};
-ghost use Rattle.semantics.specs.Thread.{Shared, Thread as SourceThread};
-ghost use Rattle.semantics.specs.ThreadStep.{waits};
-ghost use Rattle.semantics.specs.World.{World as SourceWorld};
-ghost use Rattle.semantics_safety.specs.Owners.{ThreadOwners};
-ghost use Rattle.code_meaning.specs.Lowered.{IsLowered, Lowered};
-ghost use Rattle.machine_scenes.specs.Buffers.{Acquired};
-ghost use Rattle.machine_steps.specs.Advances.{Advances, AdvancesAlways, IfDid, IsHinderedAlways, LeavesMonitors, StandsReady, StandsWithin, UnlessDid, calls_after, ending_after, ends_with, within};
+ghost use Rattle.code_meaning.specs.Lowered.{IsLowered};
+ghost use Rattle.machine_calls.specs.CallState.{IsAsBefore, state_of};
+ghost use Rattle.machine_steps.specs.Advances.{IfDid, IsHinderedStep, LeavesMonitors, MayStep, StandsInCall, StepsInCall, TakesStep, UnlessDid, calls_after, ending_after, ends_with};
 ghost use Rattle.machine_threads.specs.Callers.{owner_at};
 ghost use Rattle.machine_steps.specs.Moved.{IsSilent};
 ghost use Rattle.machine_steps.specs.Resumed.{HasCalled, Resumes};
 ghost use Rattle.machine_steps.specs.Returned.{given_back};
 
 use crate::buffer_elements::load_element;
-use crate::context::StepContext;
+use crate::context::{CodeContext, StepContext};
 use crate::enter::enter;
 use crate::execute::{Executed, ReturnValue, execute, run_plain, test_null};
 use crate::fault::StepFault;
@@ -24,7 +20,6 @@ use crate::invoke::call_at_once;
 use crate::monitor::is_of_methods;
 use crate::push::push;
 use crate::receive::{Destination, receive, receive_word};
-use code::code::Code;
 use code::instr::Instr;
 use code_meaning::Program;
 use heap::{Addr, Heap};
@@ -36,7 +31,6 @@ use machine_scenes::store::Store;
 use machine_threads::thread::Thread;
 use semantics::{Ending, Event};
 use std::mem;
-use world_values::World;
 
 /// What a step of a thread was.
 #[derive(Clone, Copy)]
@@ -59,7 +53,7 @@ pub enum AtOnce {
     Other,
 }
 
-/// Takes one step of a thread, which has this number, has not ended and doesn't wait for a monitor.
+/// Takes one step of a thread, which has not ended and doesn't wait for a monitor.
 /// Only the entry into a call, a call of a method, a new frame, a new global reference, a copy of elements and a monitor
 /// that is entered take host memory.
 ///
@@ -67,34 +61,23 @@ pub enum AtOnce {
 /// anything has changed: room can be made then, and the same step asked for again. It takes no host memory.
 #[inline(always)]
 pub fn advance(
-    program: &Program<'_>,
-    world: &World,
+    context: StepContext<'_, '_>,
     store: &mut Store,
     thread: &mut Thread,
-    number: u8,
-    may_refuse: bool,
 ) -> Result<Advanced, StepFault>
-    requires lowered { IsLowered program.now }
+    requires lowered { IsLowered context.program.now }
     requires few { store.old.births + 2 < 2 ^ 32 }
-    requires agrees { StandsReady program.now world.now number store.old thread.old }
-    ensures advances { IfOk result (λ advanced. AdvancesAlways program.now world.now number store.old store.new
-        thread.old thread.new advanced) }
-    ensures hindered { IfErr result (λ fault. IsHinderedAlways program.now world.now number store.old thread.old
-        may_refuse fault) }
-    ensures refuses { result ≡ Ok Advanced.Refused → may_refuse ≡ true }
+    requires agrees { MayStep context store.old thread.old }
+    ensures advances { IfOk result (TakesStep context.entry store.old store.new thread.old thread.new) }
+    ensures hindered { IfErr result (IsHinderedStep context.entry store.old thread.old) }
+    ensures refuses { result ≡ Ok Advanced.Refused → context.entry.may_refuse ≡ true }
     ensures store { OnErr result (store.new ≡ store.old) }
     ensures thread { OnErr result (thread.new ≡ thread.old) }
 {
-    let owner = owner_at(number, thread.callers.len());
-    let context = StepContext {
-        program,
-        world,
-        thread: number,
-        may_refuse,
-    };
+    let owner = owner_at(context.thread, thread.callers.len());
     match &mut thread.call {
         None => {
-            enter(program, &store.loaded, thread)?;
+            enter(context.program, &store.loaded, thread)?;
             Ok(Advanced::Did(Event::Quiet))
         }
         Some(activation) => match execute(
@@ -108,15 +91,15 @@ pub fn advance(
             Ok(Executed::Did(event)) => Ok(Advanced::Did(event)),
             Ok(Executed::Refused) => Ok(Advanced::Refused),
             Ok(Executed::Calls) => {
-                push(program, world, store, thread)?;
+                push(context.program, context.world, store, thread)?;
                 Ok(Advanced::Did(Event::Quiet))
             }
             Ok(Executed::Returned(value)) => {
                 if thread.callers.is_empty() {
-                    leave(store, thread, number);
+                    leave(store, thread, context.thread);
                     return Ok(Advanced::Did(Event::Quiet));
                 }
-                resume(program, store, thread, value);
+                resume(context.program, store, thread, value);
                 Ok(Advanced::Did(Event::Quiet))
             }
             Err(fault) => Err(fault),
@@ -133,38 +116,28 @@ pub fn owner_at(thread: u8, below: usize) -> u16
     thread as u16 + 8 * below as u16
 }
 
-/// Takes one step of a call in progress, whose function has this code, in the thread of this number, if its next instruction works on the
-/// stack and the number slots alone, or reads beside them whether a variable is NULL, or an element of a buffer, or calls a function of
-/// the JNI whose answer is seen at once. What the call copies has this owner. Else all is as it was,
+/// Takes one step of a call in progress, if its next instruction works on the stack and the number slots alone, or reads beside them whether a
+/// variable is NULL, or an element of a buffer, or calls a function of the JNI whose answer is seen at once. Else all is as it was,
 /// and nothing is said of the step but whether its instruction calls a method or returns. Only a monitor that is entered takes host memory.
 #[inline(always)]
 pub fn advance_at_once(
-    program: &Program<'_>,
-    world: &World,
-    code: &Code,
+    context: CodeContext<'_, '_>,
     store: &mut Store,
     pending: &mut Option<Addr>,
     activation: &mut Activation,
-    number: u8,
-    owner: u16,
 ) -> AtOnce
     requires few { store.old.births + 2 < 2 ^ 32 }
-    requires stands { (others : Acquired) × (own : ThreadOwners) × (shared : Shared) × (s : SourceThread) × (t : Thread)
-        × StandsWithin program.now world.now store.old others number own shared s t code.now activation.old pending.old owner }
-    ensures advances { IfDid result (λ event. (others : Acquired) (own : ThreadOwners) (shared : Shared) (s : SourceThread) (t : Thread)
-        → StandsWithin program.now world.now store.old others number own shared s t code.now activation.old pending.old owner
-        → (waits world.now.classes number shared s ≡ false)
-        × Advances program.now world.now store.old store.new others number own shared s
-        (within activation.new pending.new t) false event) }
+    requires stands { StandsInCall context (state_of store.old pending.old activation.old) }
+    ensures advances { IfDid result (StepsInCall context.entry (state_of store.old pending.old activation.old)
+        (state_of store.new pending.new activation.new)) }
     ensures silent { IfDid result IsSilent }
-    ensures store { UnlessDid result (store.new ≡ store.old) }
-    ensures pending { UnlessDid result (pending.new ≡ pending.old) }
-    ensures activation { UnlessDid result (activation.new ≡ activation.old) }
+    ensures kept { UnlessDid result (IsAsBefore (state_of store.old pending.old activation.old)
+        (state_of store.new pending.new activation.new)) }
     ensures function { activation.new.function ≡ activation.old.function }
 {
     // The proof reads off this call that no object has as many elements as a `jint` can say.
     let _ = store.heap.cells();
-    let instr = code.instr_at(activation.place);
+    let instr = context.code.instr_at(activation.place);
     match instr {
         Instr::TestNull { variable, equal } => {
             test_null(store, activation, *variable, *equal);
@@ -178,7 +151,14 @@ pub fn advance_at_once(
             if is_of_methods(call.function) {
                 AtOnce::Calls
             } else if call_at_once(
-                program, world, store, pending, activation, call, number, owner,
+                context.step.program,
+                context.step.world,
+                store,
+                pending,
+                activation,
+                call,
+                context.step.thread,
+                context.owner,
             ) {
                 AtOnce::Did(Event::Quiet)
             } else {

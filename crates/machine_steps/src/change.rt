@@ -2,11 +2,8 @@
 
 ghost use Rattle.std.specs.Prelude.{◌≡◌, true, false};
 ghost use Rattle.code_meaning.specs.Lowered.{IsLowered};
-ghost use Rattle.machine_scenes.specs.Buffers.{Acquired};
-ghost use Rattle.machine_steps.specs.Advances.{Stands, StepsFreely};
-ghost use Rattle.semantics.specs.Thread.{Shared, Thread as SourceThread};
+ghost use Rattle.machine_steps.specs.Advances.{StandsForSome, StepsFreely};
 ghost use Rattle.semantics.specs.declared.event.Event.TheVariants.{Quiet};
-ghost use Rattle.semantics_safety.specs.Owners.{ThreadOwners};
 
 use crate::advance::resume;
 use crate::context::StepContext;
@@ -33,8 +30,7 @@ pub fn enter_at_once(
     number: u8,
 ) -> bool
     requires lowered { IsLowered program.now }
-    requires stands { (others : Acquired) × (own : ThreadOwners) × (shared : Shared) × (s : SourceThread)
-        × Stands program.now world.now store.now others number own shared s thread.old }
+    requires stands { StandsForSome program.now world.now number store.now thread.old }
     ensures steps { result ≡ true
         → StepsFreely program.now world.now number store.now store.now thread.old thread.new Quiet }
     ensures kept { result ≡ false → thread.new ≡ thread.old }
@@ -57,8 +53,7 @@ pub fn call_method(
     number: u8,
 ) -> bool
     requires lowered { IsLowered program.now }
-    requires stands { (others : Acquired) × (own : ThreadOwners) × (shared : Shared) × (s : SourceThread)
-        × Stands program.now world.now store.now others number own shared s thread.old }
+    requires stands { StandsForSome program.now world.now number store.now thread.old }
     ensures steps { result ≡ true
         → StepsFreely program.now world.now number store.now store.now thread.old thread.new Quiet }
     ensures kept { result ≡ false → thread.new ≡ thread.old }
@@ -111,8 +106,7 @@ pub fn return_to_caller(
     number: u8,
 ) -> bool
     requires lowered { IsLowered program.now }
-    requires stands { (others : Acquired) × (own : ThreadOwners) × (shared : Shared) × (s : SourceThread)
-        × Stands program.now world.now store.old others number own shared s thread.old }
+    requires stands { StandsForSome program.now world.now number store.old thread.old }
     ensures steps { result ≡ true
         → StepsFreely program.now world.now number store.old store.new thread.old thread.new Quiet }
     ensures store { result ≡ false → store.new ≡ store.old }

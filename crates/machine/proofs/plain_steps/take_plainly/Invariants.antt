@@ -8,9 +8,9 @@ use Rattle.machine.proofs.plain_steps.take_plainly.Given as goal
 -- so many steps were taken, and the thread can go on
 abbrev pub invariant-loop-taken : goal.invariant-loop-taken
 invariant-loop-taken l = record {
-  went : (threads : List Thread) (index : ℕ) (printed : List Printed) → CanGoOn l.fn.program l.fn.world l.fn.store threads index printed l.fn.journal.entries l.fn.k l.fn.thread
-      → WentOn l.fn.program l.fn.world l.fn.store l.store threads index printed l.fn.journal.entries l.fn.k l.taken l.thread None l.journal.entries;
-  within : l.taken ≤ l.fn.most;
+  went : (threads : List Thread) (index : ℕ) (printed : List Printed) → CanGoOn l.fn.turns.step.program.now l.fn.turns.step.world.now l.fn.store threads index printed l.fn.journal.entries l.fn.turns.step.thread l.fn.thread
+      → WentOn l.fn.turns.step.program.now l.fn.turns.step.world.now l.fn.store l.store threads index printed l.fn.journal.entries l.fn.turns.step.thread l.taken l.thread None l.journal.entries;
+  within : l.taken ≤ l.fn.turns.most;
   goes : l.stop ≡ None;
   ending : l.thread.ending ≡ l.fn.thread.ending;
   many : steps_in l.journal.entries ≡ steps_in l.fn.journal.entries + l.taken;
@@ -18,4 +18,4 @@ invariant-loop-taken l = record {
 }
 
 abbrev pub decreases-loop-taken : goal.decreases-loop-taken
-decreases-loop-taken l = l.fn.most - l.taken
+decreases-loop-taken l = l.fn.turns.most - l.taken

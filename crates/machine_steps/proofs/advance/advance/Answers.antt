@@ -25,7 +25,6 @@ use Rattle.machine_threads.specs.ThreadAgrees.{ThreadAgrees}
 use Rattle.machine_threads.specs.declared.thread.Thread.{Thread}
 use Rattle.machine_calls.specs.CallState.{state_of}
 use Rattle.machine_steps.specs.Advances.{Advances, StandsReady}
-use Rattle.machine_steps.specs.declared.context.StepContext.{StepContext}
 use Rattle.machine_steps.specs.Executes.{DoesFirstTask, IsCalling, IsExecuting, IsHindered, IsSteady, Executes, cells_made, in_use_with}
 use Rattle.machine_steps.specs.Resumed.{HasCalled, Resumes}
 use Rattle.machine_steps.specs.Returned.{ReturnAgrees}
@@ -56,50 +55,50 @@ owner_at-owner-requires c = let few : length c.args.thread.now.callers.items < 6
 pub execute-requires-clause-stands : goal.execute-requires-clause-stands
 execute-requires-clause-stands c =
     let a = c.requires.agrees in
-    let p = c.args.program.now in
-    let w = c.args.world.now in
+    let p = c.args.context.program.now in
+    let w = c.args.context.world.now in
     let store = c.args.store.now in
     let others = beside_callers a.0 a.3 in
-    let it = work p w store others c.args.number a.1 a.2 c.args.thread.now a.3 c.get_mut.result.now a.4 a.5 (running c.in-Some.is c.get_mut.ensures.value) a.7 in
-    let same = c.owner_at-owner.ensures ∙ copier_is p w.classes store.heap store.elements (length (loaded_objects w)) c.args.number a.1 a.2 c.args.thread.now a.3 a.5 c.len.result (c.len.ensures ∙ c.args.thread.now.callers.ok.0) in (
+    let it = work p w store others c.args.context.thread a.1 a.2 c.args.thread.now a.3 c.get_mut.result.now a.4 a.5 (running c.in-Some.is c.get_mut.ensures.value) a.7 in
+    let same = c.owner_at-owner.ensures ∙ copier_is p w.classes store.heap store.elements (length (loaded_objects w)) c.args.context.thread a.1 a.2 c.args.thread.now a.3 a.5 c.len.result (c.len.ensures ∙ c.args.thread.now.callers.ok.0) in (
       others,
       a.1.current,
       a.2,
       a.3,
       it.task,
       it.rest,
-      subst (λ (n : ℕ). IsExecuting p w store c.get_mut.result.now c.args.thread.now.pending others c.args.number n a.1.current a.2 a.3 it.task it.rest) (sym same)
-          (executes p w store others c.args.number a.1 a.2 c.args.thread.now a.3 c.get_mut.result.now a.4 a.5 (running c.in-Some.is c.get_mut.ensures.value) a.7 a.8),
+      subst (λ (n : ℕ). IsExecuting p w store c.get_mut.result.now c.args.thread.now.pending others c.args.context.thread n a.1.current a.2 a.3 it.task it.rest) (sym same)
+          (executes p w store others c.args.context.thread a.1 a.2 c.args.thread.now a.3 c.get_mut.result.now a.4 a.5 (running c.in-Some.is c.get_mut.ensures.value) a.7 a.8),
     )
 
 -- there is a call to come
 pub enter-requires-clause-some : goal.enter-requires-clause-some
 enter-requires-clause-some c none =
     let a = c.requires.agrees in
-    let p = c.args.program.now in
-    let w = c.args.world.now in
+    let p = c.args.context.program.now in
+    let w = c.args.context.world.now in
     let store = c.args.store.now in
     let t = c.args.thread.now in
     let made : ℕ = length (loaded_objects w) in
-    let rests = resting p w.classes store.heap store.elements (owner_at c.args.number (length a.3.callers)) (visible_to a.1.current a.2 a.3) a.3.frames t.call a.3.tasks a.5.work c.in-None.is in
+    let rests = resting p w.classes store.heap store.elements (owner_at c.args.context.thread (length a.3.callers)) (visible_to a.1.current a.2 a.3) a.3.frames t.call a.3.tasks a.5.work c.in-None.is in
     some_to_come p w.classes made t.calls.items a.3.calls (calls_of_world p w.classes store.heap made t.entering t.calls.items a.3.calls none a.5.calls) (a.5.busy a.6 rests)
 
 pub enter-requires-clause-given : goal.enter-requires-clause-given
 enter-requires-clause-given c next rest is =
     let a = c.requires.agrees in
-    let w = c.args.world.now in
+    let w = c.args.context.world.now in
     let made : ℕ = length (loaded_objects w) in
     subst (λ (m : ℕ). list_all (is_argument m) (map object_value_view next.arguments.items) ≡ true) (sym (ap length c.deref.ensures.value ∙ a.4.table.counted))
-    (given_to_come c.args.program.now w.classes c.args.store.now.heap made c.args.thread.now.entering next c.args.thread.now.calls.items rest a.3.calls a.5.calls is)
+    (given_to_come c.args.context.program.now w.classes c.args.store.now.heap made c.args.thread.now.entering next c.args.thread.now.calls.items rest a.3.calls a.5.calls is)
 
 pub enter-requires-clause-ready : goal.enter-requires-clause-ready
 enter-requires-clause-ready c rest entering next =
     let a = c.requires.agrees in
-    let p = c.args.program.now in
-    let classes = c.args.world.now.classes in
+    let p = c.args.context.program.now in
+    let classes = c.args.context.world.now.classes in
     let store = c.args.store.now in
     let t = c.args.thread.now in
-    let made : ℕ = length (loaded_objects c.args.world.now) in
+    let made : ℕ = length (loaded_objects c.args.context.world.now) in
     let is = subst (λ (l : List ℕ). IsNext l t.entering t.calls.items rest entering) c.deref.ensures.value next in
     let n = coming p classes store.heap store.loaded.items made t.entering entering t.calls.items rest a.3.calls a.4.table a.5.calls is in
     subst (λ (m : ℕ). IsReady p m entering) (sym (ap length c.deref.ensures.value ∙ a.4.table.counted)) (ready_to_begin p classes store.heap made entering n.call c.requires.lowered n.function)
@@ -107,27 +106,23 @@ enter-requires-clause-ready c rest entering next =
 pub returns-in_ok-enter-in-None-clause-advances : goal.returns-in_ok-enter-in-None-clause-advances
 returns-in_ok-enter-in-None-clause-advances c others own shared s shares h steady free =
     let e = c.in_ok-enter-in-None.ensures in
-    let next = subst (λ (l : List ℕ). Enters c.args.program.now l c.args.thread.now c.enter.new.thread) c.deref.ensures.value e.calls in
-    enters c.args.program.now c.args.world.now c.args.store.now others c.args.number own shared c.args.thread.now c.enter.new.thread s c.requires.lowered shares h c.in-None.is next e.entering e.callers e.pending e.ending
-
--- what the step goes by
-abbrev context_of : After-owner_at-owner → StepContext
-context_of c = record { program = c.args.program; world = c.args.world; thread = c.args.number; may_refuse = c.args.may_refuse }
+    let next = subst (λ (l : List ℕ). Enters c.args.context.program.now l c.args.thread.now c.enter.new.thread) c.deref.ensures.value e.calls in
+    enters c.args.context.program.now c.args.context.world.now c.args.store.now others c.args.context.thread own shared c.args.thread.now c.enter.new.thread s c.requires.lowered shares h c.in-None.is next e.entering e.callers e.pending e.ending
 
 -- whatever thread of the source it stands for
-module _ (c : After-owner_at-owner) (others : Acquired) (own : ThreadOwners) (shared : Shared) (s : source.Thread) (shares : StoreAgrees c.args.program.now c.args.world.now c.args.store.now shared (beside (beside_callers others s) (acquired_by s)))
-    (h : ThreadAgrees c.args.program.now c.args.world.now.classes c.args.store.now.heap c.args.store.now.elements (length (loaded_objects c.args.world.now)) c.args.number own shared c.args.thread.now s) (steady : IsSteady (unit_tree c.args.program.now.unit) c.args.world.now.classes own.current shared s) (activation : Activation) (is : c.args.thread.now.call ≡ Some activation) where
+module _ (c : After-owner_at-owner) (others : Acquired) (own : ThreadOwners) (shared : Shared) (s : source.Thread) (shares : StoreAgrees c.args.context.program.now c.args.context.world.now c.args.store.now shared (beside (beside_callers others s) (acquired_by s)))
+    (h : ThreadAgrees c.args.context.program.now c.args.context.world.now.classes c.args.store.now.heap c.args.store.now.elements (length (loaded_objects c.args.context.world.now)) c.args.context.thread own shared c.args.thread.now s) (steady : IsSteady (unit_tree c.args.context.program.now.unit) c.args.context.world.now.classes own.current shared s) (activation : Activation) (is : c.args.thread.now.call ≡ Some activation) where
   abbrev p : Lowered
-  p = c.args.program.now
+  p = c.args.context.program.now
 
   abbrev w : World
-  w = c.args.world.now
+  w = c.args.context.world.now
 
   abbrev old : Store
   old = c.args.store.now
 
   abbrev k : ℕ
-  k = c.args.number
+  k = c.args.context.thread
 
   abbrev rest_of : Acquired
   rest_of = beside_callers others s
@@ -142,7 +137,7 @@ module _ (c : After-owner_at-owner) (others : Acquired) (own : ThreadOwners) (sh
   stands_as free = subst (λ (n : ℕ). IsExecuting p w old activation c.args.thread.now.pending rest_of k n own.current shared s it.task it.rest) (sym owner_same) (executes p w old rest_of k own shared c.args.thread.now s activation shares h is steady free)
 
   -- what was executed
-  does : (store : Store) (after : Activation) (left : Option ℕ) (done x : Executed) → waits w.classes k shared s ≡ false → DoesFirstTask (context_of c) c.owner_at-owner.result (state_of old c.args.thread.now.pending activation) (state_of store left after) done → done ≡ x
+  does : (store : Store) (after : Activation) (left : Option ℕ) (done x : Executed) → waits w.classes k shared s ≡ false → DoesFirstTask c.args.context c.owner_at-owner.result (state_of old c.args.thread.now.pending activation) (state_of store left after) done → done ≡ x
       → Executes p w old store rest_of k (owner_at k (length s.callers)) own.current shared s it.rest after left (effect_of (sight_of shared s) it.task) x
   does store after left done x free told same =
       subst (λ (y : Executed). Executes p w old store rest_of k (owner_at k (length s.callers)) own.current shared s it.rest after left (effect_of (sight_of shared s) it.task) y) same
@@ -152,59 +147,59 @@ pub returns-in-Ok-Did-clause-advances : goal.returns-in-Ok-Did-clause-advances
 returns-in-Ok-Did-clause-advances c others own shared s shares h steady free =
     let a = (goal.at.returns-in-Ok-Did-clause-advances c).After-owner_at-owner in
     let b = it a others own shared s shares h steady c.get_mut.result.now (running c.in-Some.is c.get_mut.ensures.value) in
-    did c.args.program.now c.args.world.now c.args.store.now others c.args.number own shared c.args.thread.now s h c.execute.new.store false c.in-Ok-Did.event b.task b.rest b.is c.execute.new.activation c.execute.new.pending
+    did c.args.context.program.now c.args.context.world.now c.args.store.now others c.args.context.thread own shared c.args.thread.now s h c.execute.new.store false c.in-Ok-Did.event b.task b.rest b.is c.execute.new.activation c.execute.new.pending
     (does a others own shared s shares h steady c.get_mut.result.now (running c.in-Some.is c.get_mut.ensures.value) c.execute.new.store c.execute.new.activation c.execute.new.pending _ (Did c.in-Ok-Did.event) free c.in-Ok-Did.ensures.done c.in-Ok-Did.field-0-is)
 
 pub returns-in-Ok-Did-Quiet-clause-advances : goal.returns-in-Ok-Did-Quiet-clause-advances
 returns-in-Ok-Did-Quiet-clause-advances c others own shared s shares h steady free =
     let a = (goal.at.returns-in-Ok-Did-Quiet-clause-advances c).After-owner_at-owner in
     let b = it a others own shared s shares h steady c.get_mut.result.now (running c.in-Some.is c.get_mut.ensures.value) in
-    did c.args.program.now c.args.world.now c.args.store.now others c.args.number own shared c.args.thread.now s h c.execute.new.store false Quiet b.task b.rest b.is c.execute.new.activation c.execute.new.pending
+    did c.args.context.program.now c.args.context.world.now c.args.store.now others c.args.context.thread own shared c.args.thread.now s h c.execute.new.store false Quiet b.task b.rest b.is c.execute.new.activation c.execute.new.pending
     (does a others own shared s shares h steady c.get_mut.result.now (running c.in-Some.is c.get_mut.ensures.value) c.execute.new.store c.execute.new.activation c.execute.new.pending _ (Did Quiet) free c.in-Ok-Did-Quiet.ensures.done (c.in-Ok-Did-Quiet.field-0-is ∙ ap (λ (x : Event). Did x) c.in-Ok-Did-Quiet.field-0-0-is))
 
 pub returns-in-Ok-Refused-clause-advances : goal.returns-in-Ok-Refused-clause-advances
 returns-in-Ok-Refused-clause-advances c others own shared s shares h steady free =
     let a = (goal.at.returns-in-Ok-Refused-clause-advances c).After-owner_at-owner in
     let b = it a others own shared s shares h steady c.get_mut.result.now (running c.in-Some.is c.get_mut.ensures.value) in
-    did c.args.program.now c.args.world.now c.args.store.now others c.args.number own shared c.args.thread.now s h c.execute.new.store true Quiet b.task b.rest b.is c.execute.new.activation c.execute.new.pending
+    did c.args.context.program.now c.args.context.world.now c.args.store.now others c.args.context.thread own shared c.args.thread.now s h c.execute.new.store true Quiet b.task b.rest b.is c.execute.new.activation c.execute.new.pending
     (does a others own shared s shares h steady c.get_mut.result.now (running c.in-Some.is c.get_mut.ensures.value) c.execute.new.store c.execute.new.activation c.execute.new.pending _ Refused free c.in-Ok-Refused.ensures.done c.in-Ok-Refused.field-0-is)
 
 -- the source's return, and what is pending
 module _ (c : After-owner_at-owner) (activation : Activation) (is : c.args.thread.now.call ≡ Some activation) where
-  abbrev a : StandsReady c.args.program.now c.args.world.now c.args.number c.args.store.now c.args.thread.now
+  abbrev a : StandsReady c.args.context.program.now c.args.context.world.now c.args.context.thread c.args.store.now c.args.thread.now
   a = c.requires.agrees
 
-  returns_there : (store : Store) (after : Activation) (left : Option ℕ) (done : Executed) (v : ReturnValue) → DoesFirstTask (context_of c) c.owner_at-owner.result (state_of c.args.store.now c.args.thread.now.pending activation) (state_of store left after) done → done ≡ Returned v
-      → Executes c.args.program.now c.args.world.now c.args.store.now store (beside_callers a.0 a.3) c.args.number (owner_at c.args.number (length a.3.callers)) a.1.current a.2 a.3 (it c a.0 a.1 a.2 a.3 a.4 a.5 a.7 activation is).rest after left (effect_of (sight_of a.2 a.3) (it c a.0 a.1 a.2 a.3 a.4 a.5 a.7 activation is).task) (Returned v)
+  returns_there : (store : Store) (after : Activation) (left : Option ℕ) (done : Executed) (v : ReturnValue) → DoesFirstTask c.args.context c.owner_at-owner.result (state_of c.args.store.now c.args.thread.now.pending activation) (state_of store left after) done → done ≡ Returned v
+      → Executes c.args.context.program.now c.args.context.world.now c.args.store.now store (beside_callers a.0 a.3) c.args.context.thread (owner_at c.args.context.thread (length a.3.callers)) a.1.current a.2 a.3 (it c a.0 a.1 a.2 a.3 a.4 a.5 a.7 activation is).rest after left (effect_of (sight_of a.2 a.3) (it c a.0 a.1 a.2 a.3 a.4 a.5 a.7 activation is).task) (Returned v)
   returns_there store after left done v told same = does c a.0 a.1 a.2 a.3 a.4 a.5 a.7 activation is store after left done (Returned v) a.8 told same
 
 -- the source's call of a method
 module _ (c : After-owner_at-owner) (activation : Activation) (is : c.args.thread.now.call ≡ Some activation) where
-  abbrev b : StandsReady c.args.program.now c.args.world.now c.args.number c.args.store.now c.args.thread.now
+  abbrev b : StandsReady c.args.context.program.now c.args.context.world.now c.args.context.thread c.args.store.now c.args.thread.now
   b = c.requires.agrees
 
-  calls_there : (store : Store) (after : Activation) (left : Option ℕ) (done : Executed) → DoesFirstTask (context_of c) c.owner_at-owner.result (state_of c.args.store.now c.args.thread.now.pending activation) (state_of store left after) done → done ≡ executed.Calls
-      → IsCalling c.args.world.now.classes b.2 b.3 (effect_of (sight_of b.2 b.3) (it c b.0 b.1 b.2 b.3 b.4 b.5 b.7 activation is).task)
+  calls_there : (store : Store) (after : Activation) (left : Option ℕ) (done : Executed) → DoesFirstTask c.args.context c.owner_at-owner.result (state_of c.args.store.now c.args.thread.now.pending activation) (state_of store left after) done → done ≡ executed.Calls
+      → IsCalling c.args.context.world.now.classes b.2 b.3 (effect_of (sight_of b.2 b.3) (it c b.0 b.1 b.2 b.3 b.4 b.5 b.7 activation is).task)
   calls_there store after left done told same = does c b.0 b.1 b.2 b.3 b.4 b.5 b.7 activation is store after left done executed.Calls b.8 told same
 
-  makes_call : IsCalling c.args.world.now.classes b.2 b.3 (effect_of (sight_of b.2 b.3) (it c b.0 b.1 b.2 b.3 b.4 b.5 b.7 activation is).task) → MakesCall c.args.program.now c.args.world.now c.args.store.now activation
+  makes_call : IsCalling c.args.context.world.now.classes b.2 b.3 (effect_of (sight_of b.2 b.3) (it c b.0 b.1 b.2 b.3 b.4 b.5 b.7 activation is).task) → MakesCall c.args.context.program.now c.args.context.world.now c.args.store.now activation
   makes_call calling =
-      let p = c.args.program.now in
-      let w = c.args.world.now in
+      let p = c.args.context.program.now in
+      let w = c.args.context.world.now in
       let store = c.args.store.now in
       let others = beside_callers b.0 b.3 in
       let i = it c b.0 b.1 b.2 b.3 b.4 b.5 b.7 activation is in
       record {
         pending = c.args.thread.now.pending;
         others = others;
-        k = c.args.number;
-        owner = owner_at c.args.number (length b.3.callers);
+        k = c.args.context.thread;
+        owner = owner_at c.args.context.thread (length b.3.callers);
         own = b.1.current;
         shared = b.2;
         thread = b.3;
         task = i.task;
         rest = i.rest;
-        executing = executes p w store others c.args.number b.1 b.2 c.args.thread.now b.3 activation b.4 b.5 is b.7 b.8;
+        executing = executes p w store others c.args.context.thread b.1 b.2 c.args.thread.now b.3 activation b.4 b.5 is b.7 b.8;
         calling = calling;
       }
 
@@ -212,12 +207,12 @@ pub push-requires-clause-few : goal.push-requires-clause-few
 push-requires-clause-few c =
     let a = c.requires.agrees in
     let calling = calls_there (goal.at.push-requires-clause-few c).After-owner_at-owner c.get_mut.result.now (running c.in-Some.is c.get_mut.ensures.value) c.execute.new.store c.execute.new.activation c.execute.new.pending _ c.in-Ok-Calls.ensures.done c.in-Ok-Calls.field-0-is in
-    few_callers c.args.program.now c.args.world.now c.args.store.now c.args.number a.1 a.2 c.args.thread.now a.3 a.5 _ calling
+    few_callers c.args.context.program.now c.args.context.world.now c.args.store.now c.args.context.thread a.1 a.2 c.args.thread.now a.3 a.5 _ calling
 
 pub push-requires-clause-calling : goal.push-requires-clause-calling
 push-requires-clause-calling c =
-    let p = c.args.program.now in
-    let w = c.args.world.now in
+    let p = c.args.context.program.now in
+    let w = c.args.context.world.now in
     let o = (goal.at.push-requires-clause-calling c).After-owner_at-owner in
     let calling = calls_there o c.get_mut.result.now (running c.in-Some.is c.get_mut.ensures.value) c.execute.new.store c.execute.new.activation c.execute.new.pending _ c.in-Ok-Calls.ensures.done c.in-Ok-Calls.field-0-is in
     let same = c.in-Ok-Calls.ensures.calls c.in-Ok-Calls.field-0-is in (
@@ -229,11 +224,11 @@ push-requires-clause-calling c =
 
 pub returns-in_ok-push-in-Ok-Calls-clause-advances : goal.returns-in_ok-push-in-Ok-Calls-clause-advances
 returns-in_ok-push-in-Ok-Calls-clause-advances c others own shared s shares h steady free =
-    let p = c.args.program.now in
-    let w = c.args.world.now in
+    let p = c.args.context.program.now in
+    let w = c.args.context.world.now in
     let old = c.args.store.now in
     let t = c.args.thread.now in
-    let k = c.args.number in
+    let k = c.args.context.thread in
     let o = (goal.at.returns-in_ok-push-in-Ok-Calls-clause-advances c).After-owner_at-owner in
     let i = it o others own shared s shares h steady c.get_mut.result.now (running c.in-Some.is c.get_mut.ensures.value) in
     let calling = does o others own shared s shares h steady c.get_mut.result.now (running c.in-Some.is c.get_mut.ensures.value) c.execute.new.store c.execute.new.activation c.execute.new.pending _ executed.Calls free c.in-Ok-Calls.ensures.done c.in-Ok-Calls.field-0-is in
@@ -250,11 +245,11 @@ put_back t call pending a b = λ i. record t { call = a i; pending = b i }
 
 pub returns-in_err-push-in-Ok-Calls-clause-hindered : goal.returns-in_err-push-in-Ok-Calls-clause-hindered
 returns-in_err-push-in-Ok-Calls-clause-hindered c =
-    let p = c.args.program.now in
-    let w = c.args.world.now in
+    let p = c.args.context.program.now in
+    let w = c.args.context.world.now in
     let old = c.args.store.now in
     let t = c.args.thread.now in
-    let k = c.args.number in
+    let k = c.args.context.thread in
     let o = (goal.at.returns-in_err-push-in-Ok-Calls-clause-hindered c).After-owner_at-owner in
     let given = err_from_is_err_and c.from_residual-in_err-push-in-Ok-Calls.result c.from_residual-in_err-push-in-Ok-Calls.ensures.1 in
     rw (given.1, given.2) (λ others own shared s shares h steady free.
@@ -286,29 +281,29 @@ pub resume-requires-clause-called : goal.resume-requires-clause-called
 resume-requires-clause-called c below caller last =
     let a = c.requires.agrees in
     let r = returns_there (goal.at.resume-requires-clause-called c).After-owner_at-owner c.get_mut.result.now (running c.in-Some.is c.get_mut.ensures.value) c.execute.new.store c.execute.new.activation c.execute.new.pending _ c.in-Ok-Returned.value c.in-Ok-Returned.ensures.done c.in-Ok-Returned.field-0-is in
-    let f = first c.args.program.now c.args.world.now c.args.store.now a.0 c.args.number a.1 a.2 c.args.thread.now a.3 a.5 below caller last in
-    subst (λ (store : Store). HasCalled c.args.program.now store caller) (sym r.2)
-    (has_called c.args.program.now c.args.world.now c.args.store.now a.0 c.args.number a.1 a.2 c.args.thread.now a.3 a.5 below caller last c.requires.lowered a.4 (a.7.callers f.caller f.below f.is))
+    let f = first c.args.context.program.now c.args.context.world.now c.args.store.now a.0 c.args.context.thread a.1 a.2 c.args.thread.now a.3 a.5 below caller last in
+    subst (λ (store : Store). HasCalled c.args.context.program.now store caller) (sym r.2)
+    (has_called c.args.context.program.now c.args.context.world.now c.args.store.now a.0 c.args.context.thread a.1 a.2 c.args.thread.now a.3 a.5 below caller last c.requires.lowered a.4 (a.7.callers f.caller f.below f.is))
 
 pub returns-then-is_empty-clause-advances : goal.returns-then-is_empty-clause-advances
 returns-then-is_empty-clause-advances c others own shared s shares h steady free =
-    let p = c.args.program.now in
-    let w = c.args.world.now in
+    let p = c.args.context.program.now in
+    let w = c.args.context.world.now in
     let old = c.args.store.now in
     let a = (goal.at.returns-then-is_empty-clause-advances c).After-owner_at-owner in
     let b = it a others own shared s shares h steady c.get_mut.result.now (running c.in-Some.is c.get_mut.ensures.value) in
     let left = does a others own shared s shares h steady c.get_mut.result.now (running c.in-Some.is c.get_mut.ensures.value) c.execute.new.store c.execute.new.activation c.execute.new.pending _ (Returned c.in-Ok-Returned.value) free c.in-Ok-Returned.ensures.done c.in-Ok-Returned.field-0-is in
     let none = nil_from_length c.args.thread.now.callers.items (omega (arith, none_by c.args.thread.now.callers.len (sym c.is_empty.ensures ∙ c.if-is_empty.true), c.args.thread.now.callers.ok.0)) in
-    let alone = none_below p w.classes old.heap old.elements c.args.number shared (reverse c.args.thread.now.callers.items) own.callers s.callers h.callers (ap reverse none) in
-    returned p w old others c.args.number own shared c.args.thread.now s h c.execute.new.store c.leave.new.store c.execute.new.pending c.leave.new.thread b.task b.rest alone b.is left.1 left.2 (steady.return left.0.0 (ap (next_effect shared s) b.is ∙ left.0.1)) left.3 c.requires.agrees.6 (left.0.0, left.0.1) c.leave.ensures.call c.leave.ensures.entering (ap (λ (v : Vec Activation). v.items) c.leave.ensures.callers ∙ none) c.leave.ensures.pending c.leave.ensures.calls c.leave.ensures.ending c.leave.ensures.monitors
+    let alone = none_below p w.classes old.heap old.elements c.args.context.thread shared (reverse c.args.thread.now.callers.items) own.callers s.callers h.callers (ap reverse none) in
+    returned p w old others c.args.context.thread own shared c.args.thread.now s h c.execute.new.store c.leave.new.store c.execute.new.pending c.leave.new.thread b.task b.rest alone b.is left.1 left.2 (steady.return left.0.0 (ap (next_effect shared s) b.is ∙ left.0.1)) left.3 c.requires.agrees.6 (left.0.0, left.0.1) c.leave.ensures.call c.leave.ensures.entering (ap (λ (v : Vec Activation). v.items) c.leave.ensures.callers ∙ none) c.leave.ensures.pending c.leave.ensures.calls c.leave.ensures.ending c.leave.ensures.monitors
 
 pub returns-else-is_empty-clause-advances : goal.returns-else-is_empty-clause-advances
 returns-else-is_empty-clause-advances c others own shared s shares h steady free =
-    let p = c.args.program.now in
-    let w = c.args.world.now in
+    let p = c.args.context.program.now in
+    let w = c.args.context.world.now in
     let old = c.args.store.now in
     let t = c.args.thread.now in
-    let k = c.args.number in
+    let k = c.args.context.thread in
     let a = (goal.at.returns-else-is_empty-clause-advances c).After-owner_at-owner in
     let b = it a others own shared s shares h steady c.get_mut.result.now (running c.in-Some.is c.get_mut.ensures.value) in
     let left = does a others own shared s shares h steady c.get_mut.result.now (running c.in-Some.is c.get_mut.ensures.value) c.execute.new.store c.execute.new.activation c.execute.new.pending _ (Returned c.in-Ok-Returned.value) free c.in-Ok-Returned.ensures.done c.in-Ok-Returned.field-0-is in
@@ -322,10 +317,10 @@ returns-else-is_empty-clause-advances c others own shared s shares h steady free
 
 pub returns-in-Err-clause-hindered : goal.returns-in-Err-clause-hindered
 returns-in-Err-clause-hindered c others own shared s shares h steady free =
-    let p = c.args.program.now in
-    let w = c.args.world.now in
+    let p = c.args.context.program.now in
+    let w = c.args.context.world.now in
     let old = c.args.store.now in
     let a = (goal.at.returns-in-Err-clause-hindered c).After-owner_at-owner in
     let b = it a others own shared s shares h steady c.get_mut.result.now (running c.in-Some.is c.get_mut.ensures.value) in
     let told = c.in-Err.ensures.hindered (beside_callers others s) own.current shared s b.task b.rest (stands_as a others own shared s shares h steady c.get_mut.result.now (running c.in-Some.is c.get_mut.ensures.value) free) in
-    subst (λ (a : source.Advance). IsHindered (left_of old.heap) (cells_made shared a) c.args.may_refuse c.in-Err.fault) (sym (ap (step_within (unit_tree p.unit) w.classes (in_use_with (beside_callers others s) s) c.args.number shared s false) b.is)) told
+    subst (λ (a : source.Advance). IsHindered (left_of old.heap) (cells_made shared a) c.args.context.may_refuse c.in-Err.fault) (sym (ap (step_within (unit_tree p.unit) w.classes (in_use_with (beside_callers others s) s) c.args.context.thread shared s false) b.is)) told

@@ -41,9 +41,9 @@ use Rattle.machine_steps.proofs.advance.advance_at_once.Goals as goal
 use Rattle.machine_steps.proofs.advance.advance_at_once.Goals.{After-call-call, After-instr_at-instr}
 
 -- what was fetched
-fetched : (c : After-instr_at-instr) → IsLowered c.args.program.now → slice_get c.args.program.now.codes c.args.activation.now.function ≡ Some c.args.code.now → Fetched c.args.program.now c.args.store.now c.args.activation.now c.instr_at-instr.result.now
+fetched : (c : After-instr_at-instr) → IsLowered c.args.context.step.program.now → slice_get c.args.context.step.program.now.codes c.args.activation.now.function ≡ Some c.args.context.code.now → Fetched c.args.context.step.program.now c.args.store.now c.args.activation.now c.instr_at-instr.result.now
 fetched c lowered of_function = record {
-  code = c.args.code.now;
+  code = c.args.context.code.now;
   lowered = lowered;
   of_function = of_function;
   at = c.instr_at-instr.ensures.instr;
@@ -51,9 +51,9 @@ fetched c lowered of_function = record {
 }
 
 -- the same where nobody owns a monitor
-fetched_unowned : (c : After-instr_at-instr) → IsLowered c.args.program.now → slice_get c.args.program.now.codes c.args.activation.now.function ≡ Some c.args.code.now → Fetched c.args.program.now (store_unowned c.args.store.now) c.args.activation.now c.instr_at-instr.result.now
+fetched_unowned : (c : After-instr_at-instr) → IsLowered c.args.context.step.program.now → slice_get c.args.context.step.program.now.codes c.args.activation.now.function ≡ Some c.args.context.code.now → Fetched c.args.context.step.program.now (store_unowned c.args.store.now) c.args.activation.now c.instr_at-instr.result.now
 fetched_unowned c lowered of_function = record {
-  code = c.args.code.now;
+  code = c.args.context.code.now;
   lowered = lowered;
   of_function = of_function;
   at = c.instr_at-instr.ensures.instr;
@@ -71,20 +71,20 @@ silent (plain.Trap trap line) (event.PrintedNumber z) h = absurd (let clash : ev
 pub instr_at-instr-requires : goal.instr_at-instr-requires
 instr_at-instr-requires c =
     let a = c.requires.stands in
-    let p = c.args.program.now in
-    let w = c.args.world.now in
-    let k = c.args.number in
+    let p = c.args.context.step.program.now in
+    let w = c.args.context.step.world.now in
+    let k = c.args.context.step.thread in
     let h = a.5.in_code in
     let few : c.args.store.now.heap.cells ≤ 1048576 = omega (arith, c.cells.ensures.cells, c.cells.ensures.limit) in
-    place_there p w c.args.store.now (beside_callers a.0 a.3) k a.1 a.2 a.4 a.3 c.args.activation.now h.stands.0 h.stands.1 h.in_progress h.stands.2 c.args.code.now h.lowered h.of_function few
+    place_there p w c.args.store.now (beside_callers a.0 a.3) k a.1 a.2 a.4 a.3 c.args.activation.now h.stands.0 h.stands.1 h.in_progress h.stands.2 c.args.context.code.now h.lowered h.of_function few
 
 pub run_plain-requires-clause-leads : goal.run_plain-requires-clause-leads
 unfolding fetched_unowned
 run_plain-requires-clause-leads c path stack numbers is =
     let a = c.requires.stands in
-    let p = c.args.program.now in
-    let w = c.args.world.now in
-    let k = c.args.number in
+    let p = c.args.context.step.program.now in
+    let w = c.args.context.step.world.now in
+    let k = c.args.context.step.thread in
     let h = a.5.in_code in
     let store = c.args.store.now in
     let t = a.4 in
@@ -101,9 +101,9 @@ pub test_null-requires-clause-room : goal.test_null-requires-clause-room
 unfolding fetched_unowned
 test_null-requires-clause-room c =
     let a = c.requires.stands in
-    let p = c.args.program.now in
-    let w = c.args.world.now in
-    let k = c.args.number in
+    let p = c.args.context.step.program.now in
+    let w = c.args.context.step.world.now in
+    let k = c.args.context.step.thread in
     let h = a.5.in_code in
     let store = c.args.store.now in
     let t = a.4 in
@@ -120,9 +120,9 @@ pub load_element-requires-clause-operand : goal.load_element-requires-clause-ope
 unfolding fetched_unowned
 load_element-requires-clause-operand c =
     let a = c.requires.stands in
-    let p = c.args.program.now in
-    let w = c.args.world.now in
-    let k = c.args.number in
+    let p = c.args.context.step.program.now in
+    let w = c.args.context.step.world.now in
+    let k = c.args.context.step.thread in
     let h = a.5.in_code in
     let store = c.args.store.now in
     let t = a.4 in
@@ -138,9 +138,9 @@ load_element-requires-clause-operand c =
 pub load_element-requires-clause-block : goal.load_element-requires-clause-block
 load_element-requires-clause-block c =
     let a = c.requires.stands in
-    let p = c.args.program.now in
-    let w = c.args.world.now in
-    let k = c.args.number in
+    let p = c.args.context.step.program.now in
+    let w = c.args.context.step.world.now in
+    let k = c.args.context.step.thread in
     let h = a.5.in_code in
     let store = c.args.store.now in
     let t = a.4 in
@@ -151,9 +151,9 @@ load_element-requires-clause-block c =
 pub returns-in-TestNull : goal.returns-in-TestNull
 returns-in-TestNull c = record {
   advances = λ others own shared s t hw.
-      let p = c.args.program.now in
-      let w = c.args.world.now in
-      let k = c.args.number in
+      let p = c.args.context.step.program.now in
+      let w = c.args.context.step.world.now in
+      let k = c.args.context.step.thread in
       let h = hw.in_code in
       let stands = h.stands in
       let store = c.args.store.now in
@@ -170,9 +170,7 @@ returns-in-TestNull c = record {
             (test_executes p w store (beside_callers others s) k (owner_at k (length s.callers)) own.current shared s e.store_agrees t.pending e.pending_agrees call f.code it.task it.rest (ready_for p w store call i f t.pending (beside_callers others s) k (owner_at k (length s.callers)) own.current shared s it.task it.rest e) e.tasks e.views e.steady i f.at
             c.in-TestNull.variable c.in-TestNull.equal c.test_null.new.activation c.in-TestNull.is c.test_null.ensures)),
       );
-  store = tt;
-  pending = tt;
-  activation = tt;
+  kept = tt;
   function = c.test_null.ensures.function;
   silent = tt;
 }
@@ -200,9 +198,9 @@ silent_with (index ∷ stack) line o activation after e some h = loaded_silent l
 pub returns-in-LoadBuffer : goal.returns-in-LoadBuffer
 returns-in-LoadBuffer c =
     let a = c.requires.stands in
-    let p = c.args.program.now in
-    let w = c.args.world.now in
-    let k = c.args.number in
+    let p = c.args.context.step.program.now in
+    let w = c.args.context.step.world.now in
+    let k = c.args.context.step.thread in
     let h = a.5.in_code in
     let store = c.args.store.now in
     let t = a.4 in
@@ -216,9 +214,9 @@ returns-in-LoadBuffer c =
     (ready_for p w (store_unowned store) call i f t.pending (beside_callers a.0 a.3) k (owner_at k (length a.3.callers)) a.1.current (unowned a.2) a.3 it.task it.rest e) (instr.LoadBuffer c.in-LoadBuffer.slot c.in-LoadBuffer.line) (f.at ∙ ap (λ j. Some j) c.in-LoadBuffer.is)) in
     record {
       advances = λ others own shared s t hw.
-          let p = c.args.program.now in
-          let w = c.args.world.now in
-          let k = c.args.number in
+          let p = c.args.context.step.program.now in
+          let w = c.args.context.step.world.now in
+          let k = c.args.context.step.thread in
           let h = hw.in_code in
           let stands = h.stands in
           let store = c.args.store.now in
@@ -235,9 +233,7 @@ returns-in-LoadBuffer c =
                 (load_executes p w store (beside_callers others s) k (owner_at k (length s.callers)) own.current shared s e.store_agrees t.pending e.pending_agrees call f.code it.task it.rest (ready_for p w store call i f t.pending (beside_callers others s) k (owner_at k (length s.callers)) own.current shared s it.task it.rest e) e.tasks e.views e.steady i f.at
                 c.in-LoadBuffer.slot c.in-LoadBuffer.line c.load_element.new.activation c.load_element.result c.in-LoadBuffer.is c.load_element.ensures)),
           );
-      store = tt;
-      pending = tt;
-      activation = tt;
+      kept = tt;
       function = within_with call.stack c.in-LoadBuffer.line _ call c.load_element.new.activation c.load_element.result some c.load_element.ensures;
       silent = silent_with call.stack c.in-LoadBuffer.line _ call c.load_element.new.activation c.load_element.result some c.load_element.ensures;
     }
@@ -245,9 +241,9 @@ returns-in-LoadBuffer c =
 pub returns-in_default : goal.returns-in_default
 returns-in_default c = record {
   advances = λ others own shared s t hw.
-      let p = c.args.program.now in
-      let w = c.args.world.now in
-      let k = c.args.number in
+      let p = c.args.context.step.program.now in
+      let w = c.args.context.step.world.now in
+      let k = c.args.context.step.thread in
       let h = hw.in_code in
       let stands = h.stands in
       let store = c.args.store.now in
@@ -265,9 +261,7 @@ returns-in_default c = record {
             (plain_executes p w store (beside_callers others s) k (owner_at k (length s.callers)) own.current shared s e.store_agrees t.pending e.pending_agrees call f.code it.task it.rest (ready_for p w store call i f t.pending (beside_callers others s) k (owner_at k (length s.callers)) own.current shared s it.task it.rest e) e.tasks e.views e.steady i f.at
             c.run_plain.new.activation c.run_plain.result m.path m.stack m.numbers m.is m.moved m.path_seen)),
       );
-  store = tt;
-  pending = tt;
-  activation = tt;
+  kept = tt;
   function = c.run_plain.ensures.moved.function;
   silent = silent c.run_plain.ensures.path c.run_plain.result c.run_plain.ensures.path_seen;
 }
@@ -287,12 +281,12 @@ owner_there : (p : Lowered) (w : World) (store : Store) (k : ℕ) (own : ThreadO
 owner_there p w store k own shared t s owner h is = is ∙ copier_is p w.classes store.heap store.elements (length (loaded_objects w)) k own shared t s h (length t.callers.items) refl
 
 -- whatever thread of the source it stands for
-module _ (c : After-call-call) (others : Acquired) (own : ThreadOwners) (shared : Shared) (s : source.Thread) (t : Thread) (hw : StandsWithin c.args.program.now c.args.world.now c.args.store.now others c.args.number own shared s t c.args.code.now c.args.activation.now c.args.pending.now c.args.owner) where
+module _ (c : After-call-call) (others : Acquired) (own : ThreadOwners) (shared : Shared) (s : source.Thread) (t : Thread) (hw : StandsWithin c.args.context.step.program.now c.args.context.step.world.now c.args.store.now others c.args.context.step.thread own shared s t c.args.context.code.now c.args.activation.now c.args.pending.now c.args.context.owner) where
   abbrev p : Lowered
-  p = c.args.program.now
+  p = c.args.context.step.program.now
 
   abbrev w : World
-  w = c.args.world.now
+  w = c.args.context.step.world.now
 
   abbrev store : Store
   store = c.args.store.now
@@ -301,7 +295,7 @@ module _ (c : After-call-call) (others : Acquired) (own : ThreadOwners) (shared 
   call = c.args.activation.now
 
   abbrev k : ℕ
-  k = c.args.number
+  k = c.args.context.step.thread
 
   abbrev rest_of : Acquired
   rest_of = beside_callers others s
@@ -329,10 +323,10 @@ module _ (c : After-call-call) (others : Acquired) (own : ThreadOwners) (shared 
       at_call p w store t.pending call c.instr_at-instr.result.now (fetched at hw.in_code.lowered hw.in_code.of_function) c.call-call.result.now (is_call c) rest_of k copier own.current shared s it.task it.rest
       (executes p w store rest_of k own shared t s call hw.in_code.stands.0 hw.in_code.stands.1 hw.in_code.in_progress hw.in_code.stands.2 free)
 
-  owner_same : c.args.owner ≡ copier
-  owner_same = owner_there p w store k own shared t s c.args.owner hw.in_code.stands.1 hw.owner_is
+  owner_same : c.args.context.owner ≡ copier
+  owner_same = owner_there p w store k own shared t s c.args.context.owner hw.in_code.stands.1 hw.owner_is
 
-  at_call_here : Free → StandsAtCall p w k c.args.owner (state_of store c.args.pending.now call) c.call-call.result.now
+  at_call_here : Free → StandsAtCall p w k c.args.context.owner (state_of store c.args.pending.now call) c.call-call.result.now
   at_call_here free = (
     rest_of,
     own.current,
@@ -345,11 +339,11 @@ module _ (c : After-call-call) (others : Acquired) (own : ThreadOwners) (shared 
   )
 
   -- the step that it takes
-  steps : (later : Store) (after : Activation) (left : Option ℕ) → DoesCall p w k c.args.owner (state_of store c.args.pending.now call) (state_of later left after) c.call-call.result.now invoked.Done → Free → Advances p w store later others k own shared s (within after left t) false event.Quiet
+  steps : (later : Store) (after : Activation) (left : Option ℕ) → DoesCall p w k c.args.context.owner (state_of store c.args.pending.now call) (state_of later left after) c.call-call.result.now invoked.Done → Free → Advances p w store later others k own shared s (within after left t) false event.Quiet
   steps later after left done free =
       let does =
       subst (λ (n : ℕ). DoesCall p w k n (state_of store t.pending call) (state_of later left after) c.call-call.result.now invoked.Done) owner_same
-      (subst (λ (o : Option ℕ). DoesCall p w k c.args.owner (state_of store o call) (state_of later left after) c.call-call.result.now invoked.Done) (sym hw.pending_is) done) in
+      (subst (λ (o : Option ℕ). DoesCall p w k c.args.context.owner (state_of store o call) (state_of later left after) c.call-call.result.now invoked.Done) (sym hw.pending_is) done) in
       did p w store others k own shared t s hw.in_code.stands.1 later false event.Quiet it.task it.rest it.is after left
       (does rest_of own.current shared s it.task it.rest (at_it free))
 
@@ -366,8 +360,6 @@ returns-then-call_at_once c = record {
       let free = free_by there others own shared s t hw (c.call_at_once.ensures.free c.if-call_at_once.true) in
       (free, steps there others own shared s t hw c.call_at_once.new.store c.call_at_once.new.activation c.call_at_once.new.pending (c.call_at_once.ensures.done c.if-call_at_once.true) free);
   silent = tt;
-  store = tt;
-  pending = tt;
-  activation = tt;
+  kept = tt;
   function = c.call_at_once.ensures.function;
 }
