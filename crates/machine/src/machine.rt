@@ -125,8 +125,6 @@ impl<'a> Machine<'a> {
         ensures fits { UnmarkedFit (unit_tree self.now.unit) self.now.world self.now.journal }
         ensures fair { MarkedAreFair (unit_tree self.now.unit) self.now.world self.now.journal }
     {
-        // Here the proof takes up the machine's invariant.
-        let _ = &self.world;
         &self.journal
     }
 
@@ -143,8 +141,6 @@ impl<'a> Machine<'a> {
         ensures left { result ≡ cells_left self.now }
         ensures orderly { IsOrderly self.now }
     {
-        // Here the proof takes up the machine's invariant.
-        let _ = &self.world;
         self.store.heap.left()
     }
 
@@ -152,8 +148,6 @@ impl<'a> Machine<'a> {
     pub fn threads(&self) -> u8
         ensures { result ≡ length self.now.world.threads }
     {
-        // Here the proof takes up the machine's invariant.
-        let _ = &self.world;
         self.threads.len() as u8
     }
 
@@ -209,8 +203,6 @@ impl<'a> Machine<'a> {
     pub fn marking(&self) -> Option<(usize, usize)>
         ensures { result ≡ option_map (λ n. (n, slice_size * n)) self.now.slices }
     {
-        // Here the proof takes up the machine's invariant.
-        let _ = &self.world;
         match self.store.heap.marked() {
             Some(marked) => Some((marked / SLICE as usize, marked)),
             None => None,
@@ -265,8 +257,6 @@ impl<'a> Machine<'a> {
     pub fn stop(&self) -> Option<Stop>
         ensures { StoppedBy self.now result }
     {
-        // Here the proof takes up the machine's invariant.
-        let _ = &self.world;
         self.stop
     }
 

@@ -167,8 +167,6 @@ impl Machine<'_> {
         ensures there { result ≡ true → (0 < k) × (k ≤ length self.now.world.threads) }
         ensures none { result ≡ false → GivesNoStep self.now (ScheduleWord.Turn k) }
     {
-        // Here the proof takes up the machine's invariant.
-        let _ = &self.world;
         k > 0 && usize::from(k) <= self.threads.len()
     }
 
