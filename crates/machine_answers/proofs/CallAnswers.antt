@@ -1,52 +1,49 @@
 -- What the machine works out of calls is what the source's calls do: a row for each function.
-use Rattle.std.proofs.Common.{◌≡◌, ℕ, pos, ◌<◌, ◌≤◌, true, false, not, List, [], ◌∷◌, length, Option, Some, None, slice_get, refl, sym, ap, ◌∙◌, subst, arith, Bool}
+use Rattle.std.proofs.Common.{◌≡◌, ℕ, pos, ◌<◌, ◌≤◌, true, false, not, List, [], ◌∷◌, length, Option, slice_get, refl, sym, ap, ◌∙◌, subst, arith, Bool}
 use Rattle.std.specs.Prelude.{◌==◌, unwrap_or}
 use Rattle.std.specs.Option.{option_map_or}
 use Rattle.std.proofs.lemmas.Bool.{and_parts}
 use Rattle.base.specs.declared.element.ElementType.{ElementType}
 use Rattle.base.specs.declared.element.ElementType.TheVariants.{Int as JInt, Short as JShort, Byte as JByte, Char as JChar}
 use Rattle.class_rules.specs.ClassIds.{class_id}
-use Rattle.class_rules.specs.BuiltIns.{array_index_out_of_bounds, class_class, has_own_making, number_array, string_class, string_index_out_of_bounds, throwable_class}
+use Rattle.class_rules.specs.BuiltIns.{array_index_out_of_bounds, class_class, has_own_making, number_array, string_class, string_index_out_of_bounds}
 use Rattle.class_rules.specs.Class.{ArrayOfObjects, Plain, array_class_of, array_name, assignable, class_kind, class_name, element_class, is_plain, superclass}
 use Rattle.class_rules.specs.Fields.{find_field, find_static, own_statics}
 use Rattle.class_rules.proofs.GrownTables.{grown_is_ordered}
 use Rattle.classes.specs.declared.class.FieldHandle.{FieldHandle}
 use Rattle.code.specs.Call.{Call}
 use Rattle.code.specs.Effect.{truth_word}
-use Rattle.code.specs.declared.instr.Operand.{Operand}
 use Rattle.heap.specs.declared.value.Value.TheVariants as cell
 use Rattle.jni.specs.declared.function.JniFunction.{JniFunction}
-use Rattle.jni.specs.declared.function.JniFunction.TheVariants.{GetBuffer, ReleaseBuffer, FindClass, AllocObject, NewLocalRef, NewGlobalRef, NewWeakGlobalRef, DeleteLocalRef, DeleteGlobalRef, DeleteWeakGlobalRef, IsSameObject, EnsureLocalCapacity, PushLocalFrame, PopLocalFrame, GetFieldID, GetStaticFieldID, GetArrayLength, NewArray, NewObjectArray, GetObjectArrayElement, SetObjectArrayElement, NewStringUTF, GetStringLength, Throw, ThrowNew, ExceptionOccurred, ExceptionCheck, ExceptionClear, FatalError, GetSuperclass, GetObjectClass, IsInstanceOf, IsAssignableFrom, GetField, SetField, GetObjectField, SetObjectField, GetStaticField, SetStaticField, GetStaticObjectField, SetStaticObjectField, MonitorEnter, MonitorExit, GetArrayRegion, SetArrayRegion, GetStringRegion, GetStaticMethodID, CallStaticVoidMethod, CallStaticIntMethod, CallStaticObjectMethod}
+use Rattle.jni.specs.declared.function.JniFunction.TheVariants.{GetBuffer, ReleaseBuffer, FindClass, AllocObject, GetFieldID, GetStaticFieldID, GetArrayLength, NewArray, NewObjectArray, GetObjectArrayElement, SetObjectArrayElement, NewStringUTF, GetStringLength, GetSuperclass, GetObjectClass, IsInstanceOf, IsAssignableFrom, GetField, SetField, GetObjectField, SetObjectField, GetStaticField, SetStaticField, GetStaticObjectField, SetStaticObjectField, MonitorEnter, MonitorExit, GetArrayRegion, SetArrayRegion, GetStringRegion, GetStaticMethodID, CallStaticVoidMethod, CallStaticIntMethod, CallStaticObjectMethod}
 use Rattle.jni.specs.JniFunction.{calls_method, prototype}
-use Rattle.jni.specs.declared.kinds.ParameterKind.TheVariants.{ClassObject, FieldID, IntNumber, NonNull, Nullable, NumberArray, ObjectArray, StringObject, TextBytes}
-use Rattle.jni.specs.declared.kinds.ResultKind.TheVariants.{GivesNothing}
-use Rattle.semantics.specs.AnswerTable as table
+use Rattle.jni.specs.Subjects.{subject_of}
+use Rattle.jni.specs.declared.kinds.ParameterKind.TheVariants.{ClassObject, FieldID, IntNumber, NonNull, Nullable, NumberArray, ObjectArray, StringObject}
 use Rattle.semantics.specs.AnswerTable.{call_answer, index_within}
 use Rattle.semantics.specs.Arguments.{name_or_zero}
 use Rattle.semantics.specs.Method.{find_method}
 use Rattle.semantics.specs.Object.{Number}
 use Rattle.world_values.proofs.LoadedWorlds.{class_within}
-use Rattle.machine_scenes.specs.Given.{class_of_given, field_at, field_there, fits_there, key_at, name_there, operand_of}
+use Rattle.machine_scenes.specs.Given.{class_of_given, field_at, field_there, fits_there, name_there, operand_of}
 use Rattle.machine_scenes.specs.NewObjects.{IsMakeable}
 use Rattle.machine_scenes.specs.Scenes.{Scene}
-use Rattle.machine_scenes.specs.Statics.{static_at}
 use Rattle.machine_scenes.specs.declared.new_object.New.TheVariants.{Fresh}
 use Rattle.machine_answers.specs.declared.answer.Answer.{Answer}
-use Rattle.machine_answers.specs.declared.answer.Answer.TheVariants.{Calls, Gives, Makes, Raises, Deletes}
+use Rattle.machine_answers.specs.declared.answer.Answer.TheVariants.{Calls, Gives, Makes}
 use Rattle.machine_answers.specs.declared.answer.Given.TheVariants as given
 use Rattle.machine_answers.specs.Answers as row
-use Rattle.machine_answers.specs.Sights.{class_object_seen, deleted_seen, name_seen, number_at, values_seen}
-use Rattle.machine_answers.specs.WorkedOut.{IsFoundField, IsFoundMethod, address_in, class_object, deletes, deletes_global, deletes_weak, held_reference, new_array, stores_there, value_there, word_in, writes_there}
+use Rattle.machine_answers.specs.Sights.{class_object_seen, name_seen, number_at, values_seen}
+use Rattle.machine_answers.specs.WorkedOut.{IsFoundField, IsFoundMethod, address_in, class_object, held_reference, new_array, stores_there, value_there, word_in, writes_there}
 use Rattle.machine_answers.proofs.WorkedOut as worked
-use Rattle.machine_answers.proofs.WorkedOut.{IsWorkedOut}
+use Rattle.machine_answers.proofs.WorkedOut.{IsWorkedOut, is_here}
 use Rattle.machine_answers.proofs.CallOperands.{own_making, super_known}
-use Rattle.machine_answers.proofs.CallTraps.{has_passed, same_pending}
-use Rattle.machine_answers.proofs.LongTables.{class_is_no_throwable, class_is_plain}
+use Rattle.machine_answers.proofs.CallTraps.{has_passed}
+use Rattle.machine_answers.proofs.LongTables.{class_is_plain}
 use Rattle.machine_answers.proofs.SightParts.{name_is}
 use Rattle.machine_answers.proofs.TrapsSeen.{fits_one}
 use Rattle.machine_answers.specs.Answered.{IsAnswerTo, TwoCalls, Asked, Passes, unit, scene}
-use Rattle.machine_answers.proofs.TwoCalls.{Works, at, built_in_class, class_given, fields, method_error, object_given_at, references, table_of}
-use Rattle.machine_answers.proofs.KindAnswers.{Stands, array_made, back, class_agrees, class_found, class_of_first, counted, does, element_read, element_written, ensured, field_found, first_name, global_deleted, held_agrees, holder, local_deleted, method_found, named, number_read, own_key, pending_named, place_is, pushed, reference_read, same_names, sight, stands, static_named, stored, there, weak_deleted, written}
+use Rattle.machine_answers.proofs.TwoCalls.{Works, at, built_in_class, class_given, fields, method_error, object_given_at, table_of}
+use Rattle.machine_answers.proofs.KindAnswers.{Stands, array_made, back, class_agrees, class_found, class_of_first, counted, does, element_read, element_written, field_found, first_name, held_agrees, holder, method_found, named, number_read, place_is, reference_read, sight, stands, stored, there, written}
 use Rattle.machine_answers.proofs.RegionAnswers.{numbers_are, region_given, region_read, region_written}
 use Rattle.machine_answers.proofs.BufferAnswers.{answers_get_buffer, answers_release}
 use Rattle.machine_answers.proofs.MethodAnswers.{method_called}
@@ -79,12 +76,6 @@ module _ (both : TwoCalls) where
       makeable _ (class_given both AllocObject [] [] refl h free)
       (own_making w.classes _ (ap (λ (n : ℕ). not (has_own_making w.classes n)) (sym (name 0)) ∙ has_passed p w store pending activation call others k owner shared s target AllocObject args h free))
 
-  makes_throwable : (h : Asked both ThrowNew) → Passes both → IsMakeable w.classes (name_or_zero (name_seen store.heap (at both 0)))
-  makes_throwable h free =
-      makeable _ (class_given both ThrowNew [] (TextBytes ∷ []) refl h free)
-      (λ e. absurd (let clash : false ≡ true = sym (class_is_no_throwable w.classes sound.grown) ∙ ap (λ (c : ℕ). assignable w.classes c throwable_class) (sym e ∙ sym (name 0))
-      ∙ has_passed p w store pending activation call others k owner shared s target ThrowNew args h free in cc))
-
   makes_numbers : (T : ElementType) → IsMakeable w.classes (number_array T)
   makes_numbers JInt = built_in_class both 23 (omega arith) (omega arith)
   makes_numbers JShort = built_in_class both 22 (omega arith) (omega arith)
@@ -112,149 +103,118 @@ module _ (both : TwoCalls) where
       )
 
   -- what is worked out stands for what the table says of what the call sees
-  seen : (f : JniFunction) → Asked both f → Passes both → (answer : Answer) → Works both f answer → Stands both answer (prototype f).result (call_answer (unit both) w.classes k (sight both f) f)
+  seen : (f : JniFunction) → is_here (subject_of f) ≡ true → Asked both f → Passes both → (answer : Answer) → Works both f answer → Stands both answer (prototype f).result (call_answer (unit both) w.classes k (sight both f) f)
   unfolding call_answer
-  seen FindClass h free answer is = stands both is (class_found both FindClass h _ (class_within w.classes (text 0)))
-  seen GetSuperclass h free answer is =
+  seen FindClass here h free answer is = stands both is (class_found both FindClass h _ (class_within w.classes (text 0)))
+  seen GetSuperclass here h free answer is =
       stands both (is ∙ ap (λ (c : ℕ). Gives (given.Reference (class_object store.loaded.items (superclass w.classes c)))) (name 0))
       (row.gives (row.reference (class_agrees both GetSuperclass h _ (super_known w.classes (grown_is_ordered w.classes sound.grown) _))))
-  seen GetObjectClass h free answer is =
+  seen GetObjectClass here h free answer is =
       let class = class_of_first both GetObjectClass h (object_given_at both GetObjectClass [] NonNull [] tt refl refl h free) in
       stands both is (row.gives (row.reference (table_of both GetObjectClass h _ class.0 class.1)))
-  seen IsInstanceOf h free answer is =
+  seen IsInstanceOf here h free answer is =
       stands both (is ∙ ap (λ (c : ℕ). Gives (given.Number (truth_word (fits_there w.classes store.heap (at both 0) c)))) (name 1))
       (row.gives (row.flag (ap truth_word (fits_one (scene both) (at both 0) _ (there both IsInstanceOf h 0)))))
-  seen IsAssignableFrom h free answer is =
+  seen IsAssignableFrom here h free answer is =
       stands both (is ∙ (λ i. Gives (given.Number (truth_word (assignable w.classes (name 0 i) (name 1 i)))))) (row.gives (row.flag refl))
-  seen AllocObject h free answer is =
+  seen AllocObject here h free answer is =
       stands both (is ∙ ap (λ (c : ℕ). Makes (Fresh (class_id c))) (name 0)) (row.makes (record { object = refl; makeable = makes_object h free }))
-  seen NewLocalRef h free answer is = stands both is (row.gives (row.reference (named both NewLocalRef h 0)))
-  seen NewGlobalRef h free answer is = stands both is (row.makes_global _ (named both NewGlobalRef h 0))
-  seen NewWeakGlobalRef h free answer is = stands both is (row.makes_weak _ (named both NewWeakGlobalRef h 0))
-  seen DeleteLocalRef h free answer is =
-      stands both is (local_deleted both (key_at (references both) (operand_of call.operands 0)) _ (own_key both DeleteLocalRef h refl))
-  seen DeleteGlobalRef h free answer is =
-      let static = static_named both DeleteGlobalRef h refl in
-      stands both is
-      (subst (λ (o : Operand). Stands both (deletes_global (references both) o) GivesNothing (table.global_deleted (deleted_seen (scene both) DeleteGlobalRef o))) (sym static.1) (global_deleted both static.0 (static_at (references both) static.0) static.2))
-  seen DeleteWeakGlobalRef h free answer is =
-      let static = static_named both DeleteWeakGlobalRef h refl in
-      stands both is
-      (subst (λ (o : Operand). Stands both (deletes_weak (references both) o) GivesNothing (table.weak_deleted (deleted_seen (scene both) DeleteWeakGlobalRef o))) (sym static.1) (weak_deleted both static.0 (static_at (references both) static.0) static.2))
-  seen IsSameObject h free answer is =
-      stands both (is ∙ (λ i. Gives (given.Number (truth_word (name 0 i == name 1 i)))))
-      (row.gives (row.flag (ap truth_word (same_names both (at both 0) (at both 1) _ _ h.store_agrees.heap (named both IsSameObject h 0) (named both IsSameObject h 1)))))
-  seen EnsureLocalCapacity h free answer is = stands both is (ensured both _)
-  seen PushLocalFrame h free answer is = stands both is (pushed both _)
-  seen PopLocalFrame h free answer is = stands both is (row.pops _ (named both PopLocalFrame h 0))
-  seen GetFieldID h free answer is =
+  seen GetFieldID here h free answer is =
       field_found both _ answer (subst (λ (c : ℕ). IsFoundField w.classes (find_field w.classes c (text 0) (text 1)) answer) (name 0) is)
-  seen GetStaticFieldID h free answer is =
+  seen GetStaticFieldID here h free answer is =
       field_found both _ answer (subst (λ (c : ℕ). IsFoundField w.classes (find_static w.classes c (text 0) (text 1)) answer) (name 0) is)
-  seen GetStaticMethodID h free answer is =
+  seen GetStaticMethodID here h free answer is =
       method_found both _ answer (method_error both (h.methods refl))
       (subst (λ (c : ℕ). IsFoundMethod (unit both) w.classes (find_method (unit both) w.classes c (text 0) (text 1)) answer) (name 0) is)
-  seen (GetField T) h free answer is =
+  seen (GetField T) here h free answer is =
       let f = GetField T in
       stands both (is ∙ ap (λ (i : ℕ). Gives (given.Number (word_in (value_there store.heap (at both 0) i)))) (place_is both f NonNull [] refl refl h free _))
       (row.gives (number_read both (at both 0) _ (named both f h 0) h.store_agrees _))
-  seen (SetField T) h free answer is =
+  seen (SetField T) here h free answer is =
       let f = SetField T in
       let first = object_given_at both f [] NonNull (FieldID ∷ IntNumber ∷ []) tt refl refl h free in
       stands both (is ∙ ap (λ (i : ℕ). writes_there store.heap (at both 0) i (worked.stored (scene both) call T)) (place_is both f NonNull (IntNumber ∷ []) refl refl h free _))
       (written both (at both 0) first.address _ _ _ _ first.at (first_name both first) (stored both f 2 T refl refl h) h.store_agrees)
-  seen GetObjectField h free answer is =
+  seen GetObjectField here h free answer is =
       stands both (is ∙ ap (λ (i : ℕ). Gives (given.Reference (address_in (value_there store.heap (at both 0) i)))) (place_is both GetObjectField NonNull [] refl refl h free _))
       (row.gives (row.reference (reference_read both (at both 0) _ (named both GetObjectField h 0) h.store_agrees _)))
-  seen SetObjectField h free answer is =
+  seen SetObjectField here h free answer is =
       let first = object_given_at both SetObjectField [] NonNull (FieldID ∷ Nullable ∷ []) tt refl refl h free in
       stands both (is ∙ ap (λ (i : ℕ). writes_there store.heap (at both 0) i (held_reference (at both 2))) (place_is both SetObjectField NonNull (Nullable ∷ []) refl refl h free _))
       (written both (at both 0) first.address _ _ _ _ first.at (first_name both first) (held_agrees both (at both 2) _ (named both SetObjectField h 2)) h.store_agrees)
-  seen (GetStaticField T) h free answer is =
+  seen (GetStaticField T) here h free answer is =
       let f = GetStaticField T in
       let it = holder both f [] refl h free in
       let place = place_is both f ClassObject [] refl refl h free (own_statics w.classes (field_there w.classes handle).class) in
       stands both (is ∙ (λ i. Gives (given.Number (word_in (value_there store.heap (it.same i) (place i)))))) (row.gives (number_read both declaring _ it.agrees h.store_agrees _))
-  seen (SetStaticField T) h free answer is =
+  seen (SetStaticField T) here h free answer is =
       let f = SetStaticField T in
       let it = holder both f (IntNumber ∷ []) refl h free in
       let place = place_is both f ClassObject (IntNumber ∷ []) refl refl h free (own_statics w.classes (field_there w.classes handle).class) in
       stands both (is ∙ (λ i. writes_there store.heap (it.same i) (place i) (worked.stored (scene both) call T)))
       (written both declaring it.address _ _ _ _ it.is it.named (stored both f 2 T refl refl h) h.store_agrees)
-  seen GetStaticObjectField h free answer is =
+  seen GetStaticObjectField here h free answer is =
       let it = holder both GetStaticObjectField [] refl h free in
       let place = place_is both GetStaticObjectField ClassObject [] refl refl h free (own_statics w.classes (field_there w.classes handle).class) in
       stands both (is ∙ (λ i. Gives (given.Reference (address_in (value_there store.heap (it.same i) (place i))))))
       (row.gives (row.reference (reference_read both declaring _ it.agrees h.store_agrees _)))
-  seen SetStaticObjectField h free answer is =
+  seen SetStaticObjectField here h free answer is =
       let it = holder both SetStaticObjectField (Nullable ∷ []) refl h free in
       let place = place_is both SetStaticObjectField ClassObject (Nullable ∷ []) refl refl h free (own_statics w.classes (field_there w.classes handle).class) in
       stands both (is ∙ (λ i. writes_there store.heap (it.same i) (place i) (held_reference (at both 2))))
       (written both declaring it.address _ _ _ _ it.is it.named (held_agrees both (at both 2) _ (named both SetStaticObjectField h 2)) h.store_agrees)
-  seen GetArrayLength h free answer is = stands both is (row.gives (counted both h.store_agrees (at both 0)))
-  seen GetStringLength h free answer is = stands both is (row.gives (counted both h.store_agrees (at both 0)))
-  seen (NewArray T) h free answer is =
+  seen GetArrayLength here h free answer is = stands both is (row.gives (counted both h.store_agrees (at both 0)))
+  seen GetStringLength here h free answer is = stands both is (row.gives (counted both h.store_agrees (at both 0)))
+  seen (NewArray T) here h free answer is =
       stands both is
       (array_made both (number_array T) (cell.Number 0) (Number (pos 0)) (makes_numbers T) (record { sfits = omega arith }, refl) _)
-  seen NewObjectArray h free answer is =
+  seen NewObjectArray here h free answer is =
       let class = makes_references h free in
       stands both (is ∙ ap (λ (c : ℕ). new_array c (number_at activation.stack 0) (held_reference (at both 2))) class.1)
       (array_made both array_class _ _ class.0 (held_agrees both (at both 2) _ (named both NewObjectArray h 2)) _)
-  seen GetObjectArrayElement h free answer is =
+  seen GetObjectArrayElement here h free answer is =
       stands both is
       (element_read both (at both 0) _ (named both GetObjectArrayElement h 0) h.store_agrees _)
-  seen SetObjectArrayElement h free answer is =
+  seen SetObjectArrayElement here h free answer is =
       let first = object_given_at both SetObjectArrayElement [] ObjectArray (IntNumber ∷ Nullable ∷ []) tt refl refl h free in
       let fits = fits_one (scene both) (at both 2) (element_class (class_kind w.classes (class_of_given store.heap (at both 0)))) (there both SetObjectArrayElement h 2) in
       stands both (is ∙ ap (λ (b : Bool). stores_there store.heap (at both 0) b (index_within (length (values_seen store.heap (at both 0))) (number_at activation.stack 0)) (held_reference (at both 2))) fits)
       (element_written both (at both 0) first.address _ _ _ first.at (first_name both first) (held_agrees both (at both 2) _ (named both SetObjectArrayElement h 2)) h.store_agrees _ _)
-  seen NewStringUTF h free answer is =
+  seen NewStringUTF here h free answer is =
       stands both is (row.makes (record { object = refl; makeable = built_in_class both string_class (omega arith) (omega arith) }))
-  seen Throw h free answer is = stands both is (row.pends _ (named both Throw h 0) (row.int refl (record { sfits = omega arith })))
-  seen ThrowNew h free answer is =
-      stands both (is ∙ ap (λ (c : ℕ). Raises (class_id c) 0) (name 0)) (row.raises (built_in_class both string_class (omega arith) (omega arith)) (makes_throwable h free))
-  seen ExceptionOccurred h free answer is = stands both is (row.gives (row.reference (pending_named both ExceptionOccurred h)))
-  seen ExceptionCheck h free answer is =
-      stands both is (row.gives (row.flag (ap truth_word (same_pending store.heap pending _ (pending_named both ExceptionCheck h)))))
-  seen ExceptionClear h free answer is = stands both is (row.pends None tt row.nothing)
-  seen FatalError h free answer is = stands both is row.halts
-  seen (GetArrayRegion T) h free answer is =
+  seen (GetArrayRegion T) here h free answer is =
       let f = GetArrayRegion T in
       let g = region_given both f (NumberArray T) T tt refl refl h free in
       stands both is (region_read both g f h array_index_out_of_bounds (omega arith) (omega arith))
-  seen (SetArrayRegion T) h free answer is =
+  seen (SetArrayRegion T) here h free answer is =
       let f = SetArrayRegion T in
       let g = region_given both f (NumberArray T) T tt refl refl h free in
       stands both is (region_written both g f h array_index_out_of_bounds (omega arith) (omega arith) (numbers_are both g f h T refl free))
-  seen GetStringRegion h free answer is =
+  seen GetStringRegion here h free answer is =
       let g = region_given both GetStringRegion StringObject JChar tt refl refl h free in
       stands both is (region_read both g GetStringRegion h string_index_out_of_bounds (omega arith) (omega arith))
-  seen (GetBuffer access) h free answer is = back both (GetBuffer access) h (answers_get_buffer both access h free answer is)
-  seen (ReleaseBuffer access) h free answer is = back both (ReleaseBuffer access) h (answers_release both access h free answer is)
-  seen MonitorEnter h free answer is = back both MonitorEnter h (answers_enter both h free answer is)
-  seen MonitorExit h free answer is = back both MonitorExit h (answers_exit both h free answer is)
-  seen CallStaticVoidMethod h free answer is = stands both is (back both CallStaticVoidMethod h (method_called both CallStaticVoidMethod refl h free))
-  seen CallStaticIntMethod h free answer is = stands both is (back both CallStaticIntMethod h (method_called both CallStaticIntMethod refl h free))
-  seen CallStaticObjectMethod h free answer is = stands both is (back both CallStaticObjectMethod h (method_called both CallStaticObjectMethod refl h free))
-
--- the key that is deleted
-key_deleted : (o : Option ℕ) (answer : Answer) → answer ≡ deletes o → (key : ℕ) → answer ≡ Deletes key → o ≡ Some key
-key_deleted None answer is key same = absurd (let clash : Gives given.Nothing ≡ Deletes key = sym is ∙ same in cc)
-key_deleted (Some k) answer is key same = let e : Deletes k ≡ Deletes key = sym is ∙ same in cc
+  seen (GetBuffer access) here h free answer is = back both (GetBuffer access) h (answers_get_buffer both access h free answer is)
+  seen (ReleaseBuffer access) here h free answer is = back both (ReleaseBuffer access) h (answers_release both access h free answer is)
+  seen MonitorEnter here h free answer is = back both MonitorEnter h (answers_enter both h free answer is)
+  seen MonitorExit here h free answer is = back both MonitorExit h (answers_exit both h free answer is)
+  seen CallStaticVoidMethod here h free answer is = stands both is (back both CallStaticVoidMethod h (method_called both CallStaticVoidMethod refl h free))
+  seen CallStaticIntMethod here h free answer is = stands both is (back both CallStaticIntMethod h (method_called both CallStaticIntMethod refl h free))
+  seen CallStaticObjectMethod here h free answer is = stands both is (back both CallStaticObjectMethod h (method_called both CallStaticObjectMethod refl h free))
+  seen f here h free answer is = absurd (cc)
 
 -- a function that calls a method does so
 method_called_so : (scene : Scene) (call : Call) (f : JniFunction) (answer : Answer) → calls_method f ≡ true → IsWorkedOut scene call f answer → answer ≡ Calls
 method_called_so scene call f answer calls is = grind (arith, calls, is)
 
 -- what is worked out is the answer to a call
-pub answers : (sees : Scene) (call : Call) (answer : Answer) → IsWorkedOut sees call call.function answer → IsAnswerTo sees call answer
+pub answers : (sees : Scene) (call : Call) (answer : Answer) → is_here (subject_of call.function) ≡ true → IsWorkedOut sees call call.function answer → IsAnswerTo sees call answer
 unfolding IsAnswerTo
-answers sees call answer is = record {
+answers sees call answer of is = record {
   stands = λ both f same here h free.
       does both f h
-      (seen both f h free answer
+      (seen both f (subst (λ (g : JniFunction). is_here (subject_of g) ≡ true) (sym (ap (λ (c : Call). c.function) here) ∙ h.same_function) of) h free answer
       (subst (λ (g : JniFunction). Works both g answer) h.same_function
       (subst (λ (x : Scene). IsWorkedOut x both.call both.call.function answer) (sym same) (subst (λ (c : Call). IsWorkedOut sees c c.function answer) (sym here) is))));
-  ends = λ one. key_deleted _ answer (subst (λ (f : JniFunction). IsWorkedOut sees call f answer) one is);
+  ends = λ one. absurd (let clash : false ≡ true = ap (λ (f : JniFunction). is_here (subject_of f)) (sym one) ∙ of in cc);
   calls = λ calls. method_called_so sees call call.function answer calls is;
 }

@@ -28,7 +28,7 @@ use Rattle.jni.specs.declared.kinds.ResultKind.{ResultKind}
 use Rattle.jni.specs.declared.kinds.ResultKind.TheVariants.{NewLocal, GivesInt, GivesField, GivesMethod, GivesNothing}
 use Rattle.semantics.specs.Answer as source
 use Rattle.semantics.specs.AnswerTable as table
-use Rattle.semantics.specs.AnswerTable.{call_answer, index_within, value_in}
+use Rattle.semantics.specs.AnswerTable.{call_answer, value_in}
 use Rattle.semantics.specs.CallSight.{CallSight}
 use Rattle.semantics.specs.Arguments.{Actual, name_or_zero, reference_given, variable_given}
 use Rattle.semantics.specs.CallEffects.{ScalarResult, same_reference, level_of}
@@ -38,13 +38,12 @@ use Rattle.semantics.specs.Method.{MethodId}
 use Rattle.semantics.specs.Object.{Object, ObjectValue, Number, Reference, Refers}
 use Rattle.semantics.specs.declared.value.Value.TheVariants.{Int}
 use Rattle.semantics.specs.Value.{convert}
-use Rattle.semantics.specs.Variable.{StaticReference, Weakly, Cleared}
+use Rattle.semantics.specs.Variable.{StaticReference}
 use Rattle.code_meaning.specs.Coding.{element_of}
 use Rattle.code_meaning.specs.Does.{AllTogether, words_given}
 use Rattle.code_meaning.specs.Slots.{static_index, word_of}
 use Rattle.code_meaning.proofs.ElementWords.{convert_fits, element_words}
 use Rattle.machine_scenes.specs.declared.references.Held.{Held}
-use Rattle.machine_scenes.specs.declared.references.Held.TheVariants as held
 use Rattle.machine_scenes.specs.Given.{IsGiven, ReferenceIsThere, class_of_given, field_at, field_there, key_at, operand_of}
 use Rattle.machine_scenes.specs.HeapAgrees.{HeapAgrees, ReferenceAgrees, ValueAgrees}
 use Rattle.machine_scenes.specs.Locals.{IsKeyGiven}
@@ -62,7 +61,7 @@ use Rattle.machine_answers.specs.Answers as row
 use Rattle.machine_answers.specs.Asked.{deletes_static}
 use Rattle.machine_answers.specs.Checked.{may_be_null, some_missing}
 use Rattle.machine_answers.specs.Sights.{call_seen, class_object_seen, held_seen, name_seen, number_at, object_seen, values_seen, words_of}
-use Rattle.machine_answers.specs.WorkedOut.{IsFoundField, IsFoundMethod, address_in, class_object, deletes, deletes_held, deletes_held_weakly, element_there, found_class, frame_for, held_reference, new_array, place_there, room_for, stores_there, value_there, word_in, writes_there}
+use Rattle.machine_answers.specs.WorkedOut.{IsFoundField, IsFoundMethod, address_in, class_object, element_there, found_class, held_reference, new_array, place_there, stores_there, value_there, word_in, writes_there}
 use Rattle.machine_answers.proofs.CallOperands.{GivenObject, few_there, is_number, second_field}
 use Rattle.machine_answers.proofs.CallTraps.{handles_there, none_lacking, objects_there}
 use Rattle.machine_answers.proofs.FieldValues.{reference_there, word_there, writes}
@@ -93,7 +92,7 @@ module _ (both : TwoCalls) where
   pub of_call : (f : JniFunction) → Asked both f → Asked both call.function
   of_call f h = subst (λ (g : JniFunction). Asked both g) (sym h.same_function) h
 
-  same_sight : (f : JniFunction) → Asked both f → sight f ≡ seen.sight_of_call shared s f args
+  pub same_sight : (f : JniFunction) → Asked both f → sight f ≡ seen.sight_of_call shared s f args
   same_sight f h =
       subst (λ (g : JniFunction). sight g ≡ seen.sight_of_call shared s g args) h.same_function
       (sights_agree p w store pending activation call others k owner shared s target args (of_call f h))
@@ -236,19 +235,6 @@ module _ (both : TwoCalls) where
   method_found None answer makeable is = stands is (row.throws makeable)
   method_found (Some m) answer makeable is = stands is.1 (row.gives (row.method is.2))
 
-  pub ensured : (z : ℤ) → Stands (room_for z) GivesInt (table.ensured z)
-  ensured (pos n) = row.ensures
-  ensured (negsuc n) = row.refuses
-
-  pub pushed : (z : ℤ) → Stands (frame_for z) GivesInt (table.pushed z)
-  pushed (pos n) = row.pushes
-  pushed (negsuc n) = row.refuses
-
-  pub local_deleted : (key : Option ℕ) (r : Reference) → IsKeyGiven store.heap activation.locals key r (level_of (lookup (variable_given args 0) s.variables)) → Stands (deletes key) GivesNothing (table.local_deleted r)
-  local_deleted None None own = row.gives row.nothing
-  local_deleted (Some key) (Some n) own = row.deletes n 0 own
-  local_deleted key r own = absurd own
-
   -- the key of a reference that is deleted, by the name by which it is seen
   pub own_key : (f : JniFunction) → Asked both f → f ≡ DeleteLocalRef
       → IsKeyGiven store.heap activation.locals (key_at (references both) (operand_of call.operands 0)) (name_seen store.heap (at both 0)) (level_of (lookup (variable_given args 0) s.variables))
@@ -267,20 +253,6 @@ module _ (both : TwoCalls) where
       let static = static_given p w store pending activation call others k owner shared s target args (of_call f h) (ap deletes_static h.same_function ∙ ends) in
       let found = h.held ends static.0 static.1 in
       (static.0, static.1, record { place = found.place; there = found.there ∙ ap (λ (r : StaticReference). Some r) (sym (held_is store.heap (static_at (references both) static.0) found.reference found.agrees)) })
-
-  pub global_deleted : (i : ℕ) (x : Held) → IsStatic i x → Stands (deletes_held i x) GivesNothing (table.global_deleted (Some (held_seen store.heap x)))
-  global_deleted i (held.At a) it = row.deletes_global (name_or_zero (name_at store.heap a)) 0 (record { place = it.place; there = it.there })
-  global_deleted i held.Empty it = row.gives row.nothing
-  global_deleted i (held.Weakly a) it = row.gives row.nothing
-  global_deleted i held.Cleared it = row.gives row.nothing
-  global_deleted i held.Deleted it = row.gives row.nothing
-
-  pub weak_deleted : (i : ℕ) (x : Held) → IsStatic i x → Stands (deletes_held_weakly i x) GivesNothing (table.weak_deleted (Some (held_seen store.heap x)))
-  weak_deleted i (held.Weakly a) it = row.deletes_weak 0 (record { place = it.place; held = Weakly (name_or_zero (name_at store.heap a)); there = it.there; weak = tt })
-  weak_deleted i held.Cleared it = row.deletes_weak 0 (record { place = it.place; held = Cleared; there = it.there; weak = tt })
-  weak_deleted i held.Empty it = row.gives row.nothing
-  weak_deleted i (held.At a) it = row.gives row.nothing
-  weak_deleted i held.Deleted it = row.gives row.nothing
 
   -- a value of an object is written
   pub written : (o : Option ℕ) (a n i : ℕ) (v : Value) (u : ObjectValue) → o ≡ Some a → name_at store.heap a ≡ Some n → ValueAgrees store.heap v u → StoreAgrees p w store shared (all both)

@@ -1,3 +1,4 @@
+pub mod AnswersStand
 pub mod ArgumentPlaces
 pub mod BufferAnswers
 pub mod BufferOperands

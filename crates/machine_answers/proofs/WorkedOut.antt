@@ -1,5 +1,5 @@
 -- What is worked out of a call of each function, by what is in memory.
-use Rattle.std.specs.Prelude.{◌==◌, ◌≡◌, ℕ, List, [], slice_get, unwrap_or, is_some, Option, Some, None, length}
+use Rattle.std.specs.Prelude.{Bool, true, false, ◌==◌, ◌≡◌, ℕ, List, [], slice_get, unwrap_or, Option, Some, None, length}
 use Rattle.base.specs.declared.element.ElementType.{ElementType}
 use Rattle.class_rules.specs.ClassIds.{class_id}
 use Rattle.class_rules.specs.BuiltIns.{array_index_out_of_bounds, string_index_out_of_bounds, number_array}
@@ -13,22 +13,29 @@ use Rattle.heap.specs.Heap.{Space}
 use Rattle.heap.specs.declared.value.Value.{Value}
 use Rattle.heap.specs.declared.value.Value.TheVariants as value
 use Rattle.jni.specs.declared.function.JniFunction.{JniFunction}
-use Rattle.jni.specs.declared.function.JniFunction.TheVariants.{GetBuffer, ReleaseBuffer, FindClass, GetSuperclass, GetObjectClass, IsInstanceOf, IsAssignableFrom, AllocObject, NewLocalRef, NewGlobalRef, NewWeakGlobalRef, DeleteLocalRef, DeleteGlobalRef, DeleteWeakGlobalRef, IsSameObject, EnsureLocalCapacity, PushLocalFrame, PopLocalFrame, GetFieldID, GetStaticFieldID, GetField, SetField, GetStaticField, SetStaticField, GetObjectField, SetObjectField, GetStaticObjectField, SetStaticObjectField, GetArrayLength, GetStringLength, NewArray, NewObjectArray, GetObjectArrayElement, SetObjectArrayElement, NewStringUTF, Throw, ThrowNew, ExceptionOccurred, ExceptionCheck, ExceptionClear, FatalError, MonitorEnter, MonitorExit, GetArrayRegion, SetArrayRegion, GetStringRegion, GetStaticMethodID, CallStaticVoidMethod, CallStaticIntMethod, CallStaticObjectMethod}
+use Rattle.jni.specs.declared.function.JniFunction.TheVariants.{GetBuffer, ReleaseBuffer, FindClass, GetSuperclass, GetObjectClass, IsInstanceOf, IsAssignableFrom, AllocObject, GetFieldID, GetStaticFieldID, GetField, SetField, GetStaticField, SetStaticField, GetObjectField, SetObjectField, GetStaticObjectField, SetStaticObjectField, GetArrayLength, GetStringLength, NewArray, NewObjectArray, GetObjectArrayElement, SetObjectArrayElement, NewStringUTF, MonitorEnter, MonitorExit, GetArrayRegion, SetArrayRegion, GetStringRegion, GetStaticMethodID, CallStaticVoidMethod, CallStaticIntMethod, CallStaticObjectMethod}
+use Rattle.jni.specs.declared.subject.Subject.{Subject}
+use Rattle.jni.specs.declared.subject.Subject.TheVariants.{Exceptions, References}
 use Rattle.semantics.specs.Method.{find_method}
 use Rattle.monitors.specs.declared.monitors.Monitor.{Monitor}
 use Rattle.monitors.specs.Monitors.{entering, leaving, monitor_of}
 use Rattle.machine_answers.specs.declared.answer.Given.TheVariants.{Nothing, Number, Reference}
 use Rattle.machine_answers.specs.declared.answer.Answer.{Answer}
-use Rattle.machine_answers.specs.declared.answer.Answer.TheVariants.{Gives, Makes, Raises, Pends, Halts, Pops, MakesGlobal, MakesWeak, Calls}
+use Rattle.machine_answers.specs.declared.answer.Answer.TheVariants.{Gives, Makes, Calls}
 use Rattle.machine_scenes.specs.declared.array_region.ArrayRegion.{ArrayRegion}
 use Rattle.machine_scenes.specs.declared.new_object.New.TheVariants.{Fresh, Text}
 use Rattle.machine_scenes.specs.Scenes.{Scene}
-use Rattle.semantics.specs.declared.trap.Trap.TheVariants.{Fatal}
-use Rattle.machine_scenes.specs.Given.{key_at, operand_of, class_of_given, name_there, fits_there}
-use Rattle.machine_answers.specs.WorkedOut.{class_object, found_class, IsFoundField, IsFoundMethod, room_for, frame_for, deletes, deletes_global, deletes_weak, value_there, word_in, address_in, held_reference, writes_there, new_array, element_there, stores_there, copies_out, copies_in, acquires, mode_of, releases, entered_by, left_by}
+use Rattle.machine_scenes.specs.Given.{operand_of, class_of_given, name_there, fits_there}
+use Rattle.machine_answers.specs.WorkedOut.{class_object, found_class, IsFoundField, IsFoundMethod, value_there, word_in, address_in, held_reference, writes_there, new_array, element_there, stores_there, copies_out, copies_in, acquires, mode_of, releases, entered_by, left_by}
 use Rattle.machine_answers.specs.WorkedOut as at
 use Rattle.machine_answers.specs.Sights.{number_at, values_seen}
 use Rattle.semantics.specs.AnswerTable.{index_within}
+
+-- the subjects of which what is worked out stands here
+abbrev pub is_here : Subject → Bool
+is_here References = false
+is_here Exceptions = false
+is_here s = true
 
 -- a thread enters the monitor of the object at an address
 abbrev pub enters : Space → List Monitor → (thread : ℕ) → Option ℕ → Answer
@@ -78,16 +85,6 @@ module _ (scene : Scene) (call : Call) where
   worked_out IsAssignableFrom = Gives (Number (truth_word (assignable scene.classes
       (name_there scene.space (reference 0)) (name_there scene.space (reference 1)))))
   worked_out AllocObject = Makes (Fresh (class_id (name_there scene.space (reference 0))))
-  worked_out NewLocalRef = Gives (Reference (reference 0))
-  worked_out NewGlobalRef = MakesGlobal (reference 0)
-  worked_out NewWeakGlobalRef = MakesWeak (reference 0)
-  worked_out DeleteGlobalRef = deletes_global scene.references (operand_of call.operands 0)
-  worked_out DeleteWeakGlobalRef = deletes_weak scene.references (operand_of call.operands 0)
-  worked_out DeleteLocalRef = deletes (key_at scene.references (operand_of call.operands 0))
-  worked_out IsSameObject = Gives (Number (truth_word (name_there scene.space (reference 0) == name_there scene.space (reference 1))))
-  worked_out EnsureLocalCapacity = room_for (number_at scene.stack 0)
-  worked_out PushLocalFrame = frame_for (number_at scene.stack 0)
-  worked_out PopLocalFrame = Pops (reference 0)
   worked_out (GetField T) = Gives (Number (word_in (value_there scene.space (reference 0) place)))
   worked_out (SetField T) = writes_there scene.space (reference 0) place (stored T)
   worked_out GetObjectField = Gives (Reference (address_in (value_there scene.space (reference 0) place)))
@@ -110,12 +107,6 @@ module _ (scene : Scene) (call : Call) where
   worked_out GetStringRegion = copies_out string_index_out_of_bounds local_array region
   worked_out (GetBuffer access) = acquires access (reference 0)
   worked_out (ReleaseBuffer access) = releases scene.buffers (reference 0) (operand_of call.operands 1) (mode_of access (operand_of call.operands 2))
-  worked_out Throw = Pends (reference 0) (Number 0)
-  worked_out ThrowNew = Raises (class_id (name_there scene.space (reference 0))) 0
-  worked_out ExceptionOccurred = Gives (Reference scene.pending)
-  worked_out ExceptionCheck = Gives (Number (truth_word (is_some scene.pending)))
-  worked_out ExceptionClear = Pends None Nothing
-  worked_out FatalError = Halts Fatal
   worked_out MonitorEnter = enters scene.space scene.monitors scene.thread (reference 0)
   worked_out MonitorExit = leaves scene.space scene.monitors scene.thread (reference 0)
   worked_out CallStaticVoidMethod = Calls

@@ -7,4 +7,5 @@ pub mod Answers
 pub mod Passed
 pub mod Sights
 pub mod Answered
+pub mod AnswersSeen
 pub mod AtOnce

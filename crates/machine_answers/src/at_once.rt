@@ -176,7 +176,7 @@ fn gives_class_and_field(scene: &Scene<'_>, slot: u32, id: u32) -> bool
 
 /// The number that a call gives.
 #[inline(always)]
-#[tactic(auto, using(crate::proofs::CallAnswers::answers, std::proofs::lemmas::Grind::common_steps))]
+#[tactic(auto, using(crate::proofs::CallAnswers::answers, crate::proofs::AnswersStand::answers_seen, std::proofs::lemmas::Grind::common_steps), unfolding(semantics::specs::AnswerTable::call_answer))]
 pub fn number_at_once(scene: &Scene<'_>, call: &Call) -> Option<u32>
     requires grown { IsGrown scene.now.classes.now }
     requires loaded { (i a : ℕ) → slice_get scene.now.loaded.now i ≡ Some a → IsAddress scene.now.heap.now a }
@@ -256,7 +256,7 @@ pub fn number_at_once(scene: &Scene<'_>, call: &Call) -> Option<u32>
 
 /// The reference that a call gives, for which there is room.
 #[inline(always)]
-#[tactic(auto, using(crate::proofs::CallAnswers::answers, std::proofs::lemmas::Grind::common_steps))]
+#[tactic(auto, using(crate::proofs::CallAnswers::answers, crate::proofs::AnswersStand::answers_seen, std::proofs::lemmas::Grind::common_steps), unfolding(semantics::specs::AnswerTable::call_answer))]
 pub fn reference_at_once(scene: &Scene<'_>, locals: &Locals, call: &Call) -> Option<Option<Addr>>
     requires grown { IsGrown scene.now.classes.now }
     requires loaded { (i a : ℕ) → slice_get scene.now.loaded.now i ≡ Some a → IsAddress scene.now.heap.now a }
@@ -457,7 +457,7 @@ fn write_to_static(scene: &Scene<'_>, call: &Call, value: Value) -> Option<Write
 
 /// The key of the local reference that a call ends.
 #[inline(always)]
-#[tactic(auto, using(crate::proofs::CallAnswers::answers, std::proofs::lemmas::Grind::common_steps))]
+#[tactic(auto, using(crate::proofs::AnswersStand::answers_seen, std::proofs::lemmas::Grind::common_steps), unfolding(semantics::specs::AnswerTable::call_answer))]
 pub fn deleted_at_once(scene: &Scene<'_>, call: &Call) -> Option<Local>
     ensures free { IfSome result (λ key. (room : Bool) → trap_found (scene_view scene.now) room
         (element_wanted call.now.target) call.now.function call.now.operands.items ≡ None) }

@@ -1,8 +1,8 @@
 //! What functions of exceptions do.
 
 ghost use Rattle.std.specs.Prelude.{◌≡◌};
+ghost use Rattle.machine_answers.specs.AnswersSeen.{CallsMethod, EndsFirst, IsSeen, IsThere};
 ghost use Rattle.code.specs.Call.{call_view};
-ghost use Rattle.machine_answers.specs.Answered.{IsAnswerTo};
 ghost use Rattle.machine_scenes.specs.Given.{AreAddresses};
 ghost use Rattle.machine_scenes.specs.Scenes.{scene_view};
 ghost use Rattle.jni.specs.Subjects.{subject_of};
@@ -16,11 +16,14 @@ use semantics::Trap;
 
 /// What a function does that works on the pending exception.
 #[inline(always)]
-#[tactic(auto, using(crate::proofs::CallAnswers::answers))]
+#[tactic(auto, unfolding(semantics::specs::AnswerTable::call_answer))]
 pub(crate) fn work_out_exception(scene: &Scene<'_>, call: &Call) -> Answer
     requires subject { subject_of call.now.function ≡ subject.Exceptions }
     requires objects { AreAddresses scene.now.heap.now scene.now.references call.now.operands.items }
-    ensures { IsAnswerTo (scene_view scene.now) (call_view call.now) result }
+    ensures seen { IsSeen (scene_view scene.now) (call_view call.now) result }
+    ensures there { IsThere (scene_view scene.now) (call_view call.now) result }
+    ensures ends { EndsFirst (scene_view scene.now) (call_view call.now) result }
+    ensures calls { CallsMethod (call_view call.now) result }
 {
     match call.function {
         JniFunction::Throw => {

@@ -10,7 +10,7 @@ use Rattle.jni.specs.declared.function.JniFunction.{JniFunction}
 use Rattle.machine_scenes.specs.Scenes.{scene_view}
 use Rattle.machine_answers.specs.WorkedOut.{held_reference, new_array}
 use Rattle.machine_answers.proofs.CallAnswers.{answers}
-use Rattle.machine_answers.proofs.WorkedOut.{IsWorkedOut}
+use Rattle.machine_answers.proofs.WorkedOut.{IsWorkedOut, is_here}
 use Rattle.machine_answers.proofs.arrays.work_out_array.Goals as goal
 use Rattle.machine_answers.specs.Sights.{number_at}
 
@@ -20,6 +20,6 @@ returns-in-NewObjectArray c =
     let class = ap (λ (k : ClassId). k.number) c.unwrap_or.ensures ∙ number_or c.array_class_of-class.result (class_id 0) ∙ ap (λ (o : Option ℕ). unwrap_or o 0) (c.array_class_of-class.ensures ∙ ap (array_class_of classes) c.class_given.ensures) in
     let number : to_z w32 (of_z w32 c.stack_number-in-NewObjectArray.result) ≡ number_at c.args.scene.now.stack.now 0 = to_z-of_z {w = w32} (record { sfits = c.stack_number-in-NewObjectArray.type_inv }) ∙ c.stack_number-in-NewObjectArray.ensures in
     let element = c.held_reference-element.ensures ∙ ap held_reference c.argument.ensures.reference in
-    answers (scene_view c.args.scene.now) (call_view c.args.call.now) c.new_array-in-NewObjectArray.result
+    answers (scene_view c.args.scene.now) (call_view c.args.call.now) c.new_array-in-NewObjectArray.result (ap is_here c.requires.subject)
     (subst (λ (f : JniFunction). IsWorkedOut (scene_view c.args.scene.now) (call_view c.args.call.now) f c.new_array-in-NewObjectArray.result) (sym c.in-NewObjectArray.is)
     (c.new_array-in-NewObjectArray.ensures ∙ (λ i. new_array (class i) (number i) (element i))))

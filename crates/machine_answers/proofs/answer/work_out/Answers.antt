@@ -1,0 +1,14 @@
+use Rattle.code.specs.Call.{call_view}
+use Rattle.machine_scenes.specs.Scenes.{scene_view}
+use Rattle.machine_answers.proofs.AnswersStand.{answers_seen}
+use Rattle.machine_answers.proofs.answer.work_out.Goals as goal
+
+pub returns-in-References : goal.returns-in-References
+returns-in-References c =
+    let it = c.work_out_reference in
+    answers_seen (scene_view c.args.scene.now) (call_view c.args.call.now) it.result it.ensures.seen it.ensures.there it.ensures.ends it.ensures.calls
+
+pub returns-in-Exceptions : goal.returns-in-Exceptions
+returns-in-Exceptions c =
+    let it = c.work_out_exception in
+    answers_seen (scene_view c.args.scene.now) (call_view c.args.call.now) it.result it.ensures.seen it.ensures.there it.ensures.ends it.ensures.calls

@@ -1,0 +1,221 @@
+-- Answers in memory as answers of the source, by what a call sees.
+use Rattle.std.specs.Prelude.{◌≡◌, ℕ, ◌^◌, Bool, true, false, not, ◌&&◌, ◌==◌, nat_lt, pos, length, replicate, slice_get, is_some, Option, Some, None}
+use Rattle.std.specs.Int.{w32, cast_signed}
+use Rattle.std.specs.Option.{option_map}
+use Rattle.class_rules.specs.Class.{Classes}
+use Rattle.class_rules.specs.Fields.{FieldId}
+use Rattle.classes.specs.declared.class.FieldHandle.{FieldHandle}
+use Rattle.classes.specs.FieldViews.{field_of}
+use Rattle.code.specs.Call.{Call}
+use Rattle.jni.specs.declared.function.JniFunction.TheVariants.{DeleteLocalRef}
+use Rattle.jni.specs.declared.kinds.ResultKind.{ResultKind}
+use Rattle.jni.specs.declared.kinds.ResultKind.TheVariants.{GivesFlag}
+use Rattle.jni.specs.JniFunction.{calls_method, prototype}
+use Rattle.semantics.specs.Answer as source
+use Rattle.semantics.specs.Answer.{Region}
+use Rattle.semantics.specs.AnswerTable.{call_answer, method_called, monitor_entered, monitor_left, released}
+use Rattle.semantics.specs.Arguments.{name_or_zero}
+use Rattle.semantics.specs.CallEffects.{CallResult, same_reference, NoResult, NullResult, ScalarResult, ReferenceResult, WeakResult, FieldResult, MethodResult, string_object, with_message}
+use Rattle.semantics.specs.Object.{Object}
+use Rattle.semantics.specs.Thread.{Monitor}
+use Rattle.semantics.specs.Variable.{StaticReference, Live}
+use Rattle.semantics.specs.declared.value.Value.{Value as Scalar}
+use Rattle.semantics.specs.declared.value.Value.TheVariants.{Int, Flag}
+use Rattle.semantics.specs.World.{fresh_object}
+use Rattle.heap.specs.Heap.{Space, block_at, name_at, values_at}
+use Rattle.heap.specs.declared.value.Value.{Value}
+use Rattle.heap.specs.declared.value.Value.TheVariants as cell
+use Rattle.code.specs.declared.instr.Operand.{Operand}
+use Rattle.code.specs.declared.instr.Operand.TheVariants as operand
+use Rattle.tables.specs.Locals.{LocalTable}
+use Rattle.machine_scenes.specs.declared.references.Held.{Held}
+use Rattle.machine_scenes.specs.declared.references.Held.TheVariants as held
+use Rattle.monitors.specs.Monitors.{monitor_of}
+use Rattle.machine_answers.specs.declared.answer.Given.{Given}
+use Rattle.machine_answers.specs.declared.answer.Given.TheVariants as given
+use Rattle.machine_answers.specs.declared.answer.Answer.{Answer}
+use Rattle.machine_answers.specs.declared.answer.Answer.TheVariants as answer
+use Rattle.machine_answers.specs.Sights.{call_seen, held_seen, method_seen, monitor_seen, name_seen, value_seen, values_seen}
+use Rattle.machine_scenes.specs.declared.array_region.ArrayRegion.{ArrayRegion}
+use Rattle.machine_scenes.specs.declared.new_object.New.{New}
+use Rattle.machine_scenes.specs.declared.new_object.New.TheVariants as new
+use Rattle.machine_scenes.specs.Given.{key_at, method_at, name_there, operand_at, operand_of}
+use Rattle.machine_scenes.specs.NewObjects.{text_in}
+use Rattle.machine_scenes.specs.Scenes.{Scene}
+use Rattle.machine_scenes.specs.Statics.{static_at}
+
+-- the name of the object at an address, and 0 for none
+abbrev pub named : Space → ℕ → ℕ
+named space a = name_or_zero (name_at space a)
+
+-- the value of a word in a result of this kind
+abbrev pub word_seen : ResultKind → ℕ → Scalar
+word_seen GivesFlag word = Flag (not (word == 0))
+word_seen kind word = Int (cast_signed w32 word)
+
+-- the field of a field ID
+abbrev pub field_seen : Classes → Option FieldHandle → Option FieldId
+field_seen classes None = None
+field_seen classes (Some h) = field_of classes h
+
+-- what a call of a function with this kind of result gives that sees this
+abbrev pub given_seen : Scene → ResultKind → Given → CallResult
+given_seen scene kind given.Nothing = NoResult
+given_seen scene kind (given.Number word) = ScalarResult (word_seen kind word)
+given_seen scene kind (given.Reference a) = ReferenceResult (name_seen scene.space a)
+given_seen scene kind (given.FieldId h) = FieldResult (field_seen scene.classes h)
+given_seen scene kind (given.MethodId h) = MethodResult (method_seen scene.unit h)
+given_seen scene kind g = NullResult
+
+-- an object that is made
+abbrev pub made_seen : Scene → Call → New → Object
+made_seen scene call (new.Fresh class) = fresh_object scene.classes class.number
+made_seen scene call (new.Array array) = record { class = array.class.number; values = replicate array.count (value_seen scene.space array.value) }
+made_seen scene call (new.Text place) = string_object (text_in call.texts place)
+made_seen scene call (new.Exception class message) = with_message (fresh_object scene.classes class.number) (name_at scene.space message)
+
+abbrev pub region_seen : Space → ArrayRegion → Region
+region_seen space r = record { object = named space r.object; start = r.start; count = r.count }
+
+-- the monitor of an object
+abbrev pub owned_seen : Scene → ℕ → Option Monitor
+owned_seen scene n = option_map monitor_seen (monitor_of scene.monitors n)
+
+-- the name of the object that a static holds, and 0 of none
+abbrev pub held_name : StaticReference → ℕ
+held_name (Live n) = n
+held_name r = 0
+
+-- an answer to a call that sees this
+abbrev pub answer_seen : Scene → Call → ResultKind → Answer → source.Answer
+answer_seen scene call kind (answer.Gives g) = source.Gives (given_seen scene kind g)
+answer_seen scene call kind (answer.Writes a i v) = source.Writes (named scene.space a) i (value_seen scene.space v)
+answer_seen scene call kind (answer.CopiesOut r) = source.GetsRegion (region_seen scene.space r)
+answer_seen scene call kind (answer.CopiesIn r) = source.SetsRegion (region_seen scene.space r)
+answer_seen scene call kind (answer.AcquiresCopy a) = source.Copies (named scene.space a)
+answer_seen scene call kind (answer.AcquiresView a) = source.Views (named scene.space a)
+answer_seen scene call kind (answer.Releases r) = released (named scene.space r.object) r.mode
+answer_seen scene call kind (answer.Makes n) = source.Makes (made_seen scene call n)
+answer_seen scene call kind (answer.Throws class) = source.Raises class.number
+answer_seen scene call kind (answer.Raises class i) = source.RaisesWith class.number (text_in call.texts i)
+answer_seen scene call kind (answer.Pends a g) = source.Pends (name_seen scene.space a) (given_seen scene kind g)
+answer_seen scene call kind (answer.Halts trap) = source.Halts trap
+answer_seen scene call kind (answer.Ensures n) = source.Ensures n
+answer_seen scene call kind (answer.Pushes n) = source.Pushes n
+answer_seen scene call kind answer.RefusesFrames = source.RefusesFrames
+answer_seen scene call kind (answer.Pops a) = source.Pops (name_seen scene.space a)
+answer_seen scene call kind (answer.Deletes key) = source.DeletesLocal 0 (name_or_zero (name_seen scene.space (operand_at scene.references (operand_of call.operands 0))))
+answer_seen scene call kind (answer.MakesGlobal a) = source.MakesGlobal (name_seen scene.space a)
+answer_seen scene call kind (answer.DeletesGlobal i) = source.DeletesGlobal 0 (held_name (held_seen scene.space (static_at scene.references i)))
+answer_seen scene call kind (answer.MakesWeak a) = source.Gives (WeakResult (name_seen scene.space a))
+answer_seen scene call kind (answer.DeletesWeak i) = source.DeletesWeak 0
+answer_seen scene call kind (answer.Enters o) = monitor_entered o.name (owned_seen scene o.name)
+answer_seen scene call kind (answer.Exits n) = monitor_left scene.thread n (owned_seen scene n)
+answer_seen scene call kind answer.Calls = method_called (method_seen scene.unit (method_at scene.fields (operand_of call.operands 1)))
+
+-- ---- what an answer names is there
+
+-- an address or none
+abbrev pub reference_there : Space → Option ℕ → Bool
+reference_there space None = true
+reference_there space (Some a) = is_some (block_at space a)
+
+-- a word
+abbrev pub is_word : ℕ → Bool
+is_word word = nat_lt word (2 ^ 32)
+
+-- what a cell is to hold
+abbrev pub value_there : Space → Value → Bool
+value_there space (cell.Number word) = is_word word
+value_there space cell.Null = true
+value_there space (cell.Block a) = is_some (block_at space a)
+
+-- what is given: a flag is 0 or 1
+abbrev pub given_there : Space → ResultKind → Given → Bool
+given_there space GivesFlag (given.Number word) = nat_lt word 2
+given_there space kind (given.Number word) = is_word word
+given_there space kind (given.Reference a) = reference_there space a
+given_there space kind (given.MethodId h) = false
+given_there space kind g = true
+
+-- what is made
+abbrev pub new_there : Space → New → Bool
+new_there space (new.Array array) = value_there space array.value
+new_there space (new.Exception class message) = false
+new_there space n = true
+
+-- a local reference has this key
+abbrev pub is_key : Option ℕ → ℕ → Bool
+is_key None key = false
+is_key (Some k) key = k == key
+
+-- an operand is the static of a slot, of which what is held is at an address, or weak
+abbrev pub is_static_at : Operand → ℕ → Bool
+is_static_at (operand.Static j) i = j == i
+is_static_at o i = false
+
+abbrev pub is_at : Held → Bool
+is_at (held.At a) = true
+is_at h = false
+
+abbrev pub is_weak : Held → Bool
+is_weak (held.Weakly a) = true
+is_weak held.Cleared = true
+is_weak h = false
+
+-- an answer
+abbrev pub answer_there : Scene → Call → ResultKind → Answer → Bool
+answer_there scene call kind (answer.Gives g) = given_there scene.space kind g
+answer_there scene call kind (answer.Writes a i v) = is_some (block_at scene.space a) && nat_lt i (length (values_at scene.space a)) && value_there scene.space v
+answer_there scene call kind (answer.Makes n) = new_there scene.space n
+answer_there scene call kind (answer.Pends a g) = reference_there scene.space a && given_there scene.space kind g
+answer_there scene call kind (answer.Pops a) = reference_there scene.space a
+answer_there scene call kind (answer.Deletes key) = is_key (key_at scene.references (operand_of call.operands 0)) key
+answer_there scene call kind (answer.MakesGlobal a) = reference_there scene.space a
+answer_there scene call kind (answer.DeletesGlobal i) = is_static_at (operand_of call.operands 0) i && is_at (static_at scene.references i)
+answer_there scene call kind (answer.MakesWeak a) = reference_there scene.space a
+answer_there scene call kind (answer.DeletesWeak i) = is_static_at (operand_of call.operands 0) i && is_weak (static_at scene.references i)
+answer_there scene call kind (answer.Throws class) = true
+answer_there scene call kind (answer.Raises class i) = true
+answer_there scene call kind (answer.Halts trap) = true
+answer_there scene call kind (answer.Ensures n) = true
+answer_there scene call kind (answer.Pushes n) = true
+answer_there scene call kind answer.RefusesFrames = true
+answer_there scene call kind a = false
+
+-- ---- what the checks let through
+
+module _ (scene : Scene) (call : Call) where
+  abbrev reference : ℕ → Option ℕ
+  reference i = operand_at scene.references (operand_of call.operands i)
+
+  -- P, by what is known of a call that has passed its checks: an exception that is pending has a name; so has each object, and no two have one;
+  -- an object has fewer values than there are `jint`s; a local reference that is to be deleted has a key
+  abbrev pub WhenPassed : Type 0 → Type 0
+  WhenPassed P =
+      (is_some (name_seen scene.space scene.pending) ≡ is_some scene.pending)
+      → ((name_there scene.space (reference 0) == name_there scene.space (reference 1)) ≡ same_reference (name_seen scene.space (reference 0)) (name_seen scene.space (reference 1)))
+      → (cast_signed w32 (length (values_seen scene.space (reference 0))) ≡ pos (length (values_seen scene.space (reference 0))))
+      → (call.function ≡ DeleteLocalRef → is_some (key_at scene.references (operand_of call.operands 0)) ≡ is_some (name_seen scene.space (reference 0)))
+      → P
+
+-- the answer is the source's, as it is seen
+abbrev pub IsSeen : Scene → Call → Answer → Type 0
+IsSeen scene call x = (locals : LocalTable) (callers : ℕ) → WhenPassed scene call
+    (answer_seen scene call (prototype call.function).result x
+    ≡ call_answer scene.unit scene.classes scene.thread (call_seen scene locals callers call) call.function)
+
+-- what it names is there, where the pending exception and what cells hold is
+abbrev pub IsThere : Scene → Call → Answer → Type 0
+IsThere scene call x =
+    (reference_there scene.space scene.pending ≡ true) →
+    ((a i b : ℕ) → slice_get (values_at scene.space a) i ≡ Some (cell.Block b) → is_some (block_at scene.space b) ≡ true)
+    → answer_there scene call (prototype call.function).result x ≡ true
+
+-- the local reference that ends is that of the first operand
+abbrev pub EndsFirst : Scene → Call → Answer → Type 0
+EndsFirst scene call x = call.function ≡ DeleteLocalRef → (key : ℕ) → x ≡ answer.Deletes key → key_at scene.references (operand_of call.operands 0) ≡ Some key
+
+-- a function that calls a method answers so
+abbrev pub CallsMethod : Call → Answer → Type 0
+CallsMethod call x = calls_method call.function ≡ true → x ≡ answer.Calls
