@@ -145,7 +145,7 @@ module _ (both : TwoCalls) where
   open both use {p, w, store, pending, activation, call, others, k, owner, shared, s, target, sound, args}
 
   -- objects of a class after Class can be made
-  makeable : (c : ℕ) → InTable both c → (c ≡ class_class → ⊥) → IsMakeable w.classes c
+  pub makeable : (c : ℕ) → InTable both c → (c ≡ class_class → ⊥) → IsMakeable w.classes c
   makeable c within never = record { low = within.0; high = within.1; no_class = never }
 
   makes_numbers : (T : ElementType) → IsMakeable w.classes (number_array T)

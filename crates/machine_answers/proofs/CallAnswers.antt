@@ -1,30 +1,26 @@
 -- What the machine works out of calls is what the source's calls do: a row for each function.
-use Rattle.std.proofs.Common.{◌≡◌, ℕ, pos, ◌<◌, ◌≤◌, true, false, not, List, [], ◌∷◌, length, Option, slice_get, refl, sym, ap, ◌∙◌, subst, arith, Bool}
+use Rattle.std.proofs.Common.{◌≡◌, ℕ, ◌<◌, ◌≤◌, true, false, not, List, [], ◌∷◌, Option, slice_get, refl, sym, ap, ◌∙◌, subst, arith}
 use Rattle.std.specs.Prelude.{◌==◌, unwrap_or}
-use Rattle.std.specs.Option.{option_map_or}
-use Rattle.std.proofs.lemmas.Bool.{and_parts}
-use Rattle.base.specs.declared.element.ElementType.{ElementType}
-use Rattle.base.specs.declared.element.ElementType.TheVariants.{Int as JInt, Short as JShort, Byte as JByte, Char as JChar}
+use Rattle.base.specs.declared.element.ElementType.TheVariants.{Char as JChar}
 use Rattle.class_rules.specs.ClassIds.{class_id}
-use Rattle.class_rules.specs.BuiltIns.{array_index_out_of_bounds, class_class, has_own_making, number_array, string_class, string_index_out_of_bounds}
-use Rattle.class_rules.specs.Class.{ArrayOfObjects, Plain, array_class_of, array_name, assignable, class_kind, class_name, element_class, is_plain, superclass}
+use Rattle.class_rules.specs.BuiltIns.{array_index_out_of_bounds, has_own_making, string_index_out_of_bounds}
+use Rattle.class_rules.specs.Class.{assignable, superclass}
 use Rattle.class_rules.specs.Fields.{find_field, find_static, own_statics}
 use Rattle.class_rules.proofs.GrownTables.{grown_is_ordered}
 use Rattle.classes.specs.declared.class.FieldHandle.{FieldHandle}
 use Rattle.code.specs.Call.{Call}
 use Rattle.code.specs.Effect.{truth_word}
-use Rattle.heap.specs.declared.value.Value.TheVariants as cell
 use Rattle.jni.specs.declared.function.JniFunction.{JniFunction}
-use Rattle.jni.specs.declared.function.JniFunction.TheVariants.{GetBuffer, ReleaseBuffer, FindClass, AllocObject, GetFieldID, GetStaticFieldID, GetArrayLength, NewArray, NewObjectArray, GetObjectArrayElement, SetObjectArrayElement, NewStringUTF, GetStringLength, GetSuperclass, GetObjectClass, IsInstanceOf, IsAssignableFrom, GetField, SetField, GetObjectField, SetObjectField, GetStaticField, SetStaticField, GetStaticObjectField, SetStaticObjectField, MonitorEnter, MonitorExit, GetArrayRegion, SetArrayRegion, GetStringRegion, GetStaticMethodID, CallStaticVoidMethod, CallStaticIntMethod, CallStaticObjectMethod}
+use Rattle.jni.specs.declared.function.JniFunction.TheVariants.{GetBuffer, ReleaseBuffer, FindClass, AllocObject, GetFieldID, GetStaticFieldID, GetSuperclass, GetObjectClass, IsInstanceOf, IsAssignableFrom, GetField, SetField, GetObjectField, SetObjectField, GetStaticField, SetStaticField, GetStaticObjectField, SetStaticObjectField, MonitorEnter, MonitorExit, GetArrayRegion, SetArrayRegion, GetStringRegion, GetStaticMethodID, CallStaticVoidMethod, CallStaticIntMethod, CallStaticObjectMethod}
 use Rattle.jni.specs.JniFunction.{calls_method, prototype}
 use Rattle.jni.specs.Subjects.{subject_of}
-use Rattle.jni.specs.declared.kinds.ParameterKind.TheVariants.{ClassObject, FieldID, IntNumber, NonNull, Nullable, NumberArray, ObjectArray, StringObject}
-use Rattle.semantics.specs.AnswerTable.{call_answer, index_within}
+use Rattle.jni.specs.declared.kinds.ParameterKind.TheVariants.{ClassObject, FieldID, IntNumber, NonNull, Nullable, NumberArray, StringObject}
+use Rattle.semantics.specs.AnswerTable.{call_answer}
 use Rattle.semantics.specs.Arguments.{name_or_zero}
 use Rattle.semantics.specs.Method.{find_method}
 use Rattle.semantics.specs.Object.{Number}
 use Rattle.world_values.proofs.LoadedWorlds.{class_within}
-use Rattle.machine_scenes.specs.Given.{class_of_given, field_at, field_there, fits_there, name_there, operand_of}
+use Rattle.machine_scenes.specs.Given.{field_at, field_there, fits_there, name_there, operand_of}
 use Rattle.machine_scenes.specs.NewObjects.{IsMakeable}
 use Rattle.machine_scenes.specs.Scenes.{Scene}
 use Rattle.machine_scenes.specs.declared.new_object.New.TheVariants.{Fresh}
@@ -32,18 +28,18 @@ use Rattle.machine_answers.specs.declared.answer.Answer.{Answer}
 use Rattle.machine_answers.specs.declared.answer.Answer.TheVariants.{Calls, Gives, Makes}
 use Rattle.machine_answers.specs.declared.answer.Given.TheVariants as given
 use Rattle.machine_answers.specs.Answers as row
-use Rattle.machine_answers.specs.Sights.{class_object_seen, name_seen, number_at, values_seen}
-use Rattle.machine_answers.specs.WorkedOut.{IsFoundField, IsFoundMethod, address_in, class_object, held_reference, new_array, stores_there, value_there, word_in, writes_there}
+use Rattle.machine_answers.specs.Sights.{class_object_seen, name_seen}
+use Rattle.machine_answers.specs.WorkedOut.{IsFoundField, IsFoundMethod, address_in, class_object, held_reference, value_there, word_in, writes_there}
+use Rattle.machine_answers.proofs.AnswersStand.{makeable}
 use Rattle.machine_answers.proofs.WorkedOut as worked
 use Rattle.machine_answers.proofs.WorkedOut.{IsWorkedOut, is_here}
 use Rattle.machine_answers.proofs.CallOperands.{own_making, super_known}
 use Rattle.machine_answers.proofs.CallTraps.{has_passed}
-use Rattle.machine_answers.proofs.LongTables.{class_is_plain}
 use Rattle.machine_answers.proofs.SightParts.{name_is}
 use Rattle.machine_answers.proofs.TrapsSeen.{fits_one}
 use Rattle.machine_answers.specs.Answered.{IsAnswerTo, TwoCalls, Asked, Passes, unit, scene}
-use Rattle.machine_answers.proofs.TwoCalls.{Works, at, built_in_class, class_given, fields, method_error, object_given_at, table_of}
-use Rattle.machine_answers.proofs.KindAnswers.{Stands, array_made, back, class_agrees, class_found, class_of_first, counted, does, element_read, element_written, field_found, first_name, held_agrees, holder, method_found, named, number_read, place_is, reference_read, sight, stands, stored, there, written}
+use Rattle.machine_answers.proofs.TwoCalls.{Works, at, class_given, fields, method_error, object_given_at, table_of}
+use Rattle.machine_answers.proofs.KindAnswers.{Stands, back, class_agrees, class_found, class_of_first, does, field_found, first_name, held_agrees, holder, method_found, named, number_read, place_is, reference_read, sight, stands, stored, there, written}
 use Rattle.machine_answers.proofs.RegionAnswers.{numbers_are, region_given, region_read, region_written}
 use Rattle.machine_answers.proofs.BufferAnswers.{answers_get_buffer, answers_release}
 use Rattle.machine_answers.proofs.MethodAnswers.{method_called}
@@ -67,40 +63,11 @@ module _ (both : TwoCalls) where
   abbrev declaring : Option ℕ
   declaring = class_object_seen store.loaded.items (field_there w.classes handle).class
 
-  -- objects of a class that has passed its checks can be made, and so can arrays of them
-  makeable : (c : ℕ) → (0 < c) × (c ≤ length w.classes) → (c ≡ class_class → ⊥) → IsMakeable w.classes c
-  makeable c within never = record { low = within.0; high = within.1; no_class = never }
-
+  -- an object of a class that has passed its checks can be made
   makes_object : (h : Asked both AllocObject) → Passes both → IsMakeable w.classes (name_or_zero (name_seen store.heap (at both 0)))
   makes_object h free =
-      makeable _ (class_given both AllocObject [] [] refl h free)
+      makeable both _ (class_given both AllocObject [] [] refl h free)
       (own_making w.classes _ (ap (λ (n : ℕ). not (has_own_making w.classes n)) (sym (name 0)) ∙ has_passed p w store pending activation call others k owner shared s target AllocObject args h free))
-
-  makes_numbers : (T : ElementType) → IsMakeable w.classes (number_array T)
-  makes_numbers JInt = built_in_class both 23 (omega arith) (omega arith)
-  makes_numbers JShort = built_in_class both 22 (omega arith) (omega arith)
-  makes_numbers JByte = built_in_class both 20 (omega arith) (omega arith)
-  makes_numbers JChar = built_in_class both 21 (omega arith) (omega arith)
-
-  -- the class of arrays of the class of argument 1
-  abbrev array_class : ℕ
-  array_class = option_map_or (λ (c : ℕ). c) (array_class_of w.classes (name_or_zero (name_seen store.heap (at both 1)))) 0
-
-  makes_references : (h : Asked both NewObjectArray) → Passes both
-      → IsMakeable w.classes array_class × (unwrap_or (array_class_of w.classes (name_there store.heap (at both 1))) 0 ≡ array_class)
-  makes_references h free =
-      let n = name_or_zero (name_seen store.heap (at both 1)) in
-      let class = class_given both NewObjectArray (IntNumber ∷ []) (Nullable ∷ []) refl h free in
-      let passed = has_passed p w store pending activation call others k owner shared s target NewObjectArray args h free in
-      let plain : is_plain (class_kind w.classes n) ≡ true =
-      ap (λ (c : ℕ). is_plain (class_kind w.classes c)) (sym (name 1)) ∙ (and_parts (is_plain (class_kind w.classes (name_there store.heap (at both 1)))) (fits_there w.classes store.heap (at both 2) (name_there store.heap (at both 1))) passed).0 in
-      let array = sound.declares.arrays n class.0 class.1 plain in
-      let is : array.0 ≡ array_class = sym (ap (λ (o : Option ℕ). option_map_or (λ (c : ℕ). c) o 0) array.1) in (
-        subst (IsMakeable w.classes) is
-            (makeable array.0 (class_within w.classes (array_name (class_name w.classes n)) array.0 array.1)
-            (λ e. absurd (let clash : Plain ≡ ArrayOfObjects n = sym (class_is_plain w.classes sound.grown) ∙ ap (class_kind w.classes) (sym e) ∙ array.2 in cc))),
-        ap (λ (c : ℕ). unwrap_or (array_class_of w.classes c) 0) (name 1) ∙ ap (λ (o : Option ℕ). unwrap_or o 0) array.1 ∙ is,
-      )
 
   -- what is worked out stands for what the table says of what the call sees
   seen : (f : JniFunction) → is_here (subject_of f) ≡ true → Asked both f → Passes both → (answer : Answer) → Works both f answer → Stands both answer (prototype f).result (call_answer (unit both) w.classes k (sight both f) f)
@@ -163,25 +130,6 @@ module _ (both : TwoCalls) where
       let place = place_is both SetStaticObjectField ClassObject (Nullable ∷ []) refl refl h free (own_statics w.classes (field_there w.classes handle).class) in
       stands both (is ∙ (λ i. writes_there store.heap (it.same i) (place i) (held_reference (at both 2))))
       (written both declaring it.address _ _ _ _ it.is it.named (held_agrees both (at both 2) _ (named both SetStaticObjectField h 2)) h.store_agrees)
-  seen GetArrayLength here h free answer is = stands both is (row.gives (counted both h.store_agrees (at both 0)))
-  seen GetStringLength here h free answer is = stands both is (row.gives (counted both h.store_agrees (at both 0)))
-  seen (NewArray T) here h free answer is =
-      stands both is
-      (array_made both (number_array T) (cell.Number 0) (Number (pos 0)) (makes_numbers T) (record { sfits = omega arith }, refl) _)
-  seen NewObjectArray here h free answer is =
-      let class = makes_references h free in
-      stands both (is ∙ ap (λ (c : ℕ). new_array c (number_at activation.stack 0) (held_reference (at both 2))) class.1)
-      (array_made both array_class _ _ class.0 (held_agrees both (at both 2) _ (named both NewObjectArray h 2)) _)
-  seen GetObjectArrayElement here h free answer is =
-      stands both is
-      (element_read both (at both 0) _ (named both GetObjectArrayElement h 0) h.store_agrees _)
-  seen SetObjectArrayElement here h free answer is =
-      let first = object_given_at both SetObjectArrayElement [] ObjectArray (IntNumber ∷ Nullable ∷ []) tt refl refl h free in
-      let fits = fits_one (scene both) (at both 2) (element_class (class_kind w.classes (class_of_given store.heap (at both 0)))) (there both SetObjectArrayElement h 2) in
-      stands both (is ∙ ap (λ (b : Bool). stores_there store.heap (at both 0) b (index_within (length (values_seen store.heap (at both 0))) (number_at activation.stack 0)) (held_reference (at both 2))) fits)
-      (element_written both (at both 0) first.address _ _ _ first.at (first_name both first) (held_agrees both (at both 2) _ (named both SetObjectArrayElement h 2)) h.store_agrees _ _)
-  seen NewStringUTF here h free answer is =
-      stands both is (row.makes (record { object = refl; makeable = built_in_class both string_class (omega arith) (omega arith) }))
   seen (GetArrayRegion T) here h free answer is =
       let f = GetArrayRegion T in
       let g = region_given both f (NumberArray T) T tt refl refl h free in

@@ -1,5 +1,5 @@
 -- What stands in memory for each kind of answer, by what a call sees.
-use Rattle.std.proofs.Common.{◌≡◌, ℕ, ℤ, zero, suc, pos, negsuc, ◌-◌, ◌<◌, ◌≤◌, Bool, true, false, List, ◌∷◌, drop, length, Option, Some, None, slice_get, refl, sym, ap, ◌∙◌, subst, arith}
+use Rattle.std.proofs.Common.{◌≡◌, ℕ, ℤ, zero, suc, ◌-◌, ◌<◌, ◌≤◌, true, false, List, ◌∷◌, drop, length, Option, Some, None, slice_get, refl, sym, ap, ◌∙◌, subst, arith}
 use Rattle.std.specs.Prelude.{◌==◌, FitsSigned, unwrap_or}
 use Rattle.std.specs.Int.{w32, cast_signed, cast_unsigned}
 use Rattle.std.specs.List.{AllZip}
@@ -10,7 +10,7 @@ use Rattle.std.proofs.lemmas.Bool.Decides.{nat_tests}
 use Rattle.base.specs.Bytes.{lookup}
 use Rattle.base.specs.declared.element.ElementType.{ElementType}
 use Rattle.class_rules.specs.ClassIds.{class_id}
-use Rattle.class_rules.specs.BuiltIns.{array_index_out_of_bounds, array_store_exception, negative_array_size, no_class_def_found_error, no_such_field_error, no_such_method_error}
+use Rattle.class_rules.specs.BuiltIns.{no_class_def_found_error, no_such_field_error, no_such_method_error}
 use Rattle.class_rules.specs.Fields.{FieldId}
 use Rattle.classes.specs.declared.class.FieldHandle.{FieldHandle}
 use Rattle.code.specs.Effect.{element_word}
@@ -61,8 +61,8 @@ use Rattle.machine_answers.specs.Answers as row
 use Rattle.machine_answers.specs.Asked.{deletes_static}
 use Rattle.machine_answers.specs.Checked.{may_be_null, some_missing}
 use Rattle.machine_answers.specs.Sights.{call_seen, class_object_seen, held_seen, name_seen, number_at, object_seen, values_seen, words_of}
-use Rattle.machine_answers.specs.WorkedOut.{IsFoundField, IsFoundMethod, address_in, class_object, element_there, found_class, held_reference, new_array, place_there, stores_there, value_there, word_in, writes_there}
-use Rattle.machine_answers.proofs.CallOperands.{GivenObject, few_there, is_number, second_field}
+use Rattle.machine_answers.specs.WorkedOut.{IsFoundField, IsFoundMethod, address_in, class_object, found_class, held_reference, place_there, value_there, word_in, writes_there}
+use Rattle.machine_answers.proofs.CallOperands.{GivenObject, is_number, second_field}
 use Rattle.machine_answers.proofs.CallTraps.{handles_there, none_lacking, objects_there}
 use Rattle.machine_answers.proofs.FieldValues.{reference_there, word_there, writes}
 use Rattle.machine_answers.proofs.SightParts.{name_seen_is, object_there_is}
@@ -179,10 +179,6 @@ module _ (both : TwoCalls) where
   pub count_seen : (a : ℕ) → length (values_at store.heap a) ≡ length (values_seen store.heap (Some a))
   count_seen a = sym (length-map (values_at store.heap a) _)
 
-  pub counted : StoreAgrees p w store shared (all both) → (o : Option ℕ)
-      → GivenAgrees (unit both) w.classes store.heap GivesInt (given.Number (length (values_seen store.heap o))) (ScalarResult (Int (pos (length (values_seen store.heap o)))))
-  counted agree o = row.int refl (record { sfits = few_there store.heap o agree.laid_out (omega (arith, sound.cells, agree.cells)) })
-
   -- the class object of a class of the table
   abbrev pub InTable : ℕ → Type 0
   InTable c = (0 < c) × (c ≤ length w.classes)
@@ -258,20 +254,6 @@ module _ (both : TwoCalls) where
   pub written : (o : Option ℕ) (a n i : ℕ) (v : Value) (u : ObjectValue) → o ≡ Some a → name_at store.heap a ≡ Some n → ValueAgrees store.heap v u → StoreAgrees p w store shared (all both)
       → Stands (writes_there store.heap o i v) GivesNothing (source.Writes n i u)
   written o a n i v u is there fits agree = stands (ap (λ (x : Option ℕ). writes_there store.heap x i v) is) (writes p w store shared (all both) agree (brought both) activation.locals s a n i v u there fits)
-
-  pub array_made : (class : ℕ) (v : Value) (u : ObjectValue) → IsMakeable w.classes class → ValueAgrees store.heap v u → (z : ℤ) → Stands (new_array class z v) NewLocal (table.new_array class z u)
-  array_made class v u makeable agree (pos n) = row.makes (record { object = (u, agree, refl); makeable = makeable })
-  array_made class v u makeable agree (negsuc n) = raised negative_array_size (omega arith) (omega arith)
-
-  pub element_read : (o : Option ℕ) (q : Reference) → ReferenceAgrees store.heap o q → StoreAgrees p w store shared (all both) → (index : Option ℕ) → Stands (element_there store.heap o index) NewLocal (table.element_given (values_seen store.heap o) index)
-  element_read o q h agree None = raised array_index_out_of_bounds (omega arith) (omega arith)
-  element_read o q h agree (Some i) = row.gives (row.reference (reference_read o q h agree i))
-
-  pub element_written : (o : Option ℕ) (a n : ℕ) (v : Value) (r : Reference) → o ≡ Some a → name_at store.heap a ≡ Some n → ValueAgrees store.heap v (Refers r) → StoreAgrees p w store shared (all both) → (fits : Bool) (index : Option ℕ)
-      → Stands (stores_there store.heap o fits index v) GivesNothing (table.element_set fits n r index)
-  element_written o a n v r is there holds agree fits None = raised array_index_out_of_bounds (omega arith) (omega arith)
-  element_written o a n v r is there holds agree false (Some i) = raised array_store_exception (omega arith) (omega arith)
-  element_written o a n v r is there holds agree true (Some i) = written o a n i v (Refers r) is there holds agree
 
   -- ---- fields and statics
 

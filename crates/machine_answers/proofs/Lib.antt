@@ -22,6 +22,7 @@ pub mod RegionOperands
 pub mod SightArguments
 pub mod SightParts
 pub mod SightPlaces
+pub mod SightValues
 pub mod SightsAgree
 pub mod TrapsSeen
 pub mod TwoCalls

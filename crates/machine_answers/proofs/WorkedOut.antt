@@ -1,9 +1,9 @@
 -- What is worked out of a call of each function, by what is in memory.
-use Rattle.std.specs.Prelude.{Bool, true, false, ◌==◌, ◌≡◌, ℕ, List, [], slice_get, unwrap_or, Option, Some, None, length}
+use Rattle.std.specs.Prelude.{Bool, true, false, ◌==◌, ◌≡◌, ℕ, List, [], slice_get, unwrap_or, Option, Some, None}
 use Rattle.base.specs.declared.element.ElementType.{ElementType}
 use Rattle.class_rules.specs.ClassIds.{class_id}
-use Rattle.class_rules.specs.BuiltIns.{array_index_out_of_bounds, string_index_out_of_bounds, number_array}
-use Rattle.class_rules.specs.Class.{array_class_of, assignable, class_named, superclass}
+use Rattle.class_rules.specs.BuiltIns.{array_index_out_of_bounds, string_index_out_of_bounds}
+use Rattle.class_rules.specs.Class.{assignable, class_named, superclass}
 use Rattle.class_rules.specs.Fields.{find_field, find_static}
 use Rattle.code.specs.Call.{Call}
 use Rattle.code.specs.Effect.{element_word, truth_word}
@@ -13,9 +13,9 @@ use Rattle.heap.specs.Heap.{Space}
 use Rattle.heap.specs.declared.value.Value.{Value}
 use Rattle.heap.specs.declared.value.Value.TheVariants as value
 use Rattle.jni.specs.declared.function.JniFunction.{JniFunction}
-use Rattle.jni.specs.declared.function.JniFunction.TheVariants.{GetBuffer, ReleaseBuffer, FindClass, GetSuperclass, GetObjectClass, IsInstanceOf, IsAssignableFrom, AllocObject, GetFieldID, GetStaticFieldID, GetField, SetField, GetStaticField, SetStaticField, GetObjectField, SetObjectField, GetStaticObjectField, SetStaticObjectField, GetArrayLength, GetStringLength, NewArray, NewObjectArray, GetObjectArrayElement, SetObjectArrayElement, NewStringUTF, MonitorEnter, MonitorExit, GetArrayRegion, SetArrayRegion, GetStringRegion, GetStaticMethodID, CallStaticVoidMethod, CallStaticIntMethod, CallStaticObjectMethod}
+use Rattle.jni.specs.declared.function.JniFunction.TheVariants.{GetBuffer, ReleaseBuffer, FindClass, GetSuperclass, GetObjectClass, IsInstanceOf, IsAssignableFrom, AllocObject, GetFieldID, GetStaticFieldID, GetField, SetField, GetStaticField, SetStaticField, GetObjectField, SetObjectField, GetStaticObjectField, SetStaticObjectField, MonitorEnter, MonitorExit, GetArrayRegion, SetArrayRegion, GetStringRegion, GetStaticMethodID, CallStaticVoidMethod, CallStaticIntMethod, CallStaticObjectMethod}
 use Rattle.jni.specs.declared.subject.Subject.{Subject}
-use Rattle.jni.specs.declared.subject.Subject.TheVariants.{Exceptions, References}
+use Rattle.jni.specs.declared.subject.Subject.TheVariants.{Arrays, Exceptions, References}
 use Rattle.semantics.specs.Method.{find_method}
 use Rattle.monitors.specs.declared.monitors.Monitor.{Monitor}
 use Rattle.monitors.specs.Monitors.{entering, leaving, monitor_of}
@@ -23,16 +23,15 @@ use Rattle.machine_answers.specs.declared.answer.Given.TheVariants.{Nothing, Num
 use Rattle.machine_answers.specs.declared.answer.Answer.{Answer}
 use Rattle.machine_answers.specs.declared.answer.Answer.TheVariants.{Gives, Makes, Calls}
 use Rattle.machine_scenes.specs.declared.array_region.ArrayRegion.{ArrayRegion}
-use Rattle.machine_scenes.specs.declared.new_object.New.TheVariants.{Fresh, Text}
+use Rattle.machine_scenes.specs.declared.new_object.New.TheVariants.{Fresh}
 use Rattle.machine_scenes.specs.Scenes.{Scene}
 use Rattle.machine_scenes.specs.Given.{operand_of, class_of_given, name_there, fits_there}
-use Rattle.machine_answers.specs.WorkedOut.{class_object, found_class, IsFoundField, IsFoundMethod, value_there, word_in, address_in, held_reference, writes_there, new_array, element_there, stores_there, copies_out, copies_in, acquires, mode_of, releases, entered_by, left_by}
+use Rattle.machine_answers.specs.WorkedOut.{class_object, found_class, IsFoundField, IsFoundMethod, value_there, word_in, address_in, held_reference, writes_there, copies_out, copies_in, acquires, mode_of, releases, entered_by, left_by}
 use Rattle.machine_answers.specs.WorkedOut as at
-use Rattle.machine_answers.specs.Sights.{number_at, values_seen}
-use Rattle.semantics.specs.AnswerTable.{index_within}
 
 -- the subjects of which what is worked out stands here
 abbrev pub is_here : Subject → Bool
+is_here Arrays = false
 is_here References = false
 is_here Exceptions = false
 is_here s = true
@@ -93,15 +92,6 @@ module _ (scene : Scene) (call : Call) where
   worked_out (SetStaticField T) = writes_there scene.space declaring place_of_static (stored T)
   worked_out GetStaticObjectField = Gives (Reference (address_in (value_there scene.space declaring place_of_static)))
   worked_out SetStaticObjectField = writes_there scene.space declaring place_of_static (held_reference (reference 2))
-  worked_out GetArrayLength = Gives (Number (length (values_seen scene.space (reference 0))))
-  worked_out (NewArray T) = new_array (number_array T) (number_at scene.stack 0) (value.Number 0)
-  worked_out NewObjectArray = new_array (unwrap_or (array_class_of scene.classes
-      (name_there scene.space (reference 1))) 0) (number_at scene.stack 0) (held_reference (reference 2))
-  worked_out GetObjectArrayElement = element_there scene.space (reference 0) (index_within (length (values_seen scene.space (reference 0))) (number_at scene.stack 0))
-  worked_out SetObjectArrayElement = stores_there scene.space (reference 0) (at.fits_element scene call)
-      (index_within (length (values_seen scene.space (reference 0))) (number_at scene.stack 0)) (held_reference (reference 2))
-  worked_out NewStringUTF = Makes (Text 0)
-  worked_out GetStringLength = Gives (Number (length (values_seen scene.space (reference 0))))
   worked_out (GetArrayRegion T) = copies_out array_index_out_of_bounds local_array region
   worked_out (SetArrayRegion T) = copies_in array_index_out_of_bounds local_array region
   worked_out GetStringRegion = copies_out string_index_out_of_bounds local_array region

@@ -1,9 +1,9 @@
 -- What the machine works out of a call, by what is in memory.
-use Rattle.std.specs.Prelude.{◌≡◌, ℕ, ◌+◌, ◌-◌, ◌^◌, ℤ, pos, negsuc, nat_lt, nat_le, Bool, true, false, List, length, slice_get, unwrap_or, if◌then◌else◌, Option, Some, None}
+use Rattle.std.specs.Prelude.{◌≡◌, ℕ, ◌+◌, ◌-◌, ◌^◌, ℤ, pos, negsuc, nat_lt, nat_le, List, length, slice_get, unwrap_or, if◌then◌else◌, Option, Some, None}
 use Rattle.syntax.specs.Tree.{SourceUnit}
 use Rattle.class_rules.specs.ClassIds.{class_id}
-use Rattle.class_rules.specs.BuiltIns.{array_index_out_of_bounds, array_store_exception, illegal_monitor_state, negative_array_size, no_class_def_found_error, no_such_field_error, no_such_method_error}
-use Rattle.class_rules.specs.Class.{Classes, class_kind, element_class}
+use Rattle.class_rules.specs.BuiltIns.{illegal_monitor_state, no_class_def_found_error, no_such_field_error, no_such_method_error}
+use Rattle.class_rules.specs.Class.{Classes}
 use Rattle.class_rules.specs.Fields.{FieldId, layout, own_statics}
 use Rattle.classes.specs.FieldViews.{field_of, place_among}
 use Rattle.classes.specs.declared.class.FieldHandle.{FieldHandle}
@@ -28,11 +28,10 @@ use Rattle.monitors.specs.declared.monitors.Object.{Object}
 use Rattle.machine_answers.specs.declared.answer.Given.TheVariants.{Nothing, Number, Reference}
 use Rattle.machine_answers.specs.declared.answer.Given.TheVariants as given
 use Rattle.machine_answers.specs.declared.answer.Answer.{Answer}
-use Rattle.machine_answers.specs.declared.answer.Answer.TheVariants.{Gives, Writes, Makes, Throws, Halts, Ensures, Pushes, RefusesFrames, Deletes, DeletesGlobal, DeletesWeak, CopiesOut, CopiesIn, AcquiresCopy, AcquiresView, Releases, Enters, Exits}
+use Rattle.machine_answers.specs.declared.answer.Answer.TheVariants.{Gives, Writes, Throws, Halts, Ensures, Pushes, RefusesFrames, Deletes, DeletesGlobal, DeletesWeak, CopiesOut, CopiesIn, AcquiresCopy, AcquiresView, Releases, Enters, Exits}
 use Rattle.machine_scenes.specs.declared.array_region.ArrayRegion.{ArrayRegion}
 use Rattle.machine_scenes.specs.declared.buffer.Buffer.{Buffer}
 use Rattle.machine_scenes.specs.declared.buffer.Buffer.TheVariants as buffer
-use Rattle.machine_scenes.specs.declared.new_object.New.TheVariants.{Array}
 use Rattle.machine_scenes.specs.FieldIds.{IsMethod}
 use Rattle.machine_scenes.specs.declared.handle.MethodHandle.{MethodHandle}
 use Rattle.machine_scenes.specs.Scenes.{Scene}
@@ -40,7 +39,7 @@ use Rattle.machine_scenes.specs.Statics.{References, static_at}
 use Rattle.machine_scenes.specs.declared.references.Held.{Held}
 use Rattle.machine_scenes.specs.declared.references.Held.TheVariants as held
 use Rattle.semantics.specs.declared.trap.Trap.TheVariants.{OutOfRange}
-use Rattle.machine_scenes.specs.Given.{operand_at, operand_of, field_at, class_of_given, fits_there, field_there}
+use Rattle.machine_scenes.specs.Given.{operand_at, operand_of, field_at, class_of_given, field_there}
 use Rattle.machine_answers.specs.Sights.{array_in, number_at}
 
 -- the address of a class object, where class objects are the first of the table
@@ -131,24 +130,6 @@ abbrev pub place_there : Classes → Option FieldHandle → List FieldId → ℕ
 place_there classes None fields = 0
 place_there classes (Some h) fields = place_among (field_there classes (Some h)) fields
 
--- ---- arrays
-
--- a new array of equal values is made, or an exception for a negative number of them
-abbrev pub new_array : (class : ℕ) → ℤ → Value → Answer
-new_array class (pos n) v = Makes (Array (record { class = class_id class; count = n; value = v }))
-new_array class (negsuc n) v = Throws (class_id negative_array_size)
-
--- an element of an array is given, or an exception where there is none of an index
-abbrev pub element_there : Space → Option ℕ → (index : Option ℕ) → Answer
-element_there space r None = Throws (class_id array_index_out_of_bounds)
-element_there space r (Some i) = Gives (Reference (address_in (value_there space r i)))
-
--- an element of an array changes, or an exception where there is none of an index, or where the value doesn't fit
-abbrev pub stores_there : Space → Option ℕ → (fits : Bool) → (index : Option ℕ) → Value → Answer
-stores_there space r fits None v = Throws (class_id array_index_out_of_bounds)
-stores_there space r false (Some i) v = Throws (class_id array_store_exception)
-stores_there space r true (Some i) v = writes_there space r i v
-
 -- ---- regions
 
 -- elements of an object, from a start on, and as many first slots of a local array; none where the object hasn't so many
@@ -237,10 +218,6 @@ module _ (scene : Scene) (call : Call) where
   -- its place there
   abbrev pub place_of_static : ℕ
   place_of_static = place_there scene.classes handle (own_statics scene.classes class)
-
-  -- operand 2 fits the elements of operand 0
-  abbrev pub fits_element : Bool
-  fits_element = fits_there scene.classes scene.space (reference 2) (element_class (class_kind scene.classes (class_of_given scene.space (reference 0))))
 
   -- the local array of operand 3
   abbrev pub local_array : LocalArray

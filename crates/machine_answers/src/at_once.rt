@@ -9,13 +9,13 @@ ghost use Rattle.class_rules.specs.Fields.{layout};
 ghost use Rattle.class_rules.specs.Grown.{IsGrown};
 ghost use Rattle.code.specs.Call.{call_view};
 ghost use Rattle.class_queries.specs.Kinds.{class_misfits};
-ghost use Rattle.heap.specs.Heap.{values_at, IsAddress};
+ghost use Rattle.heap.specs.Heap.{block_at, values_at, IsAddress};
 ghost use Rattle.jni.specs.declared.kinds.ParameterKind.TheVariants.{ClassObject, MethodID, ObjectArray};
 ghost use Rattle.machine_answers.specs.Answered.{IsAnswerTo};
 ghost use Rattle.machine_answers.specs.AtOnce.{field_in_spot};
 ghost use Rattle.machine_answers.specs.Checked.{called, calls_well, function_in, misfits, returns, takes, takes_all, some_misfit, some_missing, trap_found};
-ghost use Rattle.machine_answers.specs.Sights.{element_wanted, gives_deleted, number_at, values_seen};
-ghost use Rattle.machine_answers.specs.WorkedOut.{declaring, element_there, field, place_of_static, place_there, value_there};
+ghost use Rattle.machine_answers.specs.Sights.{element_wanted, gives_deleted, name_seen, number_at, values_seen};
+ghost use Rattle.machine_answers.specs.WorkedOut.{declaring, field, place_of_static, place_there, value_there};
 ghost use Rattle.machine_scenes.specs.Given.{class_there, field_at, field_there, method_at, operand_at, operand_of, AreAddresses, AreHandles, FieldIsThere, ReferenceIsThere};
 ghost use Rattle.machine_scenes.specs.Locals.{locals_after};
 ghost use Rattle.machine_scenes.specs.Scenes.{scene_view};
@@ -25,7 +25,8 @@ ghost use Rattle.syntax.specs.Views.{parameter_tree, unit_tree};
 ghost use Rattle.tables.specs.Locals.{has_room};
 ghost use Rattle.machine_answers.specs.declared.answer.Given.TheVariants.{Number, Reference};
 ghost use Rattle.machine_answers.specs.declared.answer.Answer.TheVariants.{Calls, Gives, Writes, Deletes};
-ghost use Rattle.semantics.specs.AnswerTable.{index_within};
+ghost use Rattle.semantics.specs.AnswerTable.{element_given, gives_reference, index_within};
+ghost use Rattle.machine_answers.specs.AnswersSeen.{reference_there};
 
 use crate::answer::{
     address_in, argument, count_there, field_place, held_reference, holder_of_static, name_of,
@@ -320,12 +321,16 @@ pub fn reference_at_once(scene: &Scene<'_>, locals: &Locals, call: &Call) -> Opt
 }
 
 /// The element of an array that the number on top of the stack tells, where the array is one of objects and has it.
+#[tactic(auto, using(crate::proofs::SightValues::value_at, std::proofs::lemmas::Grind::common_steps))]
 #[inline(always)]
 fn element_at_once(scene: &Scene<'_>, array: Addr) -> Option<Option<Addr>>
     requires { IsAddress scene.now.heap.now array }
     ensures kind { IfSome result (λ element. class_misfits scene.now.classes.now ObjectArray (class_there scene.now.heap.now array) ≡ false) }
-    ensures element { IfSome result (λ element. element_there scene.now.heap.now (Some array)
-        (index_within (length (values_seen scene.now.heap.now (Some array))) (number_at scene.now.stack.now 0)) ≡ Gives (Reference element)) }
+    ensures element { IfSome result (λ element. gives_reference (name_seen scene.now.heap.now element)
+        ≡ element_given (values_seen scene.now.heap.now (Some array))
+        (index_within (length (values_seen scene.now.heap.now (Some array))) (number_at scene.now.stack.now 0))) }
+    ensures there { IfSome result (λ element. ((a i b : ℕ) → slice_get (values_at scene.now.heap.now a) i ≡ Some (Value.Block b)
+        → is_some (block_at scene.now.heap.now b) ≡ true) → reference_there scene.now.heap.now element ≡ true) }
 {
     match scene.classes.kind(class_there(scene.heap, array)) {
         ClassKind::ArrayOfObjects(_) => match index_in(

@@ -8,6 +8,11 @@ returns-in-References c =
     let it = c.work_out_reference in
     answers_seen (scene_view c.args.scene.now) (call_view c.args.call.now) it.result it.ensures.seen it.ensures.there it.ensures.ends it.ensures.calls
 
+pub returns-in-Arrays : goal.returns-in-Arrays
+returns-in-Arrays c =
+    let it = c.work_out_array in
+    answers_seen (scene_view c.args.scene.now) (call_view c.args.call.now) it.result it.ensures.seen it.ensures.there it.ensures.ends it.ensures.calls
+
 pub returns-in-Exceptions : goal.returns-in-Exceptions
 returns-in-Exceptions c =
     let it = c.work_out_exception in
