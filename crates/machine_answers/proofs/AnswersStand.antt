@@ -125,9 +125,6 @@ module _ (scene : Scene) where
 
 -- ---- functions
 
-ends_local : (f : JniFunction) → call_kind f ≡ EndsLocal → f ≡ DeleteLocalRef
-ends_local f of = grind (arith, of)
-
 ends_static : (f : JniFunction) → call_kind f ≡ EndsStatic → deletes_static f ≡ true
 ends_static f of = grind (arith, of)
 
@@ -214,10 +211,11 @@ module _ (both : TwoCalls) where
     local_ends : (key n : ℕ) → call_kind f ≡ EndsLocal → name_seen store.heap (at both 0) ≡ Some n → is_key (key_at (references both) (operand_of call.operands 0)) key ≡ true
         → Stands both (replies.Deletes key) GivesNothing (source.DeletesLocal 0 n)
     local_ends key n of is there =
+        let local : f ≡ DeleteLocalRef = grind (arith, of) in
         row.deletes n 0 (
         subst (λ (r : Reference). IsKeyGiven store.heap activation.locals (Some key) r (level_of (lookup (variable_given args 0) s.variables))) is
         (subst (λ (o : Option ℕ). IsKeyGiven store.heap activation.locals o (name_seen store.heap (at both 0)) (level_of (lookup (variable_given args 0) s.variables)))
-        (key_is _ key there) (own_key both f h (ends_local f of))))
+        (key_is _ key there) (own_key both f h local)))
 
     -- a static of which the reference ends
     static_ends : (i : ℕ) → call_kind f ≡ EndsStatic → is_static_at (operand_of call.operands 0) i ≡ true → IsStatic both i (static_at (references both) i)

@@ -16,7 +16,7 @@ use Rattle.semantics.specs.Answer.{Region}
 use Rattle.semantics.specs.AnswerTable.{call_answer, method_called, monitor_entered, monitor_left, released}
 use Rattle.semantics.specs.Arguments.{name_or_zero}
 use Rattle.semantics.specs.CallEffects.{CallResult, same_reference, NoResult, NullResult, ScalarResult, ReferenceResult, WeakResult, FieldResult, MethodResult, string_object, with_message}
-use Rattle.semantics.specs.Object.{Object}
+use Rattle.semantics.specs.Object.{Object, Reference}
 use Rattle.semantics.specs.Thread.{Monitor}
 use Rattle.semantics.specs.Variable.{StaticReference, Live}
 use Rattle.semantics.specs.declared.value.Value.{Value as Scalar}
@@ -44,11 +44,11 @@ use Rattle.machine_scenes.specs.NewObjects.{text_in}
 use Rattle.machine_scenes.specs.Scenes.{Scene}
 use Rattle.machine_scenes.specs.Statics.{static_at}
 
--- the name of the object at an address, and 0 for none
+-- the name of the object at an address, and 0 where there is none
 abbrev pub named : Space → ℕ → ℕ
 named space a = name_or_zero (name_at space a)
 
--- the value of a word in a result of this kind
+-- the value that a word is in a result of this kind
 abbrev pub word_seen : ResultKind → ℕ → Scalar
 word_seen GivesFlag word = Flag (not (word == 0))
 word_seen kind word = Int (cast_signed w32 word)
@@ -58,7 +58,7 @@ abbrev pub field_seen : Classes → Option FieldHandle → Option FieldId
 field_seen classes None = None
 field_seen classes (Some h) = field_of classes h
 
--- what a call of a function with this kind of result gives that sees this
+-- what is given, in a result of this kind, by a call that sees this; what only carrying out an answer gives is nothing yet
 abbrev pub given_seen : Scene → ResultKind → Given → CallResult
 given_seen scene kind given.Nothing = NoResult
 given_seen scene kind (given.Number word) = ScalarResult (word_seen kind word)
@@ -74,6 +74,7 @@ made_seen scene call (new.Array array) = record { class = array.class.number; va
 made_seen scene call (new.Text place) = string_object (text_in call.texts place)
 made_seen scene call (new.Exception class message) = with_message (fresh_object scene.classes class.number) (name_at scene.space message)
 
+-- a region of an object
 abbrev pub region_seen : Space → ArrayRegion → Region
 region_seen space r = record { object = named space r.object; start = r.start; count = r.count }
 
@@ -86,7 +87,7 @@ abbrev pub held_name : StaticReference → ℕ
 held_name (Live n) = n
 held_name r = 0
 
--- an answer to a call that sees this
+-- an answer to a call that sees this, of a function with this kind of result
 abbrev pub answer_seen : Scene → Call → ResultKind → Answer → source.Answer
 answer_seen scene call kind (answer.Gives g) = source.Gives (given_seen scene kind g)
 answer_seen scene call kind (answer.Writes a i v) = source.Writes (named scene.space a) i (value_seen scene.space v)
@@ -104,7 +105,8 @@ answer_seen scene call kind (answer.Ensures n) = source.Ensures n
 answer_seen scene call kind (answer.Pushes n) = source.Pushes n
 answer_seen scene call kind answer.RefusesFrames = source.RefusesFrames
 answer_seen scene call kind (answer.Pops a) = source.Pops (name_seen scene.space a)
-answer_seen scene call kind (answer.Deletes key) = source.DeletesLocal 0 (name_or_zero (name_seen scene.space (operand_at scene.references (operand_of call.operands 0))))
+answer_seen scene call kind (answer.Deletes key) =
+    source.DeletesLocal 0 (name_or_zero (name_seen scene.space (operand_at scene.references (operand_of call.operands 0))))
 answer_seen scene call kind (answer.MakesGlobal a) = source.MakesGlobal (name_seen scene.space a)
 answer_seen scene call kind (answer.DeletesGlobal i) = source.DeletesGlobal 0 (held_name (held_seen scene.space (static_at scene.references i)))
 answer_seen scene call kind (answer.MakesWeak a) = source.Gives (WeakResult (name_seen scene.space a))
@@ -130,7 +132,7 @@ value_there space (cell.Number word) = is_word word
 value_there space cell.Null = true
 value_there space (cell.Block a) = is_some (block_at space a)
 
--- what is given: a flag is 0 or 1
+-- what is given: a flag is 0 or 1; of a method ID its kind isn't enough
 abbrev pub given_there : Space → ResultKind → Given → Bool
 given_there space GivesFlag (given.Number word) = nat_lt word 2
 given_there space kind (given.Number word) = is_word word
@@ -163,10 +165,11 @@ is_weak (held.Weakly a) = true
 is_weak held.Cleared = true
 is_weak h = false
 
--- an answer
+-- an answer of those that are seen so: none of regions, buffers, monitors and methods
 abbrev pub answer_there : Scene → Call → ResultKind → Answer → Bool
 answer_there scene call kind (answer.Gives g) = given_there scene.space kind g
-answer_there scene call kind (answer.Writes a i v) = is_some (block_at scene.space a) && nat_lt i (length (values_at scene.space a)) && value_there scene.space v
+answer_there scene call kind (answer.Writes a i v) =
+    is_some (block_at scene.space a) && nat_lt i (length (values_at scene.space a)) && value_there scene.space v
 answer_there scene call kind (answer.Makes n) = new_there scene.space n
 answer_there scene call kind (answer.Pends a g) = reference_there scene.space a && given_there scene.space kind g
 answer_there scene call kind (answer.Pops a) = reference_there scene.space a
@@ -186,17 +189,24 @@ answer_there scene call kind a = false
 -- ---- what the checks let through
 
 module _ (scene : Scene) (call : Call) where
+  -- the reference of an operand, its name as it is seen, and how many values its object has
   abbrev reference : ℕ → Option ℕ
   reference i = operand_at scene.references (operand_of call.operands i)
+
+  abbrev name : ℕ → Reference
+  name i = name_seen scene.space (reference i)
+
+  abbrev count : ℕ
+  count = length (values_seen scene.space (reference 0))
 
   -- P, by what is known of a call that has passed its checks: an exception that is pending has a name; so has each object, and no two have one;
   -- an object has fewer values than there are `jint`s; a local reference that is to be deleted has a key
   abbrev pub WhenPassed : Type 0 → Type 0
   WhenPassed P =
       (is_some (name_seen scene.space scene.pending) ≡ is_some scene.pending)
-      → ((name_there scene.space (reference 0) == name_there scene.space (reference 1)) ≡ same_reference (name_seen scene.space (reference 0)) (name_seen scene.space (reference 1)))
-      → (cast_signed w32 (length (values_seen scene.space (reference 0))) ≡ pos (length (values_seen scene.space (reference 0))))
-      → (call.function ≡ DeleteLocalRef → is_some (key_at scene.references (operand_of call.operands 0)) ≡ is_some (name_seen scene.space (reference 0)))
+      → ((name_there scene.space (reference 0) == name_there scene.space (reference 1)) ≡ same_reference (name 0) (name 1))
+      → (cast_signed w32 count ≡ pos count)
+      → (call.function ≡ DeleteLocalRef → is_some (key_at scene.references (operand_of call.operands 0)) ≡ is_some (name 0))
       → P
 
 -- the answer is the source's, as it is seen
@@ -208,14 +218,15 @@ IsSeen scene call x = (locals : LocalTable) (callers : ℕ) → WhenPassed scene
 -- what it names is there, where the pending exception and what cells hold is
 abbrev pub IsThere : Scene → Call → Answer → Type 0
 IsThere scene call x =
-    (reference_there scene.space scene.pending ≡ true) →
-    ((a i b : ℕ) → slice_get (values_at scene.space a) i ≡ Some (cell.Block b) → is_some (block_at scene.space b) ≡ true)
+    (reference_there scene.space scene.pending ≡ true)
+    → ((a i b : ℕ) → slice_get (values_at scene.space a) i ≡ Some (cell.Block b) → is_some (block_at scene.space b) ≡ true)
     → answer_there scene call (prototype call.function).result x ≡ true
 
 -- the local reference that ends is that of the first operand
 abbrev pub EndsFirst : Scene → Call → Answer → Type 0
-EndsFirst scene call x = call.function ≡ DeleteLocalRef → (key : ℕ) → x ≡ answer.Deletes key → key_at scene.references (operand_of call.operands 0) ≡ Some key
+EndsFirst scene call x = call.function ≡ DeleteLocalRef → (key : ℕ) → x ≡ answer.Deletes key
+    → key_at scene.references (operand_of call.operands 0) ≡ Some key
 
--- a function that calls a method answers so
+-- a function that calls a method answers with that
 abbrev pub CallsMethod : Call → Answer → Type 0
 CallsMethod call x = calls_method call.function ≡ true → x ≡ answer.Calls

@@ -102,7 +102,8 @@ pub(crate) fn stack_number(stack: &Stack) -> i32
 fn new_array(scene: &Scene<'_>, call: &Call, class: ClassId, count: i32, value: Value) -> Answer
     ensures seen { answer_seen (scene_view scene.now) (call_view call.now) (prototype call.now.function).result result
         ≡ new_array class.number count (value_seen scene.now.heap.now value) }
-    ensures there { value_there scene.now.heap.now value ≡ true → answer_there (scene_view scene.now) (call_view call.now) (prototype call.now.function).result result ≡ true }
+    ensures there { value_there scene.now.heap.now value ≡ true
+        → answer_there (scene_view scene.now) (call_view call.now) (prototype call.now.function).result result ≡ true }
 {
     if count < 0 {
         Answer::Throws(NEGATIVE_ARRAY_SIZE_EXCEPTION)
