@@ -32,6 +32,10 @@ FIELD = native("""    jfieldID field = (*env)->GetFieldID(env, cls, "n", "I");
         jint old = (*env)->GetIntField(env, object, field);
         (*env)->SetIntField(env, object, field, (jint)((uint32_t)old + 1u));
     }""", ", jobject object")
+READ = native("""    jfieldID field = (*env)->GetFieldID(env, cls, "n", "I");
+    while (object != NULL) {
+        jint old = (*env)->GetIntField(env, object, field);
+    }""", ", jobject object")
 REFERENCES = native("""    while (cls != NULL) {
         jobject again = (*env)->NewLocalRef(env, cls);
         (*env)->DeleteLocalRef(env, again);
