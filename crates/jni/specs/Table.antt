@@ -1,5 +1,5 @@
 -- From memory to functions, and to what is known of each.
-use Rattle.std.specs.Prelude.{Bool, List, map, bytes_eq}
+use Rattle.std.specs.Prelude.{ℕ, ◌+◌, ◌-◌, ◌*◌, ◌%◌, Bool, List, length, get_or, map, bytes_eq}
 use Rattle.std.specs.Borrow.{Bor}
 use Rattle.base.specs.Bytes.{Identifier}
 use Rattle.jni.specs.JniFunction.{is_allowed_pending, prototype, all_functions}
@@ -34,6 +34,10 @@ facts p = record {
   effect = p.effect;
   pending = p.pending;
 }
+
+-- a number of a name, by its length, its first and its last byte
+abbrev pub bucket : Identifier → ℕ
+bucket name = (length name % 128 + 6 * get_or name 0 0 + 2 * get_or name (length name - 1) 0) % 128
 
 -- a list of functions, out of its borrow
 abbrev pub listed : Bor (List JniFunction) → List JniFunction

@@ -1,9 +1,9 @@
-//! The table of the functions of the JNI (JNI Specification, chapter 4), and who has a name.
+//! The table of the functions of the JNI (JNI Specification, chapter 4).
 
-ghost use Rattle.std.specs.Prelude.{◌≡◌, ◌<◌, ◌≤◌, ◌-◌, [], Some, length, map, find, get_or, take, drop, slice_get};
+ghost use Rattle.std.specs.Prelude.{◌≡◌, ◌<◌, ◌≤◌, ◌-◌, Some, length, map, take, drop, slice_get};
 ghost use Rattle.std.specs.Option.{option_map};
-ghost use Rattle.jni.specs.JniFunction.{access_functions, all_functions, calls_method, function_named, typed_functions};
-ghost use Rattle.jni.specs.Table.{all_rows, facts, facts_of, has_name, listed};
+ghost use Rattle.jni.specs.JniFunction.{access_functions, all_functions, calls_method, typed_functions};
+ghost use Rattle.jni.specs.Table.{all_rows, facts, facts_of, has_name};
 
 use crate::access::Access;
 use crate::access::Access::{ArrayView, CharsCopy, CharsView, ElementsCopy};
@@ -334,8 +334,11 @@ fn method_row(number: usize) -> &'static Prototype
     row_at(&METHOD_ROWS, 79, number)
 }
 
-/// The row of a number.
-fn row(number: usize) -> &'static Prototype
+/// How many functions there are.
+pub const FUNCTIONS: usize = 83;
+
+/// The row of a number, in the order of the table.
+pub fn prototype_at(number: usize) -> &'static Prototype
     requires { number < 83 }
     ensures { slice_get all_rows number ≡ Some (facts result.now) }
 {
@@ -415,7 +418,7 @@ impl JniFunction {
     pub fn prototype(self) -> &'static Prototype
         ensures { facts result.now ≡ facts_of self }
     {
-        row(self.number())
+        prototype_at(self.number())
     }
 
     /// Whether the function calls a method, which is given the arguments after the class and the method ID (JNI
@@ -432,159 +435,9 @@ impl JniFunction {
     }
 
     /// Whether this is the function's name.
-    fn is_named(self, name: &[u8]) -> bool
+    pub(crate) fn is_named(self, name: &[u8]) -> bool
         ensures { result ≡ has_name name.now self }
     {
         self.prototype().name == name
     }
-}
-
-/// The functions by the length of their names.
-static BY_LENGTH: [&[JniFunction]; 32] = [
-    &[],
-    &[],
-    &[],
-    &[],
-    &[],
-    &[Throw],
-    &[],
-    &[],
-    &[ThrowNew],
-    &[FindClass],
-    &[GetFieldID, FatalError],
-    &[
-        AllocObject,
-        NewLocalRef,
-        MonitorExit,
-        GetField(Int),
-        SetField(Int),
-        NewArray(Int),
-    ],
-    &[
-        IsInstanceOf,
-        NewGlobalRef,
-        IsSameObject,
-        NewStringUTF,
-        MonitorEnter,
-        GetField(Byte),
-        SetField(Byte),
-        NewArray(Byte),
-        GetField(Char),
-        SetField(Char),
-        NewArray(Char),
-    ],
-    &[
-        GetSuperclass,
-        PopLocalFrame,
-        GetField(Short),
-        SetField(Short),
-        NewArray(Short),
-    ],
-    &[
-        GetObjectClass,
-        DeleteLocalRef,
-        PushLocalFrame,
-        GetObjectField,
-        SetObjectField,
-        GetArrayLength,
-        NewObjectArray,
-        ExceptionCheck,
-        ExceptionClear,
-        GetBuffer(CharsCopy),
-    ],
-    &[DeleteGlobalRef, GetStringLength, GetStringRegion],
-    &[IsAssignableFrom, NewWeakGlobalRef, GetStaticFieldID],
-    &[
-        ExceptionOccurred,
-        GetStaticField(Int),
-        SetStaticField(Int),
-        GetArrayRegion(Int),
-        SetArrayRegion(Int),
-        GetBuffer(CharsView),
-        GetStaticMethodID,
-    ],
-    &[
-        GetStaticField(Byte),
-        SetStaticField(Byte),
-        GetArrayRegion(Byte),
-        SetArrayRegion(Byte),
-        GetStaticField(Char),
-        SetStaticField(Char),
-        GetArrayRegion(Char),
-        SetArrayRegion(Char),
-        ReleaseBuffer(CharsCopy),
-    ],
-    &[
-        DeleteWeakGlobalRef,
-        EnsureLocalCapacity,
-        GetBuffer(INTS),
-        GetStaticField(Short),
-        SetStaticField(Short),
-        GetArrayRegion(Short),
-        SetArrayRegion(Short),
-        CallStaticIntMethod,
-    ],
-    &[
-        GetStaticObjectField,
-        SetStaticObjectField,
-        GetBuffer(BYTES),
-        GetBuffer(CHARS),
-        CallStaticVoidMethod,
-    ],
-    &[
-        GetObjectArrayElement,
-        SetObjectArrayElement,
-        GetBuffer(SHORTS),
-        ReleaseBuffer(CharsView),
-    ],
-    &[CallStaticObjectMethod],
-    &[ReleaseBuffer(INTS)],
-    &[ReleaseBuffer(BYTES), ReleaseBuffer(CHARS)],
-    &[ReleaseBuffer(SHORTS), GetBuffer(ArrayView)],
-    &[],
-    &[],
-    &[],
-    &[ReleaseBuffer(ArrayView)],
-    &[],
-    &[],
-];
-
-/// The first of the functions that has a name.
-fn first_named(mut functions: &[JniFunction], name: &[u8]) -> Option<JniFunction>
-    ensures { result ≡ find (has_name name.now) functions.entry.now }
-{
-    while let [function, rest @ ..] = functions {
-        if function.is_named(name) {
-            return Some(*function);
-        }
-        functions = rest;
-    }
-    None
-}
-
-/// The function of a name among those of a length.
-fn named_at(table: &[&[JniFunction]], place: usize, name: &[u8]) -> Option<JniFunction>
-    requires { place < length table.now }
-    ensures { result ≡ find (has_name name.now) (get_or (map listed table.now) place []) }
-{
-    first_named(table[place], name)
-}
-
-/// The function of a name. It is looked for among those whose names are as long.
-pub fn function_named(name: &[u8]) -> Option<JniFunction>
-    ensures { result ≡ function_named name.now }
-{
-    named_at(&BY_LENGTH, name.len() % 32, name)
-}
-
-/// The functions of a length among these.
-fn all_at(table: &[&'static [JniFunction]], place: usize) -> &'static [JniFunction]
-    requires { place < length table.now }
-{
-    table[place]
-}
-
-/// The functions whose names have so many bytes, or 32 more or fewer: a walk over 32 lengths in a row meets each once.
-pub fn functions_of_length(length: usize) -> &'static [JniFunction] {
-    all_at(&BY_LENGTH, length % 32)
 }

@@ -4,11 +4,13 @@
 mod access;
 mod function;
 mod kinds;
+mod lookup;
 mod mode;
 mod subject;
 
 pub use access::{Access, is_same_element};
-pub use function::{JniFunction, function_named, functions_of_length};
+pub use function::{FUNCTIONS, JniFunction, prototype_at};
 pub use kinds::{ParameterKind, Prototype, ResultKind, StateEffect};
+pub use lookup::{function_named, known_function};
 pub use mode::ReleaseMode;
 pub use subject::Subject;

@@ -3,7 +3,7 @@
 ghost use Rattle.std.specs.Prelude.{◌≡◌, ◌++◌, ◌∷◌, [], IfOk, IfSome, IsTrue, None, Some, length, map, not, zip};
 ghost use Rattle.jni.specs.declared.kinds.ParameterKind.TheVariants.{Passed};
 ghost use Rattle.std.specs.List.{list_all};
-ghost use Rattle.jni.specs.JniFunction.{function_named, parameters_for};
+ghost use Rattle.jni.specs.JniFunction.{parameters_for};
 ghost use Rattle.syntax.specs.Views.{argument_tree, call_tree};
 ghost use Rattle.syntax.specs.Limits.{numbers_in_range};
 ghost use Rattle.syntax.specs.Parts.{argument_expressions};
@@ -19,10 +19,9 @@ ghost use Rattle.replay_tasks.specs.Tasks.{is_unknown_call, ArgumentsInRange, Op
 use crate::outcome::Purpose;
 use crate::task::{Invocation, Task, put_task};
 use jni::JniFunction::{GetField, SetField};
-use jni::{JniFunction, ParameterKind, function_named};
-use replay_terms::{Operand, Operands, is_same, passed, term_of};
+use jni::{JniFunction, ParameterKind, known_function};
+use replay_terms::{Operand, Operands, passed, term_of};
 use std::alloc::{AllocError, Global};
-use syntax::ElementType::{Byte, Char, Int, Short};
 use syntax::{Argument, Call, Constant, ExprRef, Shape};
 
 /// Begins a call, of a function that is there.
@@ -40,7 +39,7 @@ pub(crate) fn call_task<'a>(
     ensures view { IfOk result (λ _. Begins (call_task line (purpose_view line purpose.entry) (call_tree call.entry.now)) place.new) }
     ensures range { IfOk result (λ _. BegunInRange place.new) }
 {
-    let function = function_of(call.function.as_bytes()).unwrap();
+    let function = known_function(call.function.as_bytes());
     begin_call(alloc, place, line, purpose, function, &call.arguments)
 }
 
@@ -268,68 +267,6 @@ fn last_number(arguments: &[Argument]) -> Option<(&[Argument], ExprRef<'_>)>
             Argument::Text(_) | Argument::AddressOf(_) => None,
         },
         None => None,
-    }
-}
-
-/// This function, if the name is its own.
-#[inline(always)]
-fn if_named(function: JniFunction, its_name: &[u8], name: &[u8]) -> Option<JniFunction>
-    requires { function_named its_name.now ≡ Some function }
-    ensures { IfSome result (λ f. function_named name.now ≡ Some f) }
-{
-    if is_same(name, its_name) {
-        Some(function)
-    } else {
-        None
-    }
-}
-
-/// The function of this name, if it is one that most calls are of: two of the name's bytes tell which that may be.
-#[inline(always)]
-#[tactic(auto, unfolding(jni::specs::JniFunction::function_named))]
-fn common_function(name: &[u8]) -> Option<JniFunction>
-    ensures { IfSome result (λ f. function_named name.now ≡ Some f) }
-{
-    let [first, _, _, fourth, ..] = name else {
-        return None;
-    };
-    match (*first, *fourth) {
-        (b'G', b'I') => if_named(GetField(Int), b"GetIntField", name),
-        (b'S', b'I') => if_named(SetField(Int), b"SetIntField", name),
-        (b'G', b'S') => if_named(GetField(Short), b"GetShortField", name),
-        (b'S', b'S') => if_named(SetField(Short), b"SetShortField", name),
-        (b'G', b'B') => if_named(GetField(Byte), b"GetByteField", name),
-        (b'S', b'B') => if_named(SetField(Byte), b"SetByteField", name),
-        (b'G', b'C') => if_named(GetField(Char), b"GetCharField", name),
-        (b'S', b'C') => if_named(SetField(Char), b"SetCharField", name),
-        (b'N', b'L') => if_named(JniFunction::NewLocalRef, b"NewLocalRef", name),
-        (b'D', b'e') => if_named(JniFunction::DeleteLocalRef, b"DeleteLocalRef", name),
-        (b'M', b'i') => monitor_function(name),
-        _ => None,
-    }
-}
-
-/// The same of one that works on a monitor.
-#[inline(always)]
-#[tactic(auto, unfolding(jni::specs::JniFunction::function_named))]
-fn monitor_function(name: &[u8]) -> Option<JniFunction>
-    ensures { IfSome result (λ f. function_named name.now ≡ Some f) }
-{
-    if name.len() == 12 {
-        if_named(JniFunction::MonitorEnter, b"MonitorEnter", name)
-    } else {
-        if_named(JniFunction::MonitorExit, b"MonitorExit", name)
-    }
-}
-
-/// The function of a name. Those that most calls are of are found at once.
-#[inline(always)]
-fn function_of(name: &[u8]) -> Option<JniFunction>
-    ensures { result ≡ function_named name.now }
-{
-    match common_function(name) {
-        Some(function) => Some(function),
-        None => function_named(name),
     }
 }
 

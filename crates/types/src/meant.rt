@@ -2,7 +2,7 @@
 //! which words these are.
 
 use crate::taken::Taken;
-use jni::functions_of_length;
+use jni::{FUNCTIONS, prototype_at};
 use nearest::Nearest;
 use places::Detail;
 use std::alloc::Global;
@@ -94,10 +94,8 @@ fn offer_back<'a>(alloc: Global, nearest: &mut Nearest<'_, 'a>, names: &'a [Name
 fn function_asked(alloc: Global, found: Detail) -> Detail {
     let name = found.as_bytes();
     let mut nearest = Nearest::to(name);
-    for length in 0..32 {
-        for function in functions_of_length(length) {
-            nearest.offer(alloc, function.prototype().name);
-        }
+    for number in 0..FUNCTIONS {
+        nearest.offer(alloc, prototype_at(number).name);
     }
     let told = Detail::of(name);
     nearest.asked_after(told, b"")
