@@ -9,7 +9,7 @@ use Rattle.types.specs.declared.fault.TypeError.TheVariants.{Memory, Fault}
 use Rattle.type_rules.specs.declared.rule.TypeRule.{TypeRule}
 use Rattle.type_rules.specs.TypeRules.{typing_rules, Place, IsWellTyped, BreaksTypeRule, breaks, broken_at, broken, first_broken, places}
 use Rattle.types.specs.AllFaults.{told_at, typing_faults}
-use Rattle.types.specs.Faults.{Faults, TypeFault, Refuses, IfBroken, Tells, first, fault_of}
+use Rattle.types.specs.Faults.{Faults, TypeFault, Refuses, IfBroken, kept, first, fault_of}
 
 -- ---- what is told, and what is broken
 
@@ -139,7 +139,7 @@ kept_none [] e = refl
 kept_none (f ∷ faults) e = absurd cc
 
 -- nothing is kept of a unit that keeps the rules
-pub well_typed-none : (unit : SourceUnit) (faults : List TypeFault) → Tells false [] faults (typing_faults unit) → length faults ≡ 0 → IsWellTyped unit
+pub well_typed-none : (unit : SourceUnit) (faults : List TypeFault) → kept false (map fault_of faults) ≡ kept false (typing_faults unit) → length faults ≡ 0 → IsWellTyped unit
 well_typed-none unit [] h e = none-told unit (kept_none (typing_faults unit) (sym h))
 well_typed-none unit (f ∷ faults) h e = absurd (omega (arith, e))
 
@@ -150,7 +150,7 @@ first_kept (x ∷ xs) [] e = absurd cc
 first_kept (x ∷ xs) (y ∷ ys) e = ap first e
 
 -- and of another the first
-pub refused-first : (unit : SourceUnit) (faults : List TypeFault) (f : TypeFault) → Tells false [] faults (typing_faults unit) → 0 < length faults → f ≡ get_or faults 0 f → Refuses (Fault f) (broken unit)
+pub refused-first : (unit : SourceUnit) (faults : List TypeFault) (f : TypeFault) → kept false (map fault_of faults) ≡ kept false (typing_faults unit) → 0 < length faults → f ≡ get_or faults 0 f → Refuses (Fault f) (broken unit)
 refused-first unit [] f h some is = absurd (omega (arith, some))
 refused-first unit (g ∷ faults) f h some is = sym (first-told unit) ∙ sym (first_kept (map fault_of (g ∷ faults)) (typing_faults unit) h) ∙ ap (λ (x : TypeFault). Some (fault_of x)) (sym is)
 

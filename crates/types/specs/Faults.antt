@@ -74,9 +74,14 @@ abbrev pub kept : (all : Bool) → Faults → Faults
 kept true faults = faults
 kept false faults = take 1 faults
 
+-- the faults that are kept, and whether all are
+pub record Kept : Type 0 where
+  pub all : Bool
+  pub faults : List TypeFault
+
 -- of what was told before and what is told now the same is kept as of what was told before and what was found
-abbrev pub Tells : (all : Bool) → (old new : List TypeFault) → (found : Faults) → Type 0
-Tells all old new found = kept all (map fault_of new) ≡ kept all (map fault_of old ++ found)
+abbrev pub Tells : (old new : Kept) → (found : Faults) → Type 0
+Tells old new found = (new.all ≡ old.all) × (kept old.all (map fault_of new.faults) ≡ kept old.all (map fault_of old.faults ++ found))
 
 -- what is refused at a statement on this line of these rules, one after the other
 abbrev pub refused_of : ResultType → Scope → List Identifier → Stmt → ℕ → List TypeRule → Faults

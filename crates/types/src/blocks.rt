@@ -6,8 +6,8 @@ ghost use Rattle.syntax.specs.Views.{form_tree, block_tree};
 ghost use Rattle.type_rules.specs.TypeRules.{places_inside, places_of, with_declared};
 ghost use Rattle.types.specs.Faults.{Tells, IsAbove, found};
 
-use crate::fault::TypeFault;
-use crate::statements::{check_statement, declared};
+use crate::fault::KeptFaults;
+use crate::statements::{Surroundings, declared};
 use crate::taken::Taken;
 use std::alloc::AllocError;
 use syntax::{Block, Else, Form, ResultType};
@@ -43,10 +43,9 @@ fn check_inside<'a: 'n, 'n>(
     taken: &mut Taken<'n>,
     returns: ResultType,
     form: &'a Form,
-    all: bool,
-    faults: &mut Vec<TypeFault>,
+    faults: &mut KeptFaults,
 ) -> Result<(), AllocError>
-    ensures tells { OnOk result ((line : ℕ) → Tells all faults.old.items faults.new.items
+    ensures tells { OnOk result ((line : ℕ) → Tells faults.old faults.new
         (found (places_inside returns known.old taken.old (form_tree line form.now)))) }
     ensures scope { OnOk result ((line : ℕ) → known.new
         ≡ with_declared known.old (form_tree line form.now)) }
@@ -57,13 +56,13 @@ fn check_inside<'a: 'n, 'n>(
     match form {
         Form::Plain(_) => declare(known, taken, form),
         Form::If(_, b, other) => {
-            check_block(known, taken, returns, b, all, faults)?;
+            check_block(known, taken, returns, b, faults)?;
             match other {
                 Else::Nothing => Ok(()),
-                Else::Block(d) => check_block(known, taken, returns, d, all, faults),
+                Else::Block(d) => check_block(known, taken, returns, d, faults),
             }
         }
-        Form::While(_, b) => check_block(known, taken, returns, b, all, faults),
+        Form::While(_, b) => check_block(known, taken, returns, b, faults),
         Form::Return(_) => Ok(()),
     }
 }
@@ -77,10 +76,9 @@ pub(crate) fn check_block<'a: 'n, 'n>(
     taken: &mut Taken<'n>,
     returns: ResultType,
     block: &'a Block,
-    all: bool,
-    faults: &mut Vec<TypeFault>,
+    faults: &mut KeptFaults,
 ) -> Result<(), AllocError>
-    ensures tells { OnOk result (Tells all faults.old.items faults.new.items
+    ensures tells { OnOk result (Tells faults.old faults.new
         (found (places_of returns known.old taken.old (block_tree block.now)))) }
     ensures restored { OnOk result (known.new ≡ known.old) }
     ensures taken { OnOk result (taken.new
@@ -88,8 +86,13 @@ pub(crate) fn check_block<'a: 'n, 'n>(
 {
     let outside = known.len();
     for stmt in &block.statements {
-        check_statement(known, taken, returns, stmt, all, faults)?;
-        check_inside(known, taken, returns, &stmt.form, all, faults)?;
+        let around = Surroundings {
+            known,
+            taken,
+            returns,
+        };
+        around.check_statement(stmt, faults)?;
+        check_inside(known, taken, returns, &stmt.form, faults)?;
     }
     known.leave(outside);
     Ok(())

@@ -1,11 +1,13 @@
 //! Why a unit is not well-typed.
 
-ghost use Rattle.std.specs.Prelude.{◌≡◌, OnOk, take};
+ghost use Rattle.std.specs.Prelude.{◌≡◌, [], OnOk, take};
 ghost use Rattle.types.specs.declared.fault.TypeError.TheVariants.{Memory};
 ghost use Rattle.types.specs.Faults.{Faults, Refuses, Finds, Tells, broken_if};
 
+use crate::meant::is_asked;
 use places::{Detail, Fault, Line};
-use std::alloc::{AllocError, AllocFailed};
+use std::alloc::{AllocError, AllocFailed, Global};
+use std::marker::Model;
 use syntax::Name;
 use thiserror::Error;
 use type_rules::TypeRule;
@@ -81,22 +83,72 @@ pub(crate) fn told(fault: TypeFault, detail: Detail) -> TypeError
     })
 }
 
-/// Keeps what was found at a place behind what was found before it: of all places, or of the first one alone.
-pub(crate) fn keep(
+/// The faults of a unit that are kept as they are found: all of them, or the first alone.
+#[derive(Drop)]
+pub(crate) struct KeptFaults {
+    /// Whether all of them are.
     all: bool,
-    faults: &mut Vec<TypeFault>,
-    found: Result<(), TypeError>,
-) -> Result<(), AllocError>
-    ensures { (broken : Faults) → Finds found broken → OnOk result (Tells all faults.old.items faults.new.items (take 1 broken)) }
-{
-    match found {
-        Ok(()) => Ok(()),
-        Err(TypeError::Memory) => Err(AllocError),
-        Err(TypeError::Fault(fault)) => {
-            if all || faults.is_empty() {
-                faults.push(fault)?;
-            }
-            Ok(())
+    /// Those that are kept so far.
+    faults: Vec<TypeFault>,
+}
+
+impl Model for KeptFaults {
+    ghost use Rattle.types.specs.Faults.{Kept};
+
+    ghost Value = { Kept };
+
+    ghost view = { λ k. record { all = k.all; faults = k.faults.items } };
+}
+
+impl KeptFaults {
+    /// None is found yet.
+    pub(crate) fn new(alloc: Global, all: bool) -> KeptFaults
+        ensures { result ≡ record { all = all; faults = [] } }
+    {
+        KeptFaults {
+            all,
+            faults: Vec::new(alloc),
         }
+    }
+
+    /// Makes room for one more.
+    pub(crate) fn reserve(&mut self) -> Result<(), AllocError>
+        ensures { OnOk result (self.new ≡ self.old) }
+    {
+        self.faults.reserve(1)?;
+        Ok(())
+    }
+
+    /// Whether it is asked of the next one which name may be meant.
+    pub(crate) fn asks(&self) -> bool {
+        is_asked(self.all, self.faults.len())
+    }
+
+    /// The allocator of those that are kept.
+    pub(crate) fn allocator(&self) -> Global {
+        *self.faults.allocator()
+    }
+
+    /// Keeps what was found at a place behind what was found before it: of all places, or of the first one alone.
+    pub(crate) fn keep(&mut self, found: Result<(), TypeError>) -> Result<(), AllocError>
+        ensures { (broken : Faults) → Finds found broken → OnOk result (Tells self.old self.new (take 1 broken)) }
+    {
+        match found {
+            Ok(()) => Ok(()),
+            Err(TypeError::Memory) => Err(AllocError),
+            Err(TypeError::Fault(fault)) => {
+                if self.all || self.faults.is_empty() {
+                    self.faults.push(fault)?;
+                }
+                Ok(())
+            }
+        }
+    }
+
+    /// Those that are kept.
+    pub(crate) fn into_faults(self) -> Vec<TypeFault>
+        ensures { result.items ≡ self.faults }
+    {
+        self.faults
     }
 }

@@ -25,8 +25,8 @@ use crate::calls::{
     may_be_dropped, may_be_tested,
 };
 use crate::expressions::{has_unknown, is_null, name_type, type_of};
-use crate::fault::{TypeError, TypeFault, keep};
-use crate::meant::{asked, is_asked};
+use crate::fault::{KeptFaults, TypeError};
+use crate::meant::asked;
 use crate::scope::{is_unknown, type_in};
 use crate::taken::Taken;
 use crate::telling::statement_detail;
@@ -421,70 +421,73 @@ fn miscalled(
     misused(known, form, function)
 }
 
-/// The first rule that a statement breaks, without the blocks inside it. All rules are judged, in the order of their
-/// numbers.
-fn first_broken(
-    known: &Known<'_, ExprType>,
-    taken: &Taken<'_>,
-    returns: ResultType,
-    form: &Form,
-) -> Option<TypeRule>
-    ensures { (line : ℕ) → Judges result line (refused_of returns known.now taken.now
-        (form_tree line form.now) line typing_rules) }
-{
-    let function = function_called(form);
-    let misfits = misfits(known, returns, form, function);
-    if names_unknown(known, form, misfits) {
-        return Some(TypeRule::UnknownName);
-    }
-    if declares_taken(taken, form) {
-        return Some(TypeRule::DeclaredTwice);
-    }
-    if misfits {
-        return Some(TypeRule::TypeMisfit);
-    }
-    miscalled(known, form, function)
+/// What stands around a statement.
+#[derive(Clone, Copy)]
+pub(crate) struct Surroundings<'s, 'a, 'n> {
+    /// The names that are known there.
+    pub(crate) known: &'s Known<'a, ExprType>,
+    /// The names that are taken in its function.
+    pub(crate) taken: &'s Taken<'n>,
+    /// What its function returns.
+    pub(crate) returns: ResultType,
 }
 
-/// Keeps the fault of a statement that breaks a rule, with what is told of it. Its place is there before the words are sought.
-#[cold]
-fn keep_broken(
-    known: &Known<'_, ExprType>,
-    taken: &Taken<'_>,
-    returns: ResultType,
-    stmt: &Stmt,
-    rule: TypeRule,
-    all: bool,
-    faults: &mut Vec<TypeFault>,
-) -> Result<(), AllocError>
-    ensures { (broken : Faults) → Judges (Some rule) stmt.now.line broken
-        → OnOk result (Tells all faults.old.items faults.new.items (take 1 broken)) }
-{
-    faults.reserve(1)?;
-    let found = statement_detail(known, returns, &stmt.form, rule);
-    let detail = if is_asked(all, faults.len()) {
-        asked(*faults.allocator(), known, taken, rule, found)
-    } else {
-        found
-    };
-    let line = Line::told(stmt.line, detail);
-    keep(all, faults, Err(TypeError::Fault(Fault { rule, line })))
-}
+impl Surroundings<'_, '_, '_> {
+    /// The first rule that a statement breaks, without the blocks inside it. All rules are judged, in the order of their
+    /// numbers.
+    fn first_broken(self, form: &Form) -> Option<TypeRule>
+        ensures { (line : ℕ) → Judges result line (refused_of self.entry.returns self.entry.known.now self.entry.taken.now
+            (form_tree line form.now) line typing_rules) }
+    {
+        let function = function_called(form);
+        let misfits = misfits(self.known, self.returns, form, function);
+        if names_unknown(self.known, form, misfits) {
+            return Some(TypeRule::UnknownName);
+        }
+        if declares_taken(self.taken, form) {
+            return Some(TypeRule::DeclaredTwice);
+        }
+        if misfits {
+            return Some(TypeRule::TypeMisfit);
+        }
+        miscalled(self.known, form, function)
+    }
 
-/// Keeps what is found at a statement of a function with this result, where these names are known and these are taken.
-pub(crate) fn check_statement(
-    known: &Known<'_, ExprType>,
-    taken: &Taken<'_>,
-    returns: ResultType,
-    stmt: &Stmt,
-    all: bool,
-    faults: &mut Vec<TypeFault>,
-) -> Result<(), AllocError>
-    ensures { OnOk result (Tells all faults.old.items faults.new.items (told_at (statement_place returns
-        known.now taken.now (stmt_tree stmt.now)))) }
-{
-    match first_broken(known, taken, returns, &stmt.form) {
-        Some(rule) => keep_broken(known, taken, returns, stmt, rule, all, faults),
-        None => Ok(()),
+    /// Keeps the fault of a statement that breaks a rule, with what is told of it. Its place is there before the words are
+    /// sought.
+    #[cold]
+    fn keep_broken(
+        self,
+        stmt: &Stmt,
+        rule: TypeRule,
+        faults: &mut KeptFaults,
+    ) -> Result<(), AllocError>
+        ensures { (broken : Faults) → Judges (Some rule) stmt.now.line broken
+            → OnOk result (Tells faults.old faults.new (take 1 broken)) }
+    {
+        faults.reserve()?;
+        let found = statement_detail(self.known, self.returns, &stmt.form, rule);
+        let detail = if faults.asks() {
+            asked(faults.allocator(), self.known, self.taken, rule, found)
+        } else {
+            found
+        };
+        let line = Line::told(stmt.line, detail);
+        faults.keep(Err(TypeError::Fault(Fault { rule, line })))
+    }
+
+    /// Keeps what is found at a statement.
+    pub(crate) fn check_statement(
+        self,
+        stmt: &Stmt,
+        faults: &mut KeptFaults,
+    ) -> Result<(), AllocError>
+        ensures { OnOk result (Tells faults.old faults.new (told_at (statement_place self.entry.returns
+            self.entry.known.now self.entry.taken.now (stmt_tree stmt.now)))) }
+    {
+        match self.first_broken(&stmt.form) {
+            Some(rule) => self.keep_broken(stmt, rule, faults),
+            None => Ok(()),
+        }
     }
 }

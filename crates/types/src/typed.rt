@@ -5,27 +5,21 @@ ghost use Rattle.std.specs.List.{All};
 ghost use Rattle.syntax.specs.Views.{unit_tree};
 ghost use Rattle.type_rules.specs.TypeRules.{IsWellTyped, BreaksTypeRule, first_broken};
 ghost use Rattle.types.specs.AllFaults.{typing_faults};
-ghost use Rattle.types.specs.Faults.{Tells, IfBroken, fault_of};
+ghost use Rattle.types.specs.Faults.{IfBroken, fault_of, kept};
 
 use crate::fault::{TypeError, TypeFault};
-use crate::items::check_items;
+use crate::items::UnitCheck;
 use std::alloc::{AllocError, Global};
 use syntax::Unit;
-use type_rules::{Known, Typed};
+use type_rules::Typed;
 
 /// The faults of a unit: all of them, or the first alone.
 fn check_unit(alloc: Global, unit: &Unit, all: bool) -> Result<Vec<TypeFault>, AllocError>
-    ensures { IfOk result (λ faults. Tells all [] faults.items (typing_faults (unit_tree unit.now))) }
+    ensures { IfOk result (λ faults. kept all (map fault_of faults.items) ≡ kept all (typing_faults (unit_tree unit.now))) }
 {
-    let mut faults: Vec<TypeFault> = Vec::new(alloc);
-    check_items(
-        &mut Vec::new(alloc),
-        &mut Known::new(alloc),
-        unit.items(),
-        all,
-        &mut faults,
-    )?;
-    Ok(faults)
+    let mut check = UnitCheck::new(alloc, all);
+    check.check_items(unit.items())?;
+    Ok(check.into_faults())
 }
 
 /// The unit, where it keeps the rules on names and types. A statement's expressions are read once for each rule; a name

@@ -27,7 +27,7 @@ pub check_block-loop-stmt-init : goal.check_block-loop-stmt-init
 check_block-loop-stmt-init t c =
     let block = block_is c.args.block.now ∙ ap (λ items. statements_tree items (out-Block c.args.block.now).end_line) (sym c.deref-stmt-items.ensures.value) in
     record {
-      tells = left-all c.args.all c.args.faults.now.items _ _ (ap (λ b. found (places_of c.args.returns c.args.known.now c.args.taken.now b)) block);
+      tells = left-all c.args.faults.now _ _ (ap (λ b. found (places_of c.args.returns c.args.known.now c.args.taken.now b)) block);
       taken = ap (λ b. c.args.taken.now ++ names_declared (statements_of b)) block;
       above = above-none c.args.known.now;
     }
@@ -44,10 +44,10 @@ check_block-loop-stmt-preserved t c =
     let inside = c.in_ok-check_inside.ensures in
     record {
       tells =
-          left-next c.args.all c.args.faults.now.items c.loop-stmt.faults.items c.check_inside.new.faults.items _ _ _ _ c.loop-stmt.invariant.tells
+          left-next c.args.faults.now c.loop-stmt.faults c.check_inside.new.faults _ _ _ _ c.loop-stmt.invariant.tells
           (found-rest returned known taken items i s end_line c.loop-stmt-test.true c.stmt-item.is
           ∙ ap₂ (λ k names. (told_at (statement_place returned known taken (stmt_tree s)) ++ found (places_inside returned known taken (stmt_tree s))) ++ found (places_of returned k names (statements_tree (drop (i + 1) items) end_line))) (sym (inside.scope s.line)) (sym (inside.taken s.line)))
-          (tells-next c.args.all c.loop-stmt.faults.items c.check_statement.new.faults.items c.check_inside.new.faults.items _ _ c.in_ok-check_statement.ensures (inside.tells s.line));
+          (tells-next c.loop-stmt.faults c.check_statement.new.faults c.check_inside.new.faults _ _ c.in_ok-check_statement.ensures (inside.tells s.line));
       taken =
           c.loop-stmt.invariant.taken ∙ declared-rest taken items i s end_line c.loop-stmt-test.true c.stmt-item.is
           ∙ ap (λ (names : List Identifier). names ++ names_declared (statements_of (statements_tree (drop (i + 1) items) end_line))) (sym (inside.taken s.line));
@@ -56,7 +56,7 @@ check_block-loop-stmt-preserved t c =
 
 pub check_block-returns-clause-tells : goal.check_block-returns-clause-tells
 check_block-returns-clause-tells t c =
-    left-none c.args.all c.args.faults.now.items c.loop-stmt.faults.items _ _ c.loop-stmt.invariant.tells
+    left-none c.args.faults.now c.loop-stmt.faults _ _ c.loop-stmt.invariant.tells
     (ap (λ items. found (places_of c.args.returns c.loop-stmt.known c.loop-stmt.taken (statements_tree items (out-Block c.args.block.now).end_line)))
     (drop_all c.loop-stmt.stmt-index c.deref-stmt-items.result.now c.loop-stmt-test.false)
     ∙ found-none)
@@ -78,8 +78,8 @@ pub check_inside-returns-in-Plain-clause-tells : goal.check_inside-returns-in-Pl
 check_inside-returns-in-Plain-clause-tells t c =
     on_ok_weaker c.declare.result
     (λ e line.
-    subst (λ f. Tells c.args.all c.args.faults.now.items c.args.faults.now.items (found (places_inside c.args.returns c.args.known.now c.args.taken.now (form_tree line f)))) (sym c.in-Plain.is)
-    (subst (Tells c.args.all c.args.faults.now.items c.args.faults.now.items) (sym found-none) (tells-none c.args.all c.args.faults.now.items)))
+    subst (λ f. Tells c.args.faults.now c.args.faults.now (found (places_inside c.args.returns c.args.known.now c.args.taken.now (form_tree line f)))) (sym c.in-Plain.is)
+    (subst (Tells c.args.faults.now c.args.faults.now) (sym found-none) (tells-none c.args.faults.now)))
     c.declare.ensures.above
 
 pub check_inside-returns-in-Plain-clause-scope : goal.check_inside-returns-in-Plain-clause-scope
@@ -97,8 +97,8 @@ check_inside-returns-in-Plain-clause-taken t c =
 
 pub check_inside-returns-in-Return-clause-tells : goal.check_inside-returns-in-Return-clause-tells
 check_inside-returns-in-Return-clause-tells t c = λ line.
-    subst (λ f. Tells c.args.all c.args.faults.now.items c.args.faults.now.items (found (places_inside c.args.returns c.args.known.now c.args.taken.now (form_tree line f)))) (sym c.in-Return.is)
-    (subst (Tells c.args.all c.args.faults.now.items c.args.faults.now.items) (sym found-none) (tells-none c.args.all c.args.faults.now.items))
+    subst (λ f. Tells c.args.faults.now c.args.faults.now (found (places_inside c.args.returns c.args.known.now c.args.taken.now (form_tree line f)))) (sym c.in-Return.is)
+    (subst (Tells c.args.faults.now c.args.faults.now) (sym found-none) (tells-none c.args.faults.now))
 
 pub check_inside-returns-in-Return-clause-scope : goal.check_inside-returns-in-Return-clause-scope
 check_inside-returns-in-Return-clause-scope t c = λ line. ap (λ f. with_declared c.args.known.now (form_tree line f)) (sym c.in-Return.is)
@@ -112,7 +112,7 @@ check_inside-returns-in-Return-clause-taken t c = λ line.
 
 pub check_inside-returns-in-Nothing-clause-tells : goal.check_inside-returns-in-Nothing-clause-tells
 check_inside-returns-in-Nothing-clause-tells t c = λ line.
-    subst (λ f. Tells c.args.all c.args.faults.now.items c.check_block.new.faults.items (found (places_inside c.args.returns c.args.known.now c.args.taken.now (form_tree line f))))
+    subst (λ f. Tells c.args.faults.now c.check_block.new.faults (found (places_inside c.args.returns c.args.known.now c.args.taken.now (form_tree line f))))
     (sym (c.in-If.is ∙ ap (λ (d : ElseInMemory). form.If c.in-If.field-0 c.in-If.b d) c.in-Nothing.is))
     c.in_ok-check_block-in-If.ensures.tells
 
@@ -131,19 +131,18 @@ check_inside-returns-in-Nothing-clause-taken t c = λ line.
 
 pub check_inside-returns-in-Block-clause-tells : goal.check_inside-returns-in-Block-clause-tells
 check_inside-returns-in-Block-clause-tells t c =
-    let all = c.args.all in
-    let old = c.args.faults.now.items in
-    let middle = c.check_block.new.faults.items in
-    let new = c.check_block-in-Block.new.faults.items in
+    let old = c.args.faults.now in
+    let middle = c.check_block.new.faults in
+    let new = c.check_block-in-Block.new.faults in
     let returned = c.args.returns in
     let first = c.in_ok-check_block-in-If.ensures in
     on_ok_weaker c.check_block-in-Block.result
     (λ e line.
-    subst (λ f. Tells all old new (found (places_inside returned c.args.known.now c.args.taken.now (form_tree line f))))
+    subst (λ f. Tells old new (found (places_inside returned c.args.known.now c.args.taken.now (form_tree line f))))
     (sym (c.in-If.is ∙ ap (λ (d : ElseInMemory). form.If c.in-If.field-0 c.in-If.b d) c.in-Block.is))
-    (subst (Tells all old new) (sym (found-append _ _))
-    (tells-next all old middle new _ _ first.tells
-    (subst (Tells all middle new) (ap₂ (λ k names. found (places_of returned k names (block_tree c.in-Block.d))) first.restored first.taken) e))))
+    (subst (Tells old new) (sym (found-append _ _))
+    (tells-next old middle new _ _ first.tells
+    (subst (Tells middle new) (ap₂ (λ k names. found (places_of returned k names (block_tree c.in-Block.d))) first.restored first.taken) e))))
     c.check_block-in-Block.ensures.tells
 
 pub check_inside-returns-in-Block-clause-scope : goal.check_inside-returns-in-Block-clause-scope
@@ -173,7 +172,7 @@ pub check_inside-returns-in-While-clause-tells : goal.check_inside-returns-in-Wh
 check_inside-returns-in-While-clause-tells t c =
     on_ok_weaker c.check_block-in-While.result
     (λ e line.
-    subst (λ f. Tells c.args.all c.args.faults.now.items c.check_block-in-While.new.faults.items (found (places_inside c.args.returns c.args.known.now c.args.taken.now (form_tree line f)))) (sym c.in-While.is) e)
+    subst (λ f. Tells c.args.faults.now c.check_block-in-While.new.faults (found (places_inside c.args.returns c.args.known.now c.args.taken.now (form_tree line f)))) (sym c.in-While.is) e)
     c.check_block-in-While.ensures.tells
 
 pub check_inside-returns-in-While-clause-scope : goal.check_inside-returns-in-While-clause-scope

@@ -10,7 +10,7 @@ use Rattle.types.proofs.blocks.+blocks.Given as goal
 
 abbrev pub invariant-check_block-loop-stmt : goal.invariant-check_block-loop-stmt
 invariant-check_block-loop-stmt l = record {
-  tells : IsLeft l.all l.fn.faults.items l.faults.items (found (places_of l.returns l.fn.known l.fn.taken (block_tree l.block)))
+  tells : IsLeft l.fn.faults l.faults (found (places_of l.returns l.fn.known l.fn.taken (block_tree l.block)))
       (found (places_of l.returns l.known l.taken (statements_tree (drop l.stmt-index l.stmt-items) (out-Block l.block).end_line)));
   taken : l.fn.taken ++ names_declared (statements_of (block_tree l.block))
       ≡ l.taken ++ names_declared (statements_of (statements_tree (drop l.stmt-index l.stmt-items) (out-Block l.block).end_line));

@@ -7,17 +7,18 @@ use Rattle.type_rules.specs.TypeRules.{places_of}
 use Rattle.types.specs.Faults.{Tells, found, head_faults}
 use Rattle.types.proofs.BlockLemmas.{forgotten}
 use Rattle.types.proofs.ItemLemmas.{found-function}
-use Rattle.types.proofs.items.check_function.Goals as goal
+use Rattle.types.proofs.items.UnitCheck.check_function.Goals as goal
 
 pub returns-clause-tells : goal.returns-clause-tells
 returns-clause-tells c =
     let f = c.args.f.now in
+    let before = c.args.self.now in
     let known = c.enter.new.known in
     on_ok_weaker c.check_body-checked.result
     (λ e.
-    subst (Tells c.args.all c.args.faults.now.items c.check_body-checked.new.faults.items)
-    (ap (λ names. take 1 (head_faults c.args.names.now names f) ++ found (places_of f.result known names (block_tree f.body))) (c.deref.ensures.value ∙ c.in_ok-entry.ensures)
-    ∙ sym (found-function c.args.names.now c.args.known.now f known c.in_ok-enter.ensures.scope))
+    subst (Tells before.faults c.check_body-checked.new.self.faults)
+    (ap (λ names. take 1 (head_faults before.names.items names f) ++ found (places_of f.result known names (block_tree f.body))) (c.deref.ensures.value ∙ c.in_ok-entry.ensures)
+    ∙ sym (found-function before.names.items before.known f known c.in_ok-enter.ensures.scope))
     e)
     c.check_body-checked.ensures.tells
 
