@@ -7,7 +7,7 @@ ghost use Rattle.syntax.specs.Views.{argument_tree, call_tree, right_side_tree, 
 ghost use Rattle.jni.specs.JniFunction.{function_named};
 ghost use Rattle.semantics.specs.Arguments.{mode_of};
 ghost use Rattle.semantics.specs.Term.{term_of};
-ghost use Rattle.code_meaning.specs.Layout.{closed, plain_layout, layout_after, else_layout, block_layout, with_name, new_slot};
+ghost use Rattle.code_meaning.specs.Layout.{closed, plain_layout, layout_after, else_layout, block_layout, with_name};
 ghost use Rattle.code_meaning.specs.Arguments.{paired};
 ghost use Rattle.code_meaning.specs.Coding.{mode_code, operand_code, passed_code, passed_rest, number_code, argument_code, arguments_code, arguments_texts, variable_operand, result_target, named_call_code, right_code, assign_code, write_code, of_slot, return_code, returned_code, test_code, first_code, loop_code, expr_code, plain_code, stmt_code, else_code, block_code};
 ghost use Rattle.lower_statements.specs.Names.{slot_view};
@@ -62,14 +62,18 @@ fn emit_plain<'a>(
 {
     match plain {
         PlainStmt::Declare(kind, name, right) => {
-            emit_declaration(code, names, line, name, declared_type(*kind), right)
+            let ty = declared_type(*kind);
+            emit_right(code, names, line, names.new_slot(ty), right)?;
+            names.declare(name, ty)
         }
         PlainStmt::DeclareArray(element, name, size) => {
             emit_array(code, names, name, *element, *size)
         }
         PlainStmt::Assign(name, right) => emit_assignment(code, names, line, name, right),
         PlainStmt::AssignElement(name, index, value) => {
-            emit_element_set(code, names, line, name, index.whole(), value.whole())
+            emit_expr(code, names, line, index.whole())?;
+            emit_expr(code, names, line, value.whole())?;
+            emit_write(code, names, line, name)
         }
         PlainStmt::Perform(call) => emit_call(code, names, line, Target::Dropped, call),
         PlainStmt::PutJint(number) => emit_print(code, names, line, number.whole()),
@@ -209,23 +213,6 @@ fn emit_test(
     }
 }
 
-/// What a new variable is set to, and its name.
-fn emit_declaration<'a>(
-    code: &mut Vec<Instr>,
-    names: &mut Names<'a>,
-    line: u32,
-    name: &'a Name,
-    ty: ExprType,
-    right: &RightSide,
-) -> Result<(), AllocError>
-    ensures code { OnOk result (code.new.items ≡ code.old.items
-        ++ right_code names.old.known line (new_slot ty names.old) (right_side_tree right.now)) }
-    ensures names { OnOk result (names.new ≡ with_name name.now ty names.old) }
-{
-    emit_right(code, names, line, names.new_slot(ty), right)?;
-    names.declare(name, ty)
-}
-
 /// A new array of `len` zeros.
 fn emit_array<'a>(
     code: &mut Vec<Instr>,
@@ -298,25 +285,6 @@ fn result_target(slot: Slot) -> Target
     }
 }
 
-/// An index, a value, and the element of a named array or buffer that is set to it.
-fn emit_element_set(
-    code: &mut Vec<Instr>,
-    names: &Names<'_>,
-    line: u32,
-    name: &Name,
-    index: ExprRef<'_>,
-    value: ExprRef<'_>,
-) -> Result<(), AllocError>
-    ensures { OnOk result (code.new.items ≡ code.old.items
-        ++ (expr_code names.now.known line (ref_tree index.entry)
-        ++ (expr_code names.now.known line (ref_tree value.entry)
-        ++ of_slot (write_code line) (lookup name.now names.now.known)))) }
-{
-    emit_expr(code, names, line, index)?;
-    emit_expr(code, names, line, value)?;
-    emit_write(code, names, line, name)
-}
-
 /// A number that is printed.
 fn emit_print(
     code: &mut Vec<Instr>,
@@ -384,33 +352,11 @@ fn emit_call(
     };
     let parameters = Parameters::of(function);
     emit_arguments(code, names, line, parameters, &call.arguments)?;
-    let operands = operands_of(*code.allocator(), names, parameters, &call.arguments)?;
-    emit_prepared(code, line, target, function, operands, &call.arguments)
-}
-
-/// A call whose numbers are on the stack, with copies of its texts.
-fn emit_prepared(
-    code: &mut Vec<Instr>,
-    line: u32,
-    target: Target,
-    function: JniFunction,
-    operands: Vec<Operand>,
-    arguments: &[Argument],
-) -> Result<(), AllocError>
-    ensures { OnOk result (code.new.items ≡ code.old.items
-        ++ Instr.Call (record {
-          line = line;
-          target = target;
-          function = function;
-          operands = operands.items;
-          texts = arguments_texts (map argument_tree arguments.now);
-        }) ∷ []) }
-{
     let alloc = *code.allocator();
-    let mut texts = Vec::new(alloc);
-    push_texts(&mut texts, arguments)?;
-    let call = instr::Call::new(line, target, function, operands, texts);
-    emit(code, Instr::Call(BoxedCall::of(alloc, call)?))
+    let operands = operands_of(alloc, names, parameters, &call.arguments)?;
+    let texts = texts_of(alloc, &call.arguments)?;
+    let made = instr::Call::new(line, target, function, operands, texts);
+    emit(code, Instr::Call(BoxedCall::of(alloc, made)?))
 }
 
 /// The arguments that are worked out before a call, in order.
@@ -608,6 +554,16 @@ fn push_texts(texts: &mut Vec<Vec<u8>>, arguments: &[Argument]) -> Result<(), Al
         }
         [_, arguments @ ..] => push_texts(texts, arguments),
     }
+}
+
+/// Copies of the texts of a call, in order.
+fn texts_of(alloc: Global, arguments: &[Argument]) -> Result<Vec<Vec<u8>>, AllocError>
+    ensures { IfOk result (λ texts. map (λ text. text.items) texts.items
+        ≡ arguments_texts (map argument_tree arguments.now)) }
+{
+    let mut texts = Vec::new(alloc);
+    push_texts(&mut texts, arguments)?;
+    Ok(texts)
 }
 
 /// A return of NULL, of a name, or of another number.

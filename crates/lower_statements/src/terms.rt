@@ -16,6 +16,14 @@ use std::alloc::AllocError;
 use syntax::{BinaryOp, Constant, ExprRef, Name, PrefixOp, Shape};
 use type_rules::ExprType;
 
+/// A binary operator with its operands.
+#[derive(Clone, Copy)]
+struct Operation<'e> {
+    operator: BinaryOp,
+    left: ExprRef<'e>,
+    right: ExprRef<'e>,
+}
+
 /// An expression in a statement on this line. What no accepted program has becomes nothing.
 #[cycle(expressions)]
 pub fn emit_expr(
@@ -40,7 +48,14 @@ pub fn emit_expr(
         }
         Shape::Binary(operator, left, right) => match expr.null_test() {
             Some(test) => emit_null_test(code, names, test.name, test.equal),
-            None => emit_binary(code, names, line, operator, left, right),
+            None => {
+                let operation = Operation {
+                    operator,
+                    left,
+                    right,
+                };
+                emit_binary(code, names, line, &operation)
+            }
         },
         Shape::Paren(inner) => emit_expr(code, names, line, inner),
     }
@@ -96,23 +111,22 @@ fn emit_element(
     }
 }
 
-/// A binary operator with its operands, which don't compare a bare name with NULL.
+/// An operation that doesn't compare a bare name with NULL.
 #[cycle(expressions)]
 fn emit_binary(
     code: &mut Vec<Instr>,
     names: &Names<'_>,
     line: u32,
-    operator: BinaryOp,
-    left: ExprRef<'_>,
-    right: ExprRef<'_>,
+    operation: &Operation<'_>,
 ) -> Result<(), AllocError>
-    requires { null_tested (Binary operator (ref_tree left) (ref_tree right)) ≡ None }
+    requires { null_tested (Binary operation.now.operator (ref_tree operation.now.left) (ref_tree operation.now.right)) ≡ None }
     ensures { OnOk result (code.new.items ≡ code.old.items
-        ++ expr_code names.now.known line (Binary operator (ref_tree left.entry) (ref_tree right.entry))) }
+        ++ expr_code names.now.known line (Binary operation.now.operator (ref_tree operation.now.left)
+        (ref_tree operation.now.right))) }
 {
-    match operator {
-        BinaryOp::LogicalAnd => emit_logical(code, names, line, true, left, right),
-        BinaryOp::LogicalOr => emit_logical(code, names, line, false, left, right),
+    match operation.operator {
+        BinaryOp::LogicalAnd => emit_logical(code, names, line, true, operation),
+        BinaryOp::LogicalOr => emit_logical(code, names, line, false, operation),
         BinaryOp::Equal
         | BinaryOp::NotEqual
         | BinaryOp::BitOr
@@ -128,7 +142,7 @@ fn emit_binary(
         | BinaryOp::Subtract
         | BinaryOp::Multiply
         | BinaryOp::Divide
-        | BinaryOp::Remainder => emit_operator(code, names, line, operator, left, right),
+        | BinaryOp::Remainder => emit_operator(code, names, line, operation),
     }
 }
 
@@ -138,17 +152,15 @@ fn emit_operator(
     code: &mut Vec<Instr>,
     names: &Names<'_>,
     line: u32,
-    operator: BinaryOp,
-    left: ExprRef<'_>,
-    right: ExprRef<'_>,
+    operation: &Operation<'_>,
 ) -> Result<(), AllocError>
     ensures { OnOk result (code.new.items ≡ code.old.items
-        ++ term_code names.now.known line (term.Binary operator (term_of (ref_tree left.entry))
-        (term_of (ref_tree right.entry)))) }
+        ++ term_code names.now.known line (term.Binary operation.now.operator (term_of (ref_tree operation.now.left))
+        (term_of (ref_tree operation.now.right)))) }
 {
-    emit_expr(code, names, line, left)?;
-    emit_expr(code, names, line, right)?;
-    emit_operation(code, names, line, operator, left)
+    emit_expr(code, names, line, operation.left)?;
+    emit_expr(code, names, line, operation.right)?;
+    emit_operation(code, names, line, operation.operator, operation.left)
 }
 
 /// An operator whose operands are on the stack, of which this is the left one.
@@ -173,17 +185,16 @@ fn emit_logical(
     names: &Names<'_>,
     line: u32,
     conjunction: bool,
-    left: ExprRef<'_>,
-    right: ExprRef<'_>,
+    operation: &Operation<'_>,
 ) -> Result<(), AllocError>
     ensures { OnOk result (code.new.items ≡ code.old.items
-        ++ logical_code conjunction (expr_code names.now.known line (ref_tree left.entry))
-        (expr_code names.now.known line (ref_tree right.entry))) }
+        ++ logical_code conjunction (expr_code names.now.known line (ref_tree operation.now.left))
+        (expr_code names.now.known line (ref_tree operation.now.right))) }
 {
-    emit_expr(code, names, line, left)?;
+    emit_expr(code, names, line, operation.left)?;
     let place = code.len();
     emit(code, skip(conjunction, 0))?;
-    emit_expr(code, names, line, right)?;
+    emit_expr(code, names, line, operation.right)?;
     close_side(code, conjunction, place)
 }
 
