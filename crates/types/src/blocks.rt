@@ -7,7 +7,7 @@ ghost use Rattle.type_rules.specs.TypeRules.{places_inside, places_of, with_decl
 ghost use Rattle.types.specs.Faults.{Tells, IsAbove, found};
 
 use crate::fault::KeptFaults;
-use crate::statements::{Surroundings, declared};
+use crate::statements::{check_statement, declared};
 use crate::taken::Taken;
 use std::alloc::AllocError;
 use syntax::{Block, Else, Form, ResultType};
@@ -86,12 +86,7 @@ pub(crate) fn check_block<'a: 'n, 'n>(
 {
     let outside = known.len();
     for stmt in &block.statements {
-        let around = Surroundings {
-            known,
-            taken,
-            returns,
-        };
-        around.check_statement(stmt, faults)?;
+        check_statement(known, taken, returns, stmt, faults)?;
         check_inside(known, taken, returns, &stmt.form, faults)?;
     }
     known.leave(outside);

@@ -421,38 +421,43 @@ fn miscalled(
     misused(known, form, function)
 }
 
-/// What stands around a statement.
+/// The first rule that a statement breaks, without the blocks inside it. All rules are judged, in the order of their
+/// numbers.
+fn first_broken(
+    known: &Known<'_, ExprType>,
+    taken: &Taken<'_>,
+    returns: ResultType,
+    form: &Form,
+) -> Option<TypeRule>
+    ensures { (line : ℕ) → Judges result line (refused_of returns known.now taken.now
+        (form_tree line form.now) line typing_rules) }
+{
+    let function = function_called(form);
+    let misfits = misfits(known, returns, form, function);
+    if names_unknown(known, form, misfits) {
+        return Some(TypeRule::UnknownName);
+    }
+    if declares_taken(taken, form) {
+        return Some(TypeRule::DeclaredTwice);
+    }
+    if misfits {
+        return Some(TypeRule::TypeMisfit);
+    }
+    miscalled(known, form, function)
+}
+
+/// What stands around a statement that breaks a rule.
 #[derive(Clone, Copy)]
-pub(crate) struct Surroundings<'s, 'a, 'n> {
+struct Surroundings<'s, 'a, 'n> {
     /// The names that are known there.
-    pub(crate) known: &'s Known<'a, ExprType>,
+    known: &'s Known<'a, ExprType>,
     /// The names that are taken in its function.
-    pub(crate) taken: &'s Taken<'n>,
+    taken: &'s Taken<'n>,
     /// What its function returns.
-    pub(crate) returns: ResultType,
+    returns: ResultType,
 }
 
 impl Surroundings<'_, '_, '_> {
-    /// The first rule that a statement breaks, without the blocks inside it. All rules are judged, in the order of their
-    /// numbers.
-    fn first_broken(self, form: &Form) -> Option<TypeRule>
-        ensures { (line : ℕ) → Judges result line (refused_of self.entry.returns self.entry.known.now self.entry.taken.now
-            (form_tree line form.now) line typing_rules) }
-    {
-        let function = function_called(form);
-        let misfits = misfits(self.known, self.returns, form, function);
-        if names_unknown(self.known, form, misfits) {
-            return Some(TypeRule::UnknownName);
-        }
-        if declares_taken(self.taken, form) {
-            return Some(TypeRule::DeclaredTwice);
-        }
-        if misfits {
-            return Some(TypeRule::TypeMisfit);
-        }
-        miscalled(self.known, form, function)
-    }
-
     /// Keeps the fault of a statement that breaks a rule, with what is told of it. Its place is there before the words are
     /// sought.
     #[cold]
@@ -475,19 +480,28 @@ impl Surroundings<'_, '_, '_> {
         let line = Line::told(stmt.line, detail);
         faults.keep(Err(TypeError::Fault(Fault { rule, line })))
     }
+}
 
-    /// Keeps what is found at a statement.
-    pub(crate) fn check_statement(
-        self,
-        stmt: &Stmt,
-        faults: &mut KeptFaults,
-    ) -> Result<(), AllocError>
-        ensures { OnOk result (Tells faults.old faults.new (told_at (statement_place self.entry.returns
-            self.entry.known.now self.entry.taken.now (stmt_tree stmt.now)))) }
-    {
-        match self.first_broken(&stmt.form) {
-            Some(rule) => self.keep_broken(stmt, rule, faults),
-            None => Ok(()),
+/// Keeps what is found at a statement of a function with this result, where these names are known and these are taken.
+pub(crate) fn check_statement(
+    known: &Known<'_, ExprType>,
+    taken: &Taken<'_>,
+    returns: ResultType,
+    stmt: &Stmt,
+    faults: &mut KeptFaults,
+) -> Result<(), AllocError>
+    ensures { OnOk result (Tells faults.old faults.new (told_at (statement_place returns
+        known.now taken.now (stmt_tree stmt.now)))) }
+{
+    match first_broken(known, taken, returns, &stmt.form) {
+        Some(rule) => {
+            let around = Surroundings {
+                known,
+                taken,
+                returns,
+            };
+            around.keep_broken(stmt, rule, faults)
         }
+        None => Ok(()),
     }
 }

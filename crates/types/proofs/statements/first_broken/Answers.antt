@@ -1,10 +1,10 @@
 use Rattle.std.proofs.Common.{Some, sym, ◌∙◌}
 use Rattle.type_rules.specs.declared.rule.TypeRule.TheVariants as rules
 use Rattle.types.proofs.JudgedLemmas.{Judges-first, Judges-later}
-use Rattle.types.proofs.statements.Surroundings.first_broken.Goals as goal
+use Rattle.types.proofs.statements.first_broken.Goals as goal
 
 pub names_unknown-requires : goal.names_unknown-requires
-names_unknown-requires c = (c.args.self.returns, λ line. c.misfits-misfits.ensures line)
+names_unknown-requires c = (c.args.returns, λ line. c.misfits-misfits.ensures line)
 
 pub returns-then-names_unknown : goal.returns-then-names_unknown
 returns-then-names_unknown c = λ line. Judges-first rules.UnknownName line _ _ (sym (c.if-names_unknown.ensures line))
@@ -23,4 +23,4 @@ pub returns : goal.returns
 returns c = λ line.
     Judges-later _ _ line _ _ (sym (c.if-names_unknown.ensures line))
     (Judges-later _ _ line _ _ (sym (c.if-declares_taken.ensures line))
-    (Judges-later _ _ line _ _ (sym (c.misfits-misfits.ensures line) ∙ c.if-misfits.false) (c.miscalled.ensures c.args.self.returns c.args.self.taken.now line)))
+    (Judges-later _ _ line _ _ (sym (c.misfits-misfits.ensures line) ∙ c.if-misfits.false) (c.miscalled.ensures c.args.returns c.args.taken.now line)))
