@@ -54,10 +54,20 @@ fn body<'t>(
     Ok((body, rest))
 }
 
+/// What is read of a function before its parameters.
+#[derive(Clone, Copy)]
+struct Heading<'t> {
+    result: ResultType,
+    name: &'t [u8],
+    /// The name of its class.
+    class_name: &'t [u8],
+}
+
 /// The result, the name and the class of a function, and what comes after them.
 #[tactic(auto, unfolding(crate::specs::Reading::signature_at))]
-fn signature(lexemes: Cursor<'_>) -> Result<(ResultType, &[u8], &[u8], Cursor<'_>), ParseError>
-    ensures { Gives (λ x. (x.0, x.1.now, x.2.now, views x.3)) result (signature_at (views lexemes.entry)) }
+fn signature(lexemes: Cursor<'_>) -> Result<(Heading<'_>, Cursor<'_>), ParseError>
+    ensures { Gives (λ x. (x.0.result, x.0.name.now, x.0.class_name.now, views x.1)) result
+        (signature_at (views lexemes.entry)) }
 {
     let rest = lexemes.expect(Fixed::Word(Word::JniExport))?;
     let Some(result) = rest.result_type() else {
@@ -66,7 +76,12 @@ fn signature(lexemes: Cursor<'_>) -> Result<(ResultType, &[u8], &[u8], Cursor<'_
     let rest = rest.skip().expect(Fixed::Word(Word::JniCall))?;
     let (name, rest) = rest.name()?;
     let (class_name, rest) = head(rest)?.name()?;
-    Ok((result, name, class_name, rest))
+    let heading = Heading {
+        result,
+        name,
+        class_name,
+    };
+    Ok((heading, rest))
 }
 
 /// A function (JNI Specification, chapter 2, "Native Method Arguments").
@@ -78,18 +93,10 @@ fn function<'t>(
     ensures { Gives (λ x. (function_tree x.0, views x.1)) result (function_at (views lexemes.entry)) }
 {
     let line = lexemes.line();
-    let (result, name, class_name, rest) = signature(lexemes)?;
+    let (heading, rest) = signature(lexemes)?;
     let (parameters, rest) = parameters(stack.alloc(), rest)?;
     let (body, rest) = body(stack, NAMES - parameters.len(), rest)?;
-    let function = made(
-        stack.alloc(),
-        line,
-        result,
-        name,
-        class_name,
-        parameters,
-        body,
-    )?;
+    let function = made(stack.alloc(), line, heading, parameters, body)?;
     Ok((function, rest))
 }
 
@@ -98,26 +105,24 @@ fn function<'t>(
 fn made(
     alloc: Global,
     line: usize,
-    kind: ResultType,
-    name: &[u8],
-    class_name: &[u8],
+    heading: Heading<'_>,
     parameters: Vec<Parameter>,
     body: Block,
 ) -> Result<Function, AllocError>
     ensures { IfOk result (λ f. function_tree f ≡ record {
       line = line;
-      result = kind;
-      name = name.now;
-      class_name = class_name.now;
+      result = heading.entry.result;
+      name = heading.entry.name.now;
+      class_name = heading.entry.class_name.now;
       parameters = map parameter_tree parameters.items;
       body = block_tree body;
     }) }
 {
-    let name = Name::new(alloc, name)?;
-    let class_name = Name::new(alloc, class_name)?;
+    let name = Name::new(alloc, heading.name)?;
+    let class_name = Name::new(alloc, heading.class_name)?;
     Ok(Function {
         line,
-        result: kind,
+        result: heading.result,
         name,
         class_name,
         parameters,
