@@ -1,7 +1,7 @@
 -- What a step of a task does to the variables.
-use Rattle.std.specs.Prelude.{◌≡◌, ℕ, true, false, Bool, pos, length, replicate, Option, Some, None}
+use Rattle.std.specs.Prelude.{◌≡◌, ℕ, true, false, Bool, pos, length, replicate, [], Option, Some, None}
 use Rattle.std.specs.Borrow.{Bor}
-use Rattle.base.specs.Bytes.{lookup}
+use Rattle.base.specs.Bytes.{Identifier, lookup}
 use Rattle.syntax.specs.declared.stmt.Block.{Block as BlockInMemory}
 use Rattle.syntax.specs.Tree.{Block, End}
 use Rattle.syntax.specs.Views.{block_tree}
@@ -16,13 +16,14 @@ use Rattle.semantics.specs.Thread.{Thread, Shared, Advance, Advances, NoAdvance}
 use Rattle.semantics.specs.declared.event.Event.TheVariants.{Quiet}
 use Rattle.semantics.specs.ThreadStep.{set_variable, set_element}
 use Rattle.semantics.specs.Views.{name_of}
-use Rattle.semantics.specs.Variable.{Variable, Scalar, Elements, LocalArray, Statics}
+use Rattle.semantics.specs.Variable.{Buffer, Variable, Scalar, Elements, LocalArray, Statics}
 use Rattle.replay_tasks.specs.declared.outcome.CallResult.{CallResult as ResultInMemory}
 use Rattle.replay_tasks.specs.declared.outcome.CallResult.TheVariants as result
 use Rattle.replay_tasks.specs.declared.outcome.Outcome.{Outcome}
 use Rattle.replay_tasks.specs.declared.outcome.Outcome.TheVariants as outcome
 use Rattle.replay_tasks.specs.declared.outcome.Target.{Target as TargetInMemory}
 use Rattle.replay_tasks.specs.declared.outcome.Target.TheVariants as target
+use Rattle.replay_tasks.specs.declared.put.Loan.{Loan}
 use Rattle.replay_terms.specs.declared.given.Given.{Given}
 use Rattle.replay_tasks.specs.declared.outcome.Purpose.{Purpose as PurposeInMemory}
 use Rattle.replay_tasks.specs.declared.outcome.Purpose.TheVariants as purpose
@@ -32,6 +33,16 @@ abbrev pub target_view : TargetInMemory → Target
 target_view (target.Declared kind x) = Declared kind x.now
 target_view (target.Assigned x) = Assigned x.now
 target_view target.Dropped = Dropped
+
+-- it has a name
+abbrev pub IsNamed : TargetInMemory → Type 0
+IsNamed target.Dropped = ⊥
+IsNamed to = Unit {0}
+
+abbrev pub target_name : TargetInMemory → Identifier
+target_name (target.Declared kind x) = x.now
+target_name (target.Assigned x) = x.now
+target_name target.Dropped = []
 
 -- what a call gives that returns
 abbrev pub result_view : ResultInMemory → CallResult
@@ -43,6 +54,10 @@ result_view (result.Reference r) = ReferenceResult (name_of r)
 abbrev pub else_tree : ℕ → Option (Bor BlockInMemory) → Block
 else_tree line None = End line
 else_tree line (Some b) = block_tree b.now
+
+-- the buffer that is lent
+abbrev pub loan_view : Loan → Buffer
+loan_view l = lent_view l.store.now l.buffer
 
 -- the purpose of a call's result, in a statement of this line
 abbrev pub purpose_view : ℕ → PurposeInMemory → Target

@@ -2,6 +2,7 @@
 
 ghost use Rattle.std.specs.Prelude.{◌≡◌};
 ghost use Rattle.semantics.specs.Task.{kind_of, variable_kind};
+ghost use Rattle.replay_tasks.specs.Outcomes.{IsNamed, target_name};
 
 use replay_terms::{Given, Lent};
 use semantics::{ObjectId, Trap, Value, VariableKind};
@@ -15,6 +16,20 @@ pub enum Target<'a> {
     /// A variable that is there, or a static.
     Assigned(&'a Name),
     Dropped,
+}
+
+impl<'a> Target<'a> {
+    /// The name of the variable or the static.
+    #[inline(always)]
+    pub(crate) fn name(self) -> &'a Name
+        requires { IsNamed self }
+        ensures { result.now ≡ target_name self.entry }
+    {
+        match self {
+            Target::Declared(_, name) | Target::Assigned(name) => name,
+            Target::Dropped => unreachable!(),
+        }
+    }
 }
 
 /// What the result of a call is for.

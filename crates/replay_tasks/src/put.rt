@@ -7,7 +7,7 @@ ghost use Rattle.semantics.specs.Heap.{Heap};
 ghost use Rattle.semantics.specs.Variable.{Buffer, Elements, LocalArray, Statics as StaticsOfUnit, assign};
 ghost use Rattle.replay_tasks.specs.declared.outcome.Outcome.TheVariants as outcome;
 ghost use Rattle.replay_terms.specs.Views.{given_view, content_view, lent_view, variables_view};
-ghost use Rattle.replay_tasks.specs.Outcomes.{target_view, variable_step, IsBuffer, LeavesVariables, LeavesIf};
+ghost use Rattle.replay_tasks.specs.Outcomes.{loan_view, target_view, variable_step, IsBuffer, LeavesVariables, LeavesIf};
 
 use crate::outcome::{Outcome, Target};
 use replay_objects::Store;
@@ -205,20 +205,34 @@ fn declared<'a>(
     }
 }
 
-/// Puts a buffer that is lent where it belongs.
-fn lend<'a>(
+/// A buffer that is lent, with what it is made from.
+#[derive(Clone, Copy)]
+pub(crate) struct Loan<'s> {
+    /// Where the room of a copy is from.
     alloc: Global,
-    store: &Store,
+    /// The objects, of one of which it is a copy or a view.
+    store: &'s Store,
+    buffer: Lent,
+}
+
+/// Puts a buffer that is lent where it belongs.
+#[inline(always)]
+fn lend<'a>(
+    loan: Loan<'_>,
     statics: &mut Statics<'a>,
     frames: usize,
     variables: &mut Variables<'a>,
     target: Target<'a>,
-    buffer: Lent,
 ) -> Result<(), AllocError>
-    ensures { IfOk result (λ _. LeavesVariables frames statics.old store.now variables.old
-        (put (target_view target.entry) (BufferResult
-        (lent_view store.now buffer))) statics.new store.now variables.new) }
+    ensures { IfOk result (λ _. LeavesVariables frames statics.old loan.entry.store.now variables.old
+        (put (target_view target.entry) (BufferResult (loan_view loan.entry)))
+        statics.new loan.entry.store.now variables.new) }
 {
+    let Loan {
+        alloc,
+        store,
+        buffer,
+    } = loan;
     match target {
         Target::Declared(kind, name) => {
             let content = declared(alloc, store, frames, kind, buffer)?;
@@ -294,7 +308,12 @@ pub fn set_variables<'a>(
         Outcome::SetsNull(target) => put_given(statics, frames, variables, target, Given::Null)?,
         Outcome::Gives(target, given) => put_given(statics, frames, variables, target, given)?,
         Outcome::Lends(target, buffer) => {
-            lend(alloc, store, statics, frames, variables, target, buffer)?;
+            let loan = Loan {
+                alloc,
+                store,
+                buffer,
+            };
+            lend(loan, statics, frames, variables, target)?;
         }
         Outcome::Makes {
             element: kind,

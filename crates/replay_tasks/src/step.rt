@@ -17,7 +17,6 @@ use replay_terms::{
     held_reference, number_in, place_in, put_term, reduce,
 };
 use semantics::{Objects, Value};
-use syntax::Name;
 
 /// What a step does that reduces a term, which has no value yet.
 pub fn reduced<'a>(line: usize, reduction: Reduction) -> Outcome<'a>
@@ -70,20 +69,21 @@ fn set<'a, O: Objects>(
     }
 }
 
-/// Sets an element whose index and number have their values.
+/// Sets an element whose index and number have these values.
 fn write<'a, O: Objects>(
     objects: &O,
     variables: &Variables<'_>,
-    line: usize,
-    name: &'a Name,
+    a: &ElementAssignment<'a>,
     index: Value,
     number: Value,
 ) -> Outcome<'a>
     ensures step { (statics : StaticsOfUnit) → HasEffect (seen (variables_view variables.now) statics
-        (O.heap objects.now)) (element_task line name.entry (term.Done index) (term.Done number)) result
-        (element_task line name.entry (term.Done index) (term.Done number)) }
+        (O.heap objects.now)) (element_task a.now.line a.now.name (term.Done index) (term.Done number)) result
+        (element_task a.now.line a.now.name (term.Done index) (term.Done number)) }
     ensures range { OutcomeInRange result }
 {
+    let name = a.name;
+    let line = a.line;
     match number {
         Value::Int(z) => match place_in(objects, variables, name, index) {
             Indexed::At(i) => Outcome::SetsElement {
@@ -95,29 +95,6 @@ fn write<'a, O: Objects>(
             Indexed::Stuck => Outcome::Impossible,
         },
         Value::Word(_) | Value::Flag(_) | Value::Truth(_) => Outcome::Impossible,
-    }
-}
-
-/// Evaluates the number of an element by one step, or sets the element at this index.
-fn set_at<'a, O: Objects>(
-    objects: &O,
-    statics: &Statics<'_>,
-    variables: &Variables<'_>,
-    line: usize,
-    name: &'a Name,
-    index: Value,
-    t: &mut Term<'_>,
-) -> Outcome<'a>
-    requires { NumbersInRange t.old }
-    ensures step { HasEffect (seen (variables_view variables.now) statics.now (O.heap objects.now))
-        (element_task line name.entry (term.Done index) t.old) result
-        (element_task line name.entry (term.Done index) t.new) }
-    ensures number { NumbersInRange t.new }
-    ensures range { OutcomeInRange result }
-{
-    match t {
-        Term::Done(number) => write(objects, variables, line, name, index, *number),
-        t => reduced(line, reduce(objects, statics, variables, t)),
     }
 }
 
@@ -136,15 +113,14 @@ fn set_element<'a, O: Objects>(
     ensures range { OutcomeInRange result }
 {
     match &mut a.index {
-        Term::Done(index) => set_at(
-            objects,
-            statics,
-            variables,
-            a.line,
-            a.name,
-            *index,
-            &mut a.number,
-        ),
+        Term::Done(index) => match &mut a.number {
+            Term::Done(number) => {
+                let index = *index;
+                let number = *number;
+                write(objects, variables, a, index, number)
+            }
+            t => reduced(a.line, reduce(objects, statics, variables, t)),
+        },
         i => reduced(a.line, reduce(objects, statics, variables, i)),
     }
 }

@@ -4,9 +4,9 @@ ghost use Rattle.std.specs.Prelude.{◌≡◌, IfOk, IsTrue, None, Some};
 ghost use Rattle.syntax.specs.Views.{stmt_tree, expr_tree, right_side_tree, test_tree, plain_tree, block_tree};
 ghost use Rattle.syntax.specs.Shapes.{ref_tree};
 ghost use Rattle.syntax.specs.Tree.{Plain};
-ghost use Rattle.semantics.specs.Task.{Declared, Loop, Print, ReturnValue, SetElement, set_task, right_side_task, if_task, plain_task, task_of};
+ghost use Rattle.semantics.specs.Task.{Loop, Print, ReturnValue, SetElement, set_task, right_side_task, if_task, plain_task, task_of};
 ghost use Rattle.semantics.specs.Term.{term_of};
-ghost use Rattle.replay_tasks.specs.Outcomes.{else_tree, target_view};
+ghost use Rattle.replay_tasks.specs.Outcomes.{IsNamed, else_tree, target_name, target_view};
 ghost use Rattle.replay_tasks.specs.Tasks.{ExprInRange, RightSideInRange, TestInRange, BlockInRange, ElseInRange, StatementInRange, has_numbers_in_range, calls_known, Begins, BegunInRange};
 
 use crate::call::call_task;
@@ -211,25 +211,27 @@ fn drop_operands(operands: Operands<'_>) {
     }
 }
 
-/// Begins the task that gives a variable the value of an expression, in the place of the one that is begun.
+/// Begins to give a variable the value of an expression.
 #[inline(never)]
 fn value_task<'a>(
     alloc: Global,
     place: &mut Option<Task<'a>>,
     line: usize,
     target: Target<'a>,
-    name: &'a Name,
     e: ExprRef<'a>,
 ) -> Result<(), AllocError>
     requires none { place.old ≡ None }
+    requires named { IsNamed target }
     requires numbers { ExprInRange (ref_tree e) }
-    ensures view { IfOk result (λ _. Begins (set_task line (target_view target.entry) name.entry.now (ref_tree e.entry)) place.new) }
+    ensures view { IfOk result (λ _. Begins (set_task line (target_view target.entry) (target_name target.entry)
+        (ref_tree e.entry)) place.new) }
     ensures range { IfOk result (λ _. BegunInRange place.new) }
 {
     if let Shape::Named(Constant::Null) = e.shape() {
         put_task(place, Task::SetNull(target));
         return Ok(());
     }
+    let name = target.name();
     let term = term_of(alloc, e)?;
     put_task(place, Task::Set(Assignment { line, name, term }));
     Ok(())
@@ -242,18 +244,26 @@ fn set_task<'a>(
     place: &mut Option<Task<'a>>,
     line: usize,
     target: Target<'a>,
-    name: &'a Name,
     right: &'a RightSide,
 ) -> Result<(), AllocError>
     requires none { place.old ≡ None }
+    requires named { IsNamed target }
     requires numbers { RightSideInRange (right_side_tree right.now) }
-    ensures view { IfOk result (λ _. Begins (right_side_task line (target_view target.entry) name.entry.now (right_side_tree right.entry.now)) place.new) }
+    ensures view { IfOk result (λ _. Begins (right_side_task line (target_view target.entry) (target_name target.entry)
+        (right_side_tree right.entry.now)) place.new) }
     ensures range { IfOk result (λ _. BegunInRange place.new) }
 {
     match right {
-        RightSide::Expr(e) => value_task(alloc, place, line, target, name, e.whole()),
+        RightSide::Expr(e) => value_task(alloc, place, line, target, e.whole()),
         RightSide::Call(call) => call_task(alloc, place, line, Purpose::Put(target), call),
     }
+}
+
+/// A test, and the block that is done where it holds.
+#[derive(Clone, Copy)]
+pub(crate) struct Conditional<'a> {
+    test: &'a Test,
+    block: &'a Block,
 }
 
 /// Begins an `if`.
@@ -261,17 +271,18 @@ fn if_task<'a>(
     alloc: Global,
     place: &mut Option<Task<'a>>,
     line: usize,
-    test: &'a Test,
-    block: &'a Block,
+    conditional: Conditional<'a>,
     otherwise: Option<&'a Block>,
 ) -> Result<(), AllocError>
     requires none { place.old ≡ None }
-    requires test { TestInRange (test_tree test.now) }
-    requires block { BlockInRange (block_tree block.now) }
+    requires test { TestInRange (test_tree conditional.test.now) }
+    requires block { BlockInRange (block_tree conditional.block.now) }
     requires otherwise { ElseInRange otherwise }
-    ensures view { IfOk result (λ _. Begins (if_task line (test_tree test.entry.now) (block_tree block.entry.now) (else_tree line otherwise.entry)) place.new) }
+    ensures view { IfOk result (λ _. Begins (if_task line (test_tree conditional.entry.test.now)
+        (block_tree conditional.entry.block.now) (else_tree line otherwise.entry)) place.new) }
     ensures range { IfOk result (λ _. BegunInRange place.new) }
 {
+    let Conditional { test, block } = conditional;
     match test {
         Test::Expr(e) => {
             let test = term_of(alloc, e.whole())?;
@@ -290,29 +301,12 @@ fn if_task<'a>(
     }
 }
 
-/// Begins a declaration.
-fn declaration<'a>(
-    alloc: Global,
-    place: &mut Option<Task<'a>>,
-    line: usize,
-    kind: VariableKind,
+/// An element that a statement sets.
+#[derive(Clone, Copy)]
+pub(crate) struct Element<'a> {
+    /// The name of its array.
     name: &'a Name,
-    right: &'a RightSide,
-) -> Result<(), AllocError>
-    requires none { place.old ≡ None }
-    requires numbers { RightSideInRange (right_side_tree right.now) }
-    ensures view { IfOk result (λ _. Begins (right_side_task line
-        (Declared kind name.entry.now) name.entry.now (right_side_tree right.entry.now)) place.new) }
-    ensures range { IfOk result (λ _. BegunInRange place.new) }
-{
-    set_task(
-        alloc,
-        place,
-        line,
-        Target::Declared(kind, name),
-        name,
-        right,
-    )
+    index: &'a Expr,
 }
 
 /// Begins to set an element.
@@ -321,16 +315,17 @@ fn element_task<'a>(
     alloc: Global,
     place: &mut Option<Task<'a>>,
     line: usize,
-    name: &'a Name,
-    index: &'a Expr,
+    element: Element<'a>,
     e: &'a Expr,
 ) -> Result<(), AllocError>
     requires none { place.old ≡ None }
-    requires index { ExprInRange (expr_tree index.now) }
+    requires index { ExprInRange (expr_tree element.index.now) }
     requires number { ExprInRange (expr_tree e.now) }
-    ensures view { IfOk result (λ _. Begins (SetElement line name.entry.now (term_of (expr_tree index.entry.now)) (term_of (expr_tree e.entry.now))) place.new) }
+    ensures view { IfOk result (λ _. Begins (SetElement line element.entry.name.now (term_of (expr_tree element.entry.index.now))
+        (term_of (expr_tree e.entry.now))) place.new) }
     ensures range { IfOk result (λ _. BegunInRange place.new) }
 {
+    let Element { name, index } = element;
     let index = term_of(alloc, index.whole())?;
     let number = term_of(alloc, e.whole())?;
     put_task(
@@ -438,8 +433,10 @@ pub fn task_of<'a>(
     match &s.form {
         Form::Plain(plain) => plain_task(alloc, place, line, plain),
         Form::If(test, block, other) => match other {
-            Else::Nothing => if_task(alloc, place, line, test, block, None),
-            Else::Block(other) => if_task(alloc, place, line, test, block, Some(other)),
+            Else::Nothing => if_task(alloc, place, line, Conditional { test, block }, None),
+            Else::Block(other) => {
+                if_task(alloc, place, line, Conditional { test, block }, Some(other))
+            }
         },
         Form::While(test, body) => begin_loop(alloc, place, line, test, body),
         Form::Return(None) => {
@@ -464,13 +461,18 @@ fn plain_task<'a>(
     ensures range { IfOk result (λ _. BegunInRange place.new) }
 {
     match plain {
-        PlainStmt::Declare(t, x, right) => declaration(alloc, place, line, kind_of(*t), x, right),
+        PlainStmt::Declare(t, x, right) => {
+            let target = Target::Declared(kind_of(*t), x);
+            set_task(alloc, place, line, target, right)
+        }
         PlainStmt::DeclareArray(t, x, size) => {
             put_task(place, Task::MakeArray(*t, x, *size));
             Ok(())
         }
-        PlainStmt::Assign(x, right) => set_task(alloc, place, line, Target::Assigned(x), x, right),
-        PlainStmt::AssignElement(x, i, e) => element_task(alloc, place, line, x, i, e),
+        PlainStmt::Assign(x, right) => set_task(alloc, place, line, Target::Assigned(x), right),
+        PlainStmt::AssignElement(x, i, e) => {
+            element_task(alloc, place, line, Element { name: x, index: i }, e)
+        }
         PlainStmt::Perform(call) => {
             call_task(alloc, place, line, Purpose::Put(Target::Dropped), call)
         }
