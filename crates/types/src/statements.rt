@@ -4,7 +4,7 @@ ghost use Rattle.std.specs.Prelude.{◌≡◌, ℕ, List, [], ◌∷◌, not, �
 ghost use Rattle.std.specs.List.{list_all};
 ghost use Rattle.std.specs.Option.{option_map};
 ghost use Rattle.base.specs.Options.{some_passes};
-ghost use Rattle.syntax.specs.Parts.{own_call, call_of_right_side, assigned_name, call_expressions};
+ghost use Rattle.syntax.specs.Parts.{own_call, assigned_name, call_expressions};
 ghost use Rattle.base.specs.Bytes.{Identifier};
 ghost use Rattle.syntax.specs.declared.unit.ResultType.{ResultType as ReturnType};
 ghost use Rattle.syntax.specs.declared.unit.ResultType.TheVariants.{Void};
@@ -15,7 +15,7 @@ ghost use Rattle.jni.specs.JniFunction.{function_named};
 ghost use Rattle.type_rules.specs.ExprTypes.{type_in, is_unknown, type_of, has_elements, is_index, is_jint, call_arguments_fit};
 ghost use Rattle.type_rules.specs.declared.rule.TypeRule.TheVariants.{UnknownName, DeclaredTwice, TypeMisfit, UnknownFunction, ArgumentCount, ReferenceCopied, BadMode, ReadOnlyWrite};
 ghost use Rattle.type_rules.specs.TypeRules.{is_formed, value_sets, right_side_sets, buffer_begins, declaration_fits, test_fits, return_fits, plain_fits, statement_fits, copies_reference, typing_rules, breaks_type_rule, statement_place};
-ghost use Rattle.types.specs.Called.{function_in, call_of_test, declared};
+ghost use Rattle.types.specs.Called.{IsCalled, IsCalledBy, function_in, call_of_test, declared};
 ghost use Rattle.types.specs.AllFaults.{told_at};
 ghost use Rattle.types.specs.Faults.{Faults, Judges, Tells, refused_of};
 ghost use Rattle.type_rules.specs.Uses.{right_uses, test_uses, plain_uses, uses};
@@ -43,7 +43,7 @@ use type_rules::{ExprType, Known, TypeRule, declared_type, variable_type};
 
 /// The function that a statement calls, if it is known.
 pub(crate) fn function_called(form: &Form) -> Option<JniFunction>
-    ensures { (line : ℕ) → result ≡ function_in (own_call (form_tree line form.now)) }
+    ensures { IsCalled result form.now }
 {
     match form.own_call() {
         Some(call) => function_named(call.function.as_bytes()),
@@ -168,8 +168,7 @@ fn right_side_sets(
     right: &RightSide,
     function: Option<JniFunction>,
 ) -> bool
-    requires { function
-        ≡ function_in (call_of_right_side (Some (right_side_tree right.now))) }
+    requires { IsCalledBy function right.now }
     ensures { result ≡ right_side_sets known.now ty (right_side_tree right.now) }
 {
     match right {
@@ -180,8 +179,7 @@ fn right_side_sets(
 
 /// Whether a buffer may begin as a right side.
 fn buffer_begins(ty: ExprType, right: &RightSide, function: Option<JniFunction>) -> bool
-    requires { function
-        ≡ function_in (call_of_right_side (Some (right_side_tree right.now))) }
+    requires { IsCalledBy function right.now }
     ensures { result ≡ buffer_begins [] ty (right_side_tree right.now) }
 {
     match right {
@@ -197,8 +195,7 @@ fn declaration_fits(
     right: &RightSide,
     function: Option<JniFunction>,
 ) -> bool
-    requires { function
-        ≡ function_in (call_of_right_side (Some (right_side_tree right.now))) }
+    requires { IsCalledBy function right.now }
     ensures { result ≡ declaration_fits known.now kind (right_side_tree right.now) }
 {
     match kind {
@@ -268,7 +265,7 @@ pub(crate) fn statement_fits(
     form: &Form,
     function: Option<JniFunction>,
 ) -> bool
-    requires { (line : ℕ) → function ≡ function_in (own_call (form_tree line form.now)) }
+    requires { IsCalled function form.now }
     ensures { (line : ℕ) → result ≡ statement_fits known.now returns
         (form_tree line form.now) }
 {
@@ -283,7 +280,7 @@ pub(crate) fn statement_fits(
 
 /// Whether the arguments of a statement's call do not fit, or one of them is neither bare nor has a type.
 fn call_misfits(known: &Known<'_, ExprType>, form: &Form, function: Option<JniFunction>) -> bool
-    requires { (line : ℕ) → function ≡ function_in (own_call (form_tree line form.now)) }
+    requires { IsCalled function form.now }
     ensures { (line : ℕ) → result ≡ some_passes (λ c. not (list_all (is_formed known.now)
         (call_expressions c)) || not (call_arguments_fit known.now c (function_named c.function)))
         (own_call (form_tree line form.now)) }
@@ -302,7 +299,7 @@ fn misfits(
     form: &Form,
     function: Option<JniFunction>,
 ) -> bool
-    requires { (line : ℕ) → function ≡ function_in (own_call (form_tree line form.now)) }
+    requires { IsCalled function form.now }
     ensures { (line : ℕ) → result ≡ breaks_type_rule TypeMisfit known.now [] returns
         (form_tree line form.now) }
 {
@@ -311,7 +308,7 @@ fn misfits(
 
 /// Whether a statement calls a function that is not known.
 fn calls_unknown(form: &Form, function: Option<JniFunction>) -> bool
-    requires { (line : ℕ) → function ≡ function_in (own_call (form_tree line form.now)) }
+    requires { IsCalled function form.now }
     ensures { (line : ℕ) → result ≡ breaks_type_rule UnknownFunction [] [] Void (form_tree line form.now) }
 {
     match form.own_call() {
@@ -322,7 +319,7 @@ fn calls_unknown(form: &Form, function: Option<JniFunction>) -> bool
 
 /// Whether a statement's call has a wrong number of arguments.
 fn miscounts(form: &Form, function: Option<JniFunction>) -> bool
-    requires { (line : ℕ) → function ≡ function_in (own_call (form_tree line form.now)) }
+    requires { IsCalled function form.now }
     ensures { (line : ℕ) → result ≡ breaks_type_rule ArgumentCount [] [] Void (form_tree line form.now) }
 {
     match form.own_call() {
@@ -333,7 +330,7 @@ fn miscounts(form: &Form, function: Option<JniFunction>) -> bool
 
 /// Whether a statement's call has a mode that is none.
 fn has_bad_mode(form: &Form, function: Option<JniFunction>) -> bool
-    requires { (line : ℕ) → function ≡ function_in (own_call (form_tree line form.now)) }
+    requires { IsCalled function form.now }
     ensures { (line : ℕ) → result ≡ breaks_type_rule BadMode [] [] Void (form_tree line form.now) }
 {
     match form.own_call() {
@@ -384,7 +381,7 @@ fn misused(
     form: &Form,
     function: Option<JniFunction>,
 ) -> Option<TypeRule>
-    requires { (line : ℕ) → function ≡ function_in (own_call (form_tree line form.now)) }
+    requires { IsCalled function form.now }
     ensures { (returns : ReturnType) (taken : List Identifier) (line : ℕ) → Judges result line (refused_of returns
         known.now taken (form_tree line form.now) line (ReferenceCopied ∷ BadMode ∷ ReadOnlyWrite ∷ [])) }
 {
@@ -407,7 +404,7 @@ fn miscalled(
     form: &Form,
     function: Option<JniFunction>,
 ) -> Option<TypeRule>
-    requires { (line : ℕ) → function ≡ function_in (own_call (form_tree line form.now)) }
+    requires { IsCalled function form.now }
     ensures { (returns : ReturnType) (taken : List Identifier) (line : ℕ) → Judges result line (refused_of returns
         known.now taken (form_tree line form.now) line
         (UnknownFunction ∷ ArgumentCount ∷ ReferenceCopied ∷ BadMode ∷ ReadOnlyWrite ∷ [])) }
