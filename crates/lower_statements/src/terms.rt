@@ -180,6 +180,7 @@ fn emit_operation(
 
 /// `&&` or `||`: the left side, the jump over the right side, and the right side.
 #[cycle(expressions)]
+#[inline(always)]
 fn emit_logical(
     code: &mut Vec<Instr>,
     names: &Names<'_>,
