@@ -130,6 +130,7 @@ impl KeptFaults {
     }
 
     /// Keeps what was found at a place behind what was found before it: of all places, or of the first one alone.
+    #[inline(always)]
     pub(crate) fn keep(&mut self, found: Result<(), TypeError>) -> Result<(), AllocError>
         ensures { (broken : Faults) → Finds found broken → OnOk result (Tells self.old self.new (take 1 broken)) }
     {
