@@ -10,6 +10,7 @@ ghost use Rattle.semantics.specs.Term.{term_of};
 ghost use Rattle.code_meaning.specs.Layout.{closed, plain_layout, layout_after, else_layout, block_layout, with_name};
 ghost use Rattle.code_meaning.specs.Arguments.{paired};
 ghost use Rattle.code_meaning.specs.Coding.{mode_code, operand_code, passed_code, passed_rest, number_code, argument_code, arguments_code, arguments_texts, variable_operand, result_target, named_call_code, right_code, assign_code, write_code, of_slot, return_code, returned_code, test_code, first_code, loop_code, expr_code, plain_code, stmt_code, else_code, block_code};
+ghost use Rattle.lower_statements.specs.Emitting.{Emits};
 ghost use Rattle.lower_statements.specs.Names.{slot_view};
 
 use crate::emitting::{counted, emit, replace};
@@ -34,7 +35,7 @@ pub fn emit_form<'a>(
     line: u32,
     form: &'a Form,
 ) -> Result<(), AllocError>
-    ensures code { OnOk result (code.new.items ≡ code.old.items ++ stmt_code names.old (form_tree line form.now)) }
+    ensures code { Emits result code.old.items code.new.items (stmt_code names.old (form_tree line form.now)) }
     ensures names { OnOk result (names.new ≡ layout_after names.old (form_tree line form.now)) }
 {
     match form {
@@ -57,7 +58,7 @@ fn emit_plain<'a>(
     line: u32,
     plain: &'a PlainStmt,
 ) -> Result<(), AllocError>
-    ensures code { OnOk result (code.new.items ≡ code.old.items ++ plain_code names.old line (plain_tree plain.now)) }
+    ensures code { Emits result code.old.items code.new.items (plain_code names.old line (plain_tree plain.now)) }
     ensures names { OnOk result (names.new ≡ plain_layout names.old (plain_tree plain.now)) }
 {
     match plain {
@@ -87,7 +88,7 @@ fn emit_else<'a>(
     names: &mut Names<'a>,
     other: &'a Else,
 ) -> Result<(), AllocError>
-    ensures code { OnOk result (code.new.items ≡ code.old.items ++ else_code names.old (else_tree other.now)) }
+    ensures code { Emits result code.old.items code.new.items (else_code names.old (else_tree other.now)) }
     ensures names { OnOk result (names.new ≡ closed names.old (else_layout names.old (else_tree other.now))) }
 {
     match other {
@@ -124,8 +125,8 @@ fn emit_first<'a>(
     first: &'a Block,
 ) -> Result<usize, AllocError>
     ensures end { IfOk result (λ end. end + 1 ≡ vec_len code.new) }
-    ensures code { OnOk result (code.new.items ≡ code.old.items
-        ++ first_code (test_code names.old.known line (test_tree test.now))
+    ensures code { Emits result code.old.items code.new.items
+        (first_code (test_code names.old.known line (test_tree test.now))
         (block_code names.old (block_tree first.now))) }
     ensures names { OnOk result (names.new ≡ closed names.old (block_layout names.old (block_tree first.now))) }
 {
@@ -170,8 +171,8 @@ fn emit_loop<'a>(
     body: &'a Block,
     test: ExprRef<'_>,
 ) -> Result<(), AllocError>
-    ensures code { OnOk result (code.new.items ≡ code.old.items
-        ++ loop_code (expr_code names.old.known line (ref_tree test.entry))
+    ensures code { Emits result code.old.items code.new.items
+        (loop_code (expr_code names.old.known line (ref_tree test.entry))
         (block_code names.old (block_tree body.now))) }
     ensures names { OnOk result (names.new ≡ closed names.old (block_layout names.old (block_tree body.now))) }
 {
@@ -205,7 +206,7 @@ fn emit_test(
     line: u32,
     test: &Test,
 ) -> Result<(), AllocError>
-    ensures { OnOk result (code.new.items ≡ code.old.items ++ test_code names.now.known line (test_tree test.now)) }
+    ensures { Emits result code.old.items code.new.items (test_code names.now.known line (test_tree test.now)) }
 {
     match test {
         Test::Expr(expr) => emit_expr(code, names, line, expr.whole()),
@@ -221,7 +222,7 @@ fn emit_array<'a>(
     element: ElementType,
     len: u32,
 ) -> Result<(), AllocError>
-    ensures code { OnOk result (code.new.items ≡ code.old.items ++ Instr.ClearArray (record { start = names.old.slots.numbers; len = len }) ∷ []) }
+    ensures code { Emits result code.old.items code.new.items (Instr.ClearArray (record { start = names.old.slots.numbers; len = len }) ∷ []) }
     ensures names { OnOk result (names.new ≡ with_name name.now (ExprType.Array element len) names.old) }
 {
     let start = names.slots().numbers;
@@ -237,7 +238,7 @@ fn emit_assignment(
     name: &Name,
     right: &RightSide,
 ) -> Result<(), AllocError>
-    ensures { OnOk result (code.new.items ≡ code.old.items ++ assign_code names.now.known line (lookup name.now names.now.known) (right_side_tree right.now)) }
+    ensures { Emits result code.old.items code.new.items (assign_code names.now.known line (lookup name.now names.now.known) (right_side_tree right.now)) }
 {
     match names.slot_of(name) {
         Some(slot) => emit_right(code, names, line, slot, right),
@@ -253,7 +254,7 @@ fn emit_right(
     slot: Slot,
     right: &RightSide,
 ) -> Result<(), AllocError>
-    ensures { OnOk result (code.new.items ≡ code.old.items ++ right_code names.now.known line (slot_view slot) (right_side_tree right.now)) }
+    ensures { Emits result code.old.items code.new.items (right_code names.now.known line (slot_view slot) (right_side_tree right.now)) }
 {
     match right {
         RightSide::Expr(value) => match value.whole().shape() {
@@ -292,7 +293,7 @@ fn emit_print(
     line: u32,
     number: ExprRef<'_>,
 ) -> Result<(), AllocError>
-    ensures { OnOk result (code.new.items ≡ code.old.items ++ (expr_code names.now.known line (ref_tree number.entry) ++ Instr.PutJint ∷ [])) }
+    ensures { Emits result code.old.items code.new.items (expr_code names.now.known line (ref_tree number.entry) ++ Instr.PutJint ∷ []) }
 {
     emit_expr(code, names, line, number)?;
     emit(code, Instr::PutJint)
@@ -306,7 +307,7 @@ fn emit_write(
     line: u32,
     name: &Name,
 ) -> Result<(), AllocError>
-    ensures { OnOk result (code.new.items ≡ code.old.items ++ of_slot (write_code line) (lookup name.now names.now.known)) }
+    ensures { Emits result code.old.items code.new.items (of_slot (write_code line) (lookup name.now names.now.known)) }
 {
     match names.slot_of(name) {
         Some(
@@ -343,8 +344,8 @@ fn emit_call(
     target: Target,
     call: &Call,
 ) -> Result<(), AllocError>
-    ensures { OnOk result (code.new.items ≡ code.old.items
-        ++ named_call_code names.now.known line target (function_named (call_tree call.now).function)
+    ensures { Emits result code.old.items code.new.items
+        (named_call_code names.now.known line target (function_named (call_tree call.now).function)
         (call_tree call.now).arguments) }
 {
     let Some(function) = function_named(call.function.as_bytes()) else {
@@ -367,8 +368,8 @@ fn emit_arguments(
     parameters: Parameters,
     arguments: &[Argument],
 ) -> Result<(), AllocError>
-    ensures { OnOk result (code.new.items ≡ code.old.items
-        ++ arguments_code names.now.known line (paired parameters (map argument_tree arguments.now))) }
+    ensures { Emits result code.old.items code.new.items
+        (arguments_code names.now.known line (paired parameters (map argument_tree arguments.now))) }
 {
     match arguments {
         [] => Ok(()),
@@ -390,7 +391,7 @@ fn emit_argument(
     parameter: ParameterKind,
     argument: &Argument,
 ) -> Result<(), AllocError>
-    ensures { OnOk result (code.new.items ≡ code.old.items ++ argument_code names.now.known line (parameter, argument_tree argument.now)) }
+    ensures { Emits result code.old.items code.new.items (argument_code names.now.known line (parameter, argument_tree argument.now)) }
 {
     match (parameter, argument) {
         (ParameterKind::IntNumber, Argument::Value(number)) => {
@@ -410,7 +411,7 @@ fn emit_passed(
     line: u32,
     given: ExprRef<'_>,
 ) -> Result<(), AllocError>
-    ensures { OnOk result (code.new.items ≡ code.old.items ++ passed_rest names.now.known line (ref_tree given.entry)) }
+    ensures { Emits result code.old.items code.new.items (passed_rest names.now.known line (ref_tree given.entry)) }
 {
     match given.shape() {
         Shape::Named(Constant::Null) => Ok(()),
@@ -421,7 +422,7 @@ fn emit_passed(
 
 /// A variable's value, where it is a `jint`.
 fn emit_number(code: &mut Vec<Instr>, names: &Names<'_>, name: &Name) -> Result<(), AllocError>
-    ensures { OnOk result (code.new.items ≡ code.old.items ++ of_slot number_code (lookup name.now names.now.known)) }
+    ensures { Emits result code.old.items code.new.items (of_slot number_code (lookup name.now names.now.known)) }
 {
     match names.slot_of(name) {
         Some(
@@ -573,7 +574,7 @@ fn emit_return(
     line: u32,
     value: ExprRef<'_>,
 ) -> Result<(), AllocError>
-    ensures { OnOk result (code.new.items ≡ code.old.items ++ return_code names.now.known line (term_of (ref_tree value.entry))) }
+    ensures { Emits result code.old.items code.new.items (return_code names.now.known line (term_of (ref_tree value.entry))) }
 {
     match value.shape() {
         Shape::Named(Constant::Null) => {
@@ -590,7 +591,7 @@ fn emit_return(
 
 /// A return of a name, a reference or a number.
 fn emit_returned(code: &mut Vec<Instr>, names: &Names<'_>, name: &Name) -> Result<(), AllocError>
-    ensures { OnOk result (code.new.items ≡ code.old.items ++ of_slot returned_code (lookup name.now names.now.known)) }
+    ensures { Emits result code.old.items code.new.items (of_slot returned_code (lookup name.now names.now.known)) }
 {
     match names.slot_of(name) {
         Some(

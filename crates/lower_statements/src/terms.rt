@@ -8,6 +8,7 @@ ghost use Rattle.syntax.specs.Tree.{Binary};
 ghost use Rattle.semantics.specs.Term as term;
 ghost use Rattle.semantics.specs.Term.{term_of};
 ghost use Rattle.code_meaning.specs.Coding.{nullable_of, element_code, null_code, of_slot, load_code, constant_code, prefix_code, operator_code, is_signed, skip_code, logical_code, term_code, expr_code};
+ghost use Rattle.lower_statements.specs.Emitting.{Emits};
 
 use crate::emitting::{counted, emit, replace};
 use crate::names::{Names, Slot};
@@ -32,7 +33,7 @@ pub fn emit_expr(
     line: u32,
     expr: ExprRef<'_>,
 ) -> Result<(), AllocError>
-    ensures { OnOk result (code.new.items ≡ code.old.items ++ expr_code names.now.known line (ref_tree expr.entry)) }
+    ensures { Emits result code.old.items code.new.items (expr_code names.now.known line (ref_tree expr.entry)) }
 {
     match expr.shape() {
         Shape::Number { value, .. } => emit(code, Instr::Push(value)),
@@ -63,7 +64,7 @@ pub fn emit_expr(
 
 /// A variable's value.
 fn emit_variable(code: &mut Vec<Instr>, names: &Names<'_>, name: &Name) -> Result<(), AllocError>
-    ensures { OnOk result (code.new.items ≡ code.old.items ++ of_slot load_code (lookup name.now names.now.known)) }
+    ensures { Emits result code.old.items code.new.items (of_slot load_code (lookup name.now names.now.known)) }
 {
     match names.slot_of(name) {
         Some(slot) => emit(code, Instr::Load(slot.index)),
@@ -73,7 +74,7 @@ fn emit_variable(code: &mut Vec<Instr>, names: &Names<'_>, name: &Name) -> Resul
 
 /// A named constant. NULL is no number, and modes are none that are worked out.
 fn emit_constant(code: &mut Vec<Instr>, constant: Constant) -> Result<(), AllocError>
-    ensures { OnOk result (code.new.items ≡ code.old.items ++ constant_code constant) }
+    ensures { Emits result code.old.items code.new.items (constant_code constant) }
 {
     match constant {
         Constant::True => emit(code, Instr::Push(1)),
@@ -89,7 +90,7 @@ fn emit_element(
     line: u32,
     name: &Name,
 ) -> Result<(), AllocError>
-    ensures { OnOk result (code.new.items ≡ code.old.items ++ of_slot (element_code line) (lookup name.now names.now.known)) }
+    ensures { Emits result code.old.items code.new.items (of_slot (element_code line) (lookup name.now names.now.known)) }
 {
     match names.slot_of(name) {
         Some(
@@ -120,8 +121,8 @@ fn emit_binary(
     operation: &Operation<'_>,
 ) -> Result<(), AllocError>
     requires { null_tested (Binary operation.now.operator (ref_tree operation.now.left) (ref_tree operation.now.right)) ≡ None }
-    ensures { OnOk result (code.new.items ≡ code.old.items
-        ++ expr_code names.now.known line (Binary operation.now.operator (ref_tree operation.now.left)
+    ensures { Emits result code.old.items code.new.items
+        (expr_code names.now.known line (Binary operation.now.operator (ref_tree operation.now.left)
         (ref_tree operation.now.right))) }
 {
     match operation.operator {
@@ -154,8 +155,8 @@ fn emit_operator(
     line: u32,
     operation: &Operation<'_>,
 ) -> Result<(), AllocError>
-    ensures { OnOk result (code.new.items ≡ code.old.items
-        ++ term_code names.now.known line (term.Binary operation.now.operator (term_of (ref_tree operation.now.left))
+    ensures { Emits result code.old.items code.new.items
+        (term_code names.now.known line (term.Binary operation.now.operator (term_of (ref_tree operation.now.left))
         (term_of (ref_tree operation.now.right)))) }
 {
     emit_expr(code, names, line, operation.left)?;
@@ -171,8 +172,8 @@ fn emit_operation(
     operator: BinaryOp,
     left: ExprRef<'_>,
 ) -> Result<(), AllocError>
-    ensures { OnOk result (code.new.items ≡ code.old.items
-        ++ operator_code line (is_signed names.now.known (term_of (ref_tree left.entry))) operator ∷ []) }
+    ensures { Emits result code.old.items code.new.items
+        (operator_code line (is_signed names.now.known (term_of (ref_tree left.entry))) operator ∷ []) }
 {
     let signed = is_signed(names, left);
     emit(code, operator_instr(line, signed, operator))
@@ -188,8 +189,8 @@ fn emit_logical(
     conjunction: bool,
     operation: &Operation<'_>,
 ) -> Result<(), AllocError>
-    ensures { OnOk result (code.new.items ≡ code.old.items
-        ++ logical_code conjunction (expr_code names.now.known line (ref_tree operation.now.left))
+    ensures { Emits result code.old.items code.new.items
+        (logical_code conjunction (expr_code names.now.known line (ref_tree operation.now.left))
         (expr_code names.now.known line (ref_tree operation.now.right))) }
 {
     emit_expr(code, names, line, operation.left)?;
@@ -226,7 +227,7 @@ fn emit_null_test(
     name: &Name,
     equal: bool,
 ) -> Result<(), AllocError>
-    ensures { OnOk result (code.new.items ≡ code.old.items ++ null_code equal (lookup name.now names.now.known)) }
+    ensures { Emits result code.old.items code.new.items (null_code equal (lookup name.now names.now.known)) }
 {
     match names.slot_of(name) {
         Some(slot) => match nullable(slot) {
