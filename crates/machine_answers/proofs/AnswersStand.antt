@@ -1,6 +1,6 @@
 -- An answer stands for the source's where it is seen as that, and what it names is there: a row for each answer.
 use Rattle.std.proofs.Common.{Fits, ◌≡◌, ℕ, zero, suc, ◌<◌, ◌≤◌, ◌^◌, Bool, true, false, not, List, [], ◌∷◌, ◌++◌, length, Option, Some, None, slice_get, refl, sym, ap, ◌∙◌, subst, arith}
-use Rattle.std.specs.Prelude.{◌==◌, ◌&&◌, FitsSigned, is_some, nat_lt}
+use Rattle.std.specs.Prelude.{◌==◌, ◌&&◌, ◌-◌, FitsSigned, if◌then◌else◌, is_none, is_some, nat_lt, replicate}
 use Rattle.std.specs.Int.{w32, cast_signed, cast_unsigned}
 use Rattle.std.specs.Option.{option_map, option_map_or}
 use Rattle.std.proofs.lemmas.Bool.{and_parts, eqb-true, ltb-true}
@@ -19,24 +19,36 @@ use Rattle.heap.specs.Heap.{Block, Space, block_at, name_at, values_at}
 use Rattle.heap.specs.declared.value.Value.{Value}
 use Rattle.heap.specs.declared.value.Value.TheVariants as cell
 use Rattle.jni.specs.declared.function.JniFunction.{JniFunction}
-use Rattle.jni.specs.declared.function.JniFunction.TheVariants.{DeleteLocalRef}
-use Rattle.jni.specs.JniFunction.{parameters_for}
+use Rattle.jni.specs.declared.function.JniFunction.TheVariants.{DeleteLocalRef, MonitorEnter}
+use Rattle.jni.specs.JniFunction.{calls_method, parameters_for, prototype}
+use Rattle.jni.specs.Subjects.{subject_of}
 use Rattle.jni.specs.declared.kinds.ParameterKind.{ParameterKind}
-use Rattle.jni.specs.declared.kinds.ParameterKind.TheVariants.{ClassObject}
+use Rattle.jni.specs.declared.kinds.ParameterKind.TheVariants.{ClassObject, NonNull, NumberArray, Passed, StringObject}
 use Rattle.jni.specs.declared.kinds.ResultKind.{ResultKind}
 use Rattle.jni.specs.declared.kinds.ResultKind.TheVariants.{GivesInt, GivesNothing, NewLocal}
 use Rattle.semantics.specs.Answer as source
-use Rattle.semantics.specs.Arguments.{name_or_zero, variable_given}
+use Rattle.semantics.specs.Arguments.{name_or_zero, object_given, variable_given}
+use Rattle.semantics.specs.AnswerTable.{monitor_entered, monitor_left}
 use Rattle.semantics.specs.CallEffects.{CallResult, level_of}
 use Rattle.semantics.specs.CallSight.{CallSight, name_of_first, name_of_second}
-use Rattle.semantics.specs.CallStep.{target_element}
+use Rattle.semantics.specs.CallStep.{is_owned_by_other, target_element, trap_of_call}
 use Rattle.semantics.specs.Checks.{go_together}
 use Rattle.semantics.specs.Heap.{values_of}
 use Rattle.semantics.specs.Object.{Object, ObjectValue, Number, Reference, Refers}
+use Rattle.semantics.specs.Thread.{monitor_of as monitor_in}
+use Rattle.semantics.specs.declared.trap.Trap.{Trap}
 use Rattle.semantics.specs.Variable.{Cleared, Weakly}
 use Rattle.semantics.proofs.AnswerFacts.{IsMade, IsOfKind, IsRaised, NoClass, NoElement, NoField, NoMethod, NoOwner, NoSize, NoStore, NoUnit, OfClass, OfField, OfFlag, OfInt, OfMethod, OfNothing, OfNumbers, OfReference, OfReferences, OfText, OfWeak, Takes}
-use Rattle.semantics.proofs.AnswerKinds.{AnswersAs, CallKind, EndingGlobal, EndingLocal, EndingNoLocal, EndingNoStatic, EndingWeak, EndsLocal, EndsStatic, Ensuring, EnsuringNone, FillingNone, Giving, Halting, IsChecked, Making, MakingGlobal, Pending, Popping, Pushing, PushingNone, Raising, RaisingWith, Writing, answers_as, call_kind}
+use Rattle.semantics.proofs.AnswerKinds.{AnswersAs, CallKind, Disowning, EndingGlobal, EndingLocal, EndingNoLocal, EndingNoStatic, EndingWeak, EndsLocal, EndsStatic, Ensuring, EnsuringNone, FillingNone, Giving, Halting, IsChecked, Making, MakingGlobal, Owning, Pending, Popping, Pushing, PushingNone, Raising, RaisingWith, Writing, answers_as, call_kind}
 use Rattle.world_values.proofs.LoadedWorlds.{class_within}
+use Rattle.code_meaning.specs.Fits.{IsReferenceKind}
+use Rattle.monitors.specs.Monitors.{entering, leaving, monitor_of}
+use Rattle.monitors.specs.declared.monitors.Enter.{Enter}
+use Rattle.monitors.specs.declared.monitors.Enter.TheVariants.{Entered}
+use Rattle.monitors.specs.declared.monitors.Exit.{Exit}
+use Rattle.monitors.specs.declared.monitors.Exit.TheVariants.{Left}
+use Rattle.monitors.specs.declared.monitors.Object.{Object as MonitorObject}
+use Rattle.machine_scenes.proofs.ForetoldMonitors.{may_enter, owns}
 use Rattle.machine_scenes.specs.declared.new_object.New.{New}
 use Rattle.machine_scenes.specs.declared.new_object.New.TheVariants as news
 use Rattle.machine_scenes.specs.declared.references.Held.{Held}
@@ -54,17 +66,21 @@ use Rattle.machine_answers.specs.declared.answer.Given.TheVariants as given
 use Rattle.machine_answers.specs.Answered.{TwoCalls, Asked, IsAnswerTo, Passes, scene, unit}
 use Rattle.machine_answers.specs.Answers.{GivenAgrees}
 use Rattle.machine_answers.specs.Answers as row
-use Rattle.machine_answers.specs.AnswersSeen.{CallsMethod, EndsFirst, IsSeen, IsThere, WhenPassed, answer_seen, answer_there, given_seen, given_there, held_name, is_at, is_key, is_static_at, is_weak, made_seen, named, new_there, reference_there, value_there}
+use Rattle.machine_answers.specs.AnswersSeen.{CallsMethod, EndsFirst, IsSeen, IsThere, WhenPassed, answer_seen, answer_there, given_seen, given_there, held_name, is_at, is_entered, is_key, is_left, is_static_at, is_weak, made_seen, named, new_there, owned_seen, reference_there, takes_object, value_there}
 use Rattle.machine_answers.specs.Asked.{deletes_static}
+use Rattle.machine_answers.specs.Checked.{may_be_null}
 use Rattle.machine_answers.specs.Sights.{held_seen, name_seen, value_seen}
 use Rattle.machine_answers.proofs.CallOperands.{few_there, own_making}
-use Rattle.machine_answers.proofs.CallTraps.{goes_together, same_pending}
+use Rattle.machine_answers.proofs.CallTraps.{goes_together, same_pending, seen_is}
 use Rattle.machine_answers.proofs.FieldValues.{values_there}
 use Rattle.machine_answers.proofs.KindAnswers.{InTable, IsStatic, Stands, does, named as named_at, own_key, pending_named, same_names, same_sight, sight, static_named}
 use Rattle.machine_answers.proofs.LongTables.{class_is_no_throwable, class_is_plain}
+use Rattle.machine_answers.proofs.MonitorAnswers.{changes_monitor, entered, left}
 use Rattle.machine_answers.proofs.SightParts.{name_is}
+use Rattle.machine_answers.proofs.SightsAgree.{monitor_is}
+use Rattle.machine_answers.proofs.TrapsSeen.{with_depth}
 use Rattle.tables.specs.Locals.{LocalTable}
-use Rattle.machine_answers.proofs.TwoCalls.{all, at, built_in_class, class_given, method_error, references}
+use Rattle.machine_answers.proofs.TwoCalls.{all, at, built_in_class, class_given, method_error, object_given_at, references}
 
 -- ---- what is given
 
@@ -135,6 +151,30 @@ same_static o i j is there = absurd (cc)
 key_is : (o : Option ℕ) (key : ℕ) → is_key o key ≡ true → o ≡ Some key
 key_is None key there = absurd (cc)
 key_is (Some k) key there = ap (λ (n : ℕ). Some n) (eqb-true k key there)
+
+came_in : (came : Enter) → is_entered came ≡ true → came ≡ Entered
+came_in Entered is = refl
+came_in came is = absurd (cc)
+
+came_out : (came : Exit) → is_left came ≡ true → came ≡ Left
+came_out Left is = refl
+came_out came is = absurd (cc)
+
+-- a parameter for an object that isn't NULL
+abbrev is_object : Option ParameterKind → Bool
+is_object (Some NonNull) = true
+is_object (Some StringObject) = true
+is_object (Some (NumberArray T)) = true
+is_object p = false
+
+object_kind : (q : ParameterKind) → is_object (Some q) ≡ true → IsReferenceKind q × (may_be_null q ≡ false)
+object_kind NonNull is = (tt, refl)
+object_kind StringObject is = (tt, refl)
+object_kind (NumberArray T) is = (tt, refl)
+object_kind q is = absurd (cc)
+
+first_kind : (f : JniFunction) → takes_object (subject_of f) ≡ true → is_object (slice_get (prototype f).parameters 0) ≡ true
+first_kind f takes = grind (arith, takes)
 
 -- ---- a call
 
@@ -243,6 +283,31 @@ module _ (both : TwoCalls) where
     thrown {kind = kind} class c same makes =
         subst (λ (n : ℕ). Stands both (replies.Throws class) kind (source.Raises n)) same (row.throws (subst (IsMakeable w.classes) (sym same) makes))
 
+    -- an answer that changes a monitor gives a number
+    of_monitor : {of : CallKind} {kind : ResultKind} {a : source.Answer} → AnswersAs (unit both) w.classes seen f of kind a → changes_monitor a ≡ true → kind ≡ GivesInt
+    of_monitor (Owning n count) is = refl
+    of_monitor (Disowning n) is = refl
+    of_monitor rows is = absurd (cc)
+
+    -- the monitor of an object is the source's
+    owned : (n : ℕ) → owned_seen (scene both) n ≡ monitor_in shared.monitors n
+    owned n = monitor_is (monitor_of store.monitors n) (monitor_in shared.monitors n) (h.store_agrees.monitors.at n)
+
+    enters : {kind : ResultKind} {a : source.Answer} (o : MonitorObject) → monitor_entered o.name (owned_seen (scene both) o.name) ≡ a → kind ≡ GivesInt → name_at store.heap o.address ≡ Some o.name
+        → entering k (monitor_of store.monitors o.name) ≡ Entered → Stands both (replies.Enters o) kind a
+    enters {kind = kind} o is gives there came =
+        let may = may_enter k store.monitors shared.monitors h.store_agrees.monitors o.name (sym came) in
+        subst (λ (y : source.Answer). Stands both (replies.Enters o) kind y) (ap (monitor_entered o.name) (sym (owned o.name)) ∙ is)
+        (subst (λ (q : ResultKind). Stands both (replies.Enters o) q (monitor_entered o.name (monitor_in shared.monitors o.name))) (sym gives)
+        (row.enters (record { there = there; own = may.own; few = may.few })))
+
+    exits : {kind : ResultKind} {a : source.Answer} (n : ℕ) → monitor_left k n (owned_seen (scene both) n) ≡ a → kind ≡ GivesInt → leaving k (monitor_of store.monitors n) ≡ Left → Stands both (replies.Exits n) kind a
+    exits {kind = kind} n is gives came =
+        let own = owns k store.monitors shared.monitors h.store_agrees.monitors n (sym came) in
+        subst (λ (y : source.Answer). Stands both (replies.Exits n) kind y) (ap (monitor_left k n) (sym (owned n)) ∙ is)
+        (subst (λ (q : ResultKind). Stands both (replies.Exits n) q (monitor_left k n (monitor_in shared.monitors n))) (sym gives)
+        (row.exits (record { monitor = own.monitor; owned = own.owned; own = own.own })))
+
     -- the answer to a call whose answer is of a row
     stand : {of : CallKind} {kind : ResultKind} {a : source.Answer} (x : Answer) → call_kind f ≡ of → AnswersAs (unit both) w.classes seen f of kind a → answer_seen (scene both) call kind x ≡ a
         → answer_there (scene both) call kind x ≡ true → Stands both x kind a
@@ -286,6 +351,10 @@ module _ (both : TwoCalls) where
         subst (λ (y : source.Answer). Stands both (replies.DeletesGlobal i) GivesNothing y) is (global_ends i (static_at (references both) i) parts.1 (static_ends i of parts.0))
     stand (replies.DeletesWeak i) of EndingWeak is there =
         let parts = and_parts (is_static_at (operand_of call.operands 0) i) (is_weak (static_at (references both) i)) there in weak_ends i (static_at (references both) i) parts.1 (static_ends i of parts.0)
+    stand (replies.Enters o) of rows is there =
+        let parts = and_parts (is_key (name_at store.heap o.address) o.name) (is_entered (entering k (monitor_of store.monitors o.name))) there in
+        enters o is (of_monitor rows (ap changes_monitor (sym is) ∙ entered k o.name (monitor_of store.monitors o.name) parts.1)) (key_is _ o.name parts.0) (came_in _ parts.1)
+    stand (replies.Exits n) of rows is there = exits n is (of_monitor rows (ap changes_monitor (sym is) ∙ left k n (monitor_of store.monitors n) there)) (came_out _ there)
     stand x of rows is there = absurd (cc)
 
 -- ---- what is known of a call that has passed its checks
@@ -339,13 +408,35 @@ module _ (both : TwoCalls) where
     name : (i : ℕ) → name_of store.heap (at both i) ≡ name_or_zero (name_seen store.heap (at both i))
     name i = name_is store.heap (at both i)
 
+    -- the object of the first argument
+    first_object : Passes both → takes_object (subject_of f) ≡ true → is_some (name_seen store.heap (at both 0)) ≡ true
+    first_object free takes = by_parameters (prototype f).parameters refl (first_kind f takes)
+      where
+        by_parameters : (ps : List ParameterKind) → (prototype f).parameters ≡ ps → is_object (slice_get ps 0) ≡ true → is_some (name_seen store.heap (at both 0)) ≡ true
+        by_parameters [] are is = absurd (cc)
+        by_parameters (q ∷ ps) are is =
+            let kind = object_kind q is in
+            let more = if calls_method f then replicate (length args - length (prototype f).parameters) Passed else [] in
+            let object = object_given_at both f [] q (ps ++ more) kind.0 kind.1 (ap (λ (l : List ParameterKind). l ++ more) are) h free in
+            ap (λ (o : Option ℕ). is_some (name_seen store.heap o)) object.at ∙ ap is_some object.named
+
+    -- the thread doesn't wait, so no other thread owns the object
+    not_owned : Passes both → f ≡ MonitorEnter → is_owned_by_other k (owned_seen (scene both) (name_of store.heap (at both 0))) ≡ false
+    not_owned free of =
+        let here : Asked both MonitorEnter = subst (λ (g : JniFunction). Asked both g) of h in
+        let none : trap_of_call w.classes shared s target MonitorEnter args ≡ None = sym (seen_is p w store pending activation call others k owner shared s target MonitorEnter args here) ∙ ap (with_depth false) free in
+        ap (λ (x : CallSight). is_owned_by_other k x.monitor) (same_sight both MonitorEnter here)
+        ∙ ap (λ (o : Option Trap). is_none o && is_owned_by_other k (monitor_in shared.monitors (object_given args 0))) (sym none) ∙ here.ready
+
     -- what holds of it
-    passed : {P : Type 0} → WhenPassed (scene both) (record call { function = f }) P → P
-    passed so =
+    passed : {P : Type 0} → Passes both → WhenPassed (scene both) (record call { function = f }) P → P
+    passed free so =
         so (sym (same_pending store.heap pending _ (pending_named both f h)))
         ((λ i. name 0 i == name 1 i) ∙ same_names both (at both 0) (at both 1) (name_seen store.heap (at both 0)) (name_seen store.heap (at both 1)) h.store_agrees.heap (named_at both f h 0) (named_at both f h 1))
         (to_z_pos w32 (few_there store.heap (at both 0) h.store_agrees.laid_out (omega (arith, sound.cells, h.store_agrees.cells))))
         (λ is. some_key store.heap activation.locals (key_at (references both) (operand_of call.operands 0)) (name_seen store.heap (at both 0)) (level_of (lookup (variable_given args 0) s.variables)) (own_key both f h is))
+        (first_object free)
+        (not_owned free)
 
 -- an answer that is seen as the source's stands for it
 pub answers_seen : (sees : Scene) (call : Call) (x : Answer) → IsSeen sees call x → IsThere sees call x → EndsFirst sees call x → CallsMethod call x → IsAnswerTo sees call x
@@ -358,7 +449,7 @@ answers_seen sees call x is there ends calls = record {
       let found : IsThere (scene both) (record both.call { function = f }) x =
       subst (λ (y : Scene). IsThere y (record both.call { function = f }) x) (sym same) (subst (λ (c : Call). IsThere sees c x) (sym (ap (λ (c : Call). record c { function = f }) here ∙ called)) there) in
       does both f h
-      (stand both f h free x refl (answers_as (unit both) both.w.classes both.k (sight both f) f) (passed both f h (seen both.activation.locals (length both.s.callers))) (found (agreed_there both.store.heap both.pending both.s.pending h.pending_agrees) (heap_cells both f h)));
+      (stand both f h free x refl (answers_as (unit both) both.w.classes both.k (sight both f) f) (passed both f h free (seen both.activation.locals (length both.s.callers))) (found (agreed_there both.store.heap both.pending both.s.pending h.pending_agrees) (heap_cells both f h)));
   ends = ends;
   calls = calls;
 }

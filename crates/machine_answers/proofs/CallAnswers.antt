@@ -11,7 +11,7 @@ use Rattle.classes.specs.declared.class.FieldHandle.{FieldHandle}
 use Rattle.code.specs.Call.{Call}
 use Rattle.code.specs.Effect.{truth_word}
 use Rattle.jni.specs.declared.function.JniFunction.{JniFunction}
-use Rattle.jni.specs.declared.function.JniFunction.TheVariants.{GetBuffer, ReleaseBuffer, FindClass, AllocObject, GetFieldID, GetStaticFieldID, GetSuperclass, GetObjectClass, IsInstanceOf, IsAssignableFrom, GetField, SetField, GetObjectField, SetObjectField, GetStaticField, SetStaticField, GetStaticObjectField, SetStaticObjectField, MonitorEnter, MonitorExit, GetArrayRegion, SetArrayRegion, GetStringRegion, GetStaticMethodID, CallStaticVoidMethod, CallStaticIntMethod, CallStaticObjectMethod}
+use Rattle.jni.specs.declared.function.JniFunction.TheVariants.{GetBuffer, ReleaseBuffer, FindClass, AllocObject, GetFieldID, GetStaticFieldID, GetSuperclass, GetObjectClass, IsInstanceOf, IsAssignableFrom, GetField, SetField, GetObjectField, SetObjectField, GetStaticField, SetStaticField, GetStaticObjectField, SetStaticObjectField, GetArrayRegion, SetArrayRegion, GetStringRegion, GetStaticMethodID, CallStaticVoidMethod, CallStaticIntMethod, CallStaticObjectMethod}
 use Rattle.jni.specs.JniFunction.{calls_method, prototype}
 use Rattle.jni.specs.Subjects.{subject_of}
 use Rattle.jni.specs.declared.kinds.ParameterKind.TheVariants.{ClassObject, FieldID, IntNumber, NonNull, Nullable, NumberArray, StringObject}
@@ -43,7 +43,6 @@ use Rattle.machine_answers.proofs.KindAnswers.{Stands, back, class_agrees, class
 use Rattle.machine_answers.proofs.RegionAnswers.{numbers_are, region_given, region_read, region_written}
 use Rattle.machine_answers.proofs.BufferAnswers.{answers_get_buffer, answers_release}
 use Rattle.machine_answers.proofs.MethodAnswers.{method_called}
-use Rattle.machine_answers.proofs.MonitorAnswers.{answers_enter, answers_exit}
 
 module _ (both : TwoCalls) where
   open both use {p, w, store, pending, activation, call, others, k, owner, shared, s, target, sound, args}
@@ -143,8 +142,6 @@ module _ (both : TwoCalls) where
       stands both is (region_read both g GetStringRegion h string_index_out_of_bounds (omega arith) (omega arith))
   seen (GetBuffer access) here h free answer is = back both (GetBuffer access) h (answers_get_buffer both access h free answer is)
   seen (ReleaseBuffer access) here h free answer is = back both (ReleaseBuffer access) h (answers_release both access h free answer is)
-  seen MonitorEnter here h free answer is = back both MonitorEnter h (answers_enter both h free answer is)
-  seen MonitorExit here h free answer is = back both MonitorExit h (answers_exit both h free answer is)
   seen CallStaticVoidMethod here h free answer is = stands both is (back both CallStaticVoidMethod h (method_called both CallStaticVoidMethod refl h free))
   seen CallStaticIntMethod here h free answer is = stands both is (back both CallStaticIntMethod h (method_called both CallStaticIntMethod refl h free))
   seen CallStaticObjectMethod here h free answer is = stands both is (back both CallStaticObjectMethod h (method_called both CallStaticObjectMethod refl h free))

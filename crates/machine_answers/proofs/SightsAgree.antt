@@ -136,7 +136,7 @@ module _ (scene : Scene) (locals : LocalTable) (callers : ℕ) (call : Call) (he
 -- ---- what is around the arguments
 
 -- the monitor of an object
-monitor_is : (o : Option Monitor) (m : Option source_thread.Monitor) → MonitorAgrees o m → option_map monitor_seen o ≡ m
+pub monitor_is : (o : Option Monitor) (m : Option source_thread.Monitor) → MonitorAgrees o m → option_map monitor_seen o ≡ m
 monitor_is None None h = refl
 monitor_is None (Some m) h = absurd h
 monitor_is (Some x) None h = absurd h

@@ -9,16 +9,13 @@ use Rattle.code.specs.Call.{Call}
 use Rattle.code.specs.Effect.{element_word, truth_word}
 use Rattle.code.specs.declared.instr.LocalArray.{LocalArray}
 use Rattle.code_meaning.specs.Coding.{element_of}
-use Rattle.heap.specs.Heap.{Space}
 use Rattle.heap.specs.declared.value.Value.{Value}
 use Rattle.heap.specs.declared.value.Value.TheVariants as value
 use Rattle.jni.specs.declared.function.JniFunction.{JniFunction}
-use Rattle.jni.specs.declared.function.JniFunction.TheVariants.{GetBuffer, ReleaseBuffer, FindClass, GetSuperclass, GetObjectClass, IsInstanceOf, IsAssignableFrom, AllocObject, GetFieldID, GetStaticFieldID, GetField, SetField, GetStaticField, SetStaticField, GetObjectField, SetObjectField, GetStaticObjectField, SetStaticObjectField, MonitorEnter, MonitorExit, GetArrayRegion, SetArrayRegion, GetStringRegion, GetStaticMethodID, CallStaticVoidMethod, CallStaticIntMethod, CallStaticObjectMethod}
+use Rattle.jni.specs.declared.function.JniFunction.TheVariants.{GetBuffer, ReleaseBuffer, FindClass, GetSuperclass, GetObjectClass, IsInstanceOf, IsAssignableFrom, AllocObject, GetFieldID, GetStaticFieldID, GetField, SetField, GetStaticField, SetStaticField, GetObjectField, SetObjectField, GetStaticObjectField, SetStaticObjectField, GetArrayRegion, SetArrayRegion, GetStringRegion, GetStaticMethodID, CallStaticVoidMethod, CallStaticIntMethod, CallStaticObjectMethod}
 use Rattle.jni.specs.declared.subject.Subject.{Subject}
-use Rattle.jni.specs.declared.subject.Subject.TheVariants.{Arrays, Exceptions, References}
+use Rattle.jni.specs.declared.subject.Subject.TheVariants.{Arrays, Exceptions, Monitors, References}
 use Rattle.semantics.specs.Method.{find_method}
-use Rattle.monitors.specs.declared.monitors.Monitor.{Monitor}
-use Rattle.monitors.specs.Monitors.{entering, leaving, monitor_of}
 use Rattle.machine_answers.specs.declared.answer.Given.TheVariants.{Nothing, Number, Reference}
 use Rattle.machine_answers.specs.declared.answer.Answer.{Answer}
 use Rattle.machine_answers.specs.declared.answer.Answer.TheVariants.{Gives, Makes, Calls}
@@ -26,7 +23,7 @@ use Rattle.machine_scenes.specs.declared.array_region.ArrayRegion.{ArrayRegion}
 use Rattle.machine_scenes.specs.declared.new_object.New.TheVariants.{Fresh}
 use Rattle.machine_scenes.specs.Scenes.{Scene}
 use Rattle.machine_scenes.specs.Given.{operand_of, class_of_given, name_there, fits_there}
-use Rattle.machine_answers.specs.WorkedOut.{class_object, found_class, IsFoundField, IsFoundMethod, value_there, word_in, address_in, held_reference, writes_there, copies_out, copies_in, acquires, mode_of, releases, entered_by, left_by}
+use Rattle.machine_answers.specs.WorkedOut.{class_object, found_class, IsFoundField, IsFoundMethod, value_there, word_in, address_in, held_reference, writes_there, copies_out, copies_in, acquires, mode_of, releases}
 use Rattle.machine_answers.specs.WorkedOut as at
 
 -- the subjects of which what is worked out stands here
@@ -34,18 +31,8 @@ abbrev pub is_here : Subject → Bool
 is_here Arrays = false
 is_here References = false
 is_here Exceptions = false
+is_here Monitors = false
 is_here s = true
-
--- a thread enters the monitor of the object at an address
-abbrev pub enters : Space → List Monitor → (thread : ℕ) → Option ℕ → Answer
-enters space monitors thread None = Gives Nothing
-enters space monitors thread (Some a) =
-    entered_by (record { name = name_there space (Some a); address = a }) (entering thread (monitor_of monitors (name_there space (Some a))))
-
--- a thread leaves it
-abbrev pub leaves : Space → List Monitor → (thread : ℕ) → Option ℕ → Answer
-leaves space monitors thread None = Gives Nothing
-leaves space monitors thread (Some a) = left_by (name_there space (Some a)) (leaving thread (monitor_of monitors (name_there space (Some a))))
 
 -- A call that sees this.
 module _ (scene : Scene) (call : Call) where
@@ -97,8 +84,6 @@ module _ (scene : Scene) (call : Call) where
   worked_out GetStringRegion = copies_out string_index_out_of_bounds local_array region
   worked_out (GetBuffer access) = acquires access (reference 0)
   worked_out (ReleaseBuffer access) = releases scene.buffers (reference 0) (operand_of call.operands 1) (mode_of access (operand_of call.operands 2))
-  worked_out MonitorEnter = enters scene.space scene.monitors scene.thread (reference 0)
-  worked_out MonitorExit = leaves scene.space scene.monitors scene.thread (reference 0)
   worked_out CallStaticVoidMethod = Calls
   worked_out CallStaticIntMethod = Calls
   worked_out CallStaticObjectMethod = Calls

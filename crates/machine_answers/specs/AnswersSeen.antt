@@ -7,14 +7,18 @@ use Rattle.class_rules.specs.Fields.{FieldId}
 use Rattle.classes.specs.declared.class.FieldHandle.{FieldHandle}
 use Rattle.classes.specs.FieldViews.{field_of}
 use Rattle.code.specs.Call.{Call}
-use Rattle.jni.specs.declared.function.JniFunction.TheVariants.{DeleteLocalRef}
+use Rattle.jni.specs.declared.function.JniFunction.TheVariants.{DeleteLocalRef, MonitorEnter}
 use Rattle.jni.specs.declared.kinds.ResultKind.{ResultKind}
 use Rattle.jni.specs.declared.kinds.ResultKind.TheVariants.{GivesFlag}
 use Rattle.jni.specs.JniFunction.{calls_method, prototype}
+use Rattle.jni.specs.Subjects.{subject_of}
+use Rattle.jni.specs.declared.subject.Subject.{Subject}
+use Rattle.jni.specs.declared.subject.Subject.TheVariants.{Monitors}
 use Rattle.semantics.specs.Answer as source
 use Rattle.semantics.specs.Answer.{Region}
 use Rattle.semantics.specs.AnswerTable.{call_answer, method_called, monitor_entered, monitor_left, released}
 use Rattle.semantics.specs.Arguments.{name_or_zero}
+use Rattle.semantics.specs.CallStep.{is_owned_by_other}
 use Rattle.semantics.specs.CallEffects.{CallResult, same_reference, NoResult, NullResult, ScalarResult, ReferenceResult, WeakResult, FieldResult, MethodResult, string_object, with_message}
 use Rattle.semantics.specs.Object.{Object, Reference}
 use Rattle.semantics.specs.Thread.{Monitor}
@@ -30,7 +34,11 @@ use Rattle.code.specs.declared.instr.Operand.TheVariants as operand
 use Rattle.tables.specs.Locals.{LocalTable}
 use Rattle.machine_scenes.specs.declared.references.Held.{Held}
 use Rattle.machine_scenes.specs.declared.references.Held.TheVariants as held
-use Rattle.monitors.specs.Monitors.{monitor_of}
+use Rattle.monitors.specs.declared.monitors.Enter.{Enter}
+use Rattle.monitors.specs.declared.monitors.Enter.TheVariants.{Entered}
+use Rattle.monitors.specs.declared.monitors.Exit.{Exit}
+use Rattle.monitors.specs.declared.monitors.Exit.TheVariants.{Left}
+use Rattle.monitors.specs.Monitors.{entering, leaving, monitor_of}
 use Rattle.machine_answers.specs.declared.answer.Given.{Given}
 use Rattle.machine_answers.specs.declared.answer.Given.TheVariants as given
 use Rattle.machine_answers.specs.declared.answer.Answer.{Answer}
@@ -146,7 +154,7 @@ new_there space (new.Array array) = value_there space array.value
 new_there space (new.Exception class message) = false
 new_there space n = true
 
--- a local reference has this key
+-- a local reference has this key, or an object this name
 abbrev pub is_key : Option ℕ → ℕ → Bool
 is_key None key = false
 is_key (Some k) key = k == key
@@ -165,7 +173,17 @@ is_weak (held.Weakly a) = true
 is_weak held.Cleared = true
 is_weak h = false
 
--- an answer of those that are seen so: none of regions, buffers, monitors and methods
+-- a monitor is entered
+abbrev pub is_entered : Enter → Bool
+is_entered Entered = true
+is_entered came = false
+
+-- a monitor is left
+abbrev pub is_left : Exit → Bool
+is_left Left = true
+is_left came = false
+
+-- an answer of those that are seen so: none of regions, buffers and methods
 abbrev pub answer_there : Scene → Call → ResultKind → Answer → Bool
 answer_there scene call kind (answer.Gives g) = given_there scene.space kind g
 answer_there scene call kind (answer.Writes a i v) =
@@ -178,6 +196,9 @@ answer_there scene call kind (answer.MakesGlobal a) = reference_there scene.spac
 answer_there scene call kind (answer.DeletesGlobal i) = is_static_at (operand_of call.operands 0) i && is_at (static_at scene.references i)
 answer_there scene call kind (answer.MakesWeak a) = reference_there scene.space a
 answer_there scene call kind (answer.DeletesWeak i) = is_static_at (operand_of call.operands 0) i && is_weak (static_at scene.references i)
+answer_there scene call kind (answer.Enters o) =
+    is_key (name_at scene.space o.address) o.name && is_entered (entering scene.thread (monitor_of scene.monitors o.name))
+answer_there scene call kind (answer.Exits n) = is_left (leaving scene.thread (monitor_of scene.monitors n))
 answer_there scene call kind (answer.Throws class) = true
 answer_there scene call kind (answer.Raises class i) = true
 answer_there scene call kind (answer.Halts trap) = true
@@ -187,6 +208,11 @@ answer_there scene call kind answer.RefusesFrames = true
 answer_there scene call kind a = false
 
 -- ---- what the checks let through
+
+-- the first argument of a function that works on this is an object
+abbrev pub takes_object : Subject → Bool
+takes_object Monitors = true
+takes_object s = false
 
 module _ (scene : Scene) (call : Call) where
   -- the reference of an operand, its name as it is seen, and how many values its object has
@@ -200,13 +226,16 @@ module _ (scene : Scene) (call : Call) where
   count = length (values_seen scene.space (reference 0))
 
   -- P, by what is known of a call that has passed its checks: an exception that is pending has a name; so has each object, and no two have one;
-  -- an object has fewer values than there are `jint`s; a local reference that is to be deleted has a key
+  -- an object has fewer values than there are `jint`s; a local reference that is to be deleted has a key; a first argument that is to be an
+  -- object isn't NULL; no other thread owns a monitor that is to be entered
   abbrev pub WhenPassed : Type 0 → Type 0
   WhenPassed P =
       (is_some (name_seen scene.space scene.pending) ≡ is_some scene.pending)
       → ((name_there scene.space (reference 0) == name_there scene.space (reference 1)) ≡ same_reference (name 0) (name 1))
       → (cast_signed w32 count ≡ pos count)
       → (call.function ≡ DeleteLocalRef → is_some (key_at scene.references (operand_of call.operands 0)) ≡ is_some (name 0))
+      → (takes_object (subject_of call.function) ≡ true → is_some (name 0) ≡ true)
+      → (call.function ≡ MonitorEnter → is_owned_by_other scene.thread (owned_seen scene (name_there scene.space (reference 0))) ≡ false)
       → P
 
 -- the answer is the source's, as it is seen

@@ -1,8 +1,8 @@
 -- What the machine works out of a call, by what is in memory.
-use Rattle.std.specs.Prelude.{◌≡◌, ℕ, ◌+◌, ◌-◌, ◌^◌, ℤ, pos, negsuc, nat_lt, nat_le, List, length, slice_get, unwrap_or, if◌then◌else◌, Option, Some, None}
+use Rattle.std.specs.Prelude.{◌≡◌, ℕ, ◌+◌, ◌-◌, ℤ, pos, negsuc, nat_lt, nat_le, List, length, slice_get, unwrap_or, if◌then◌else◌, Option, Some, None}
 use Rattle.syntax.specs.Tree.{SourceUnit}
 use Rattle.class_rules.specs.ClassIds.{class_id}
-use Rattle.class_rules.specs.BuiltIns.{illegal_monitor_state, no_class_def_found_error, no_such_field_error, no_such_method_error}
+use Rattle.class_rules.specs.BuiltIns.{no_class_def_found_error, no_such_field_error, no_such_method_error}
 use Rattle.class_rules.specs.Class.{Classes}
 use Rattle.class_rules.specs.Fields.{FieldId, layout, own_statics}
 use Rattle.classes.specs.FieldViews.{field_of, place_among}
@@ -20,15 +20,10 @@ use Rattle.jni.specs.declared.access.Access.{Access}
 use Rattle.jni.specs.declared.access.Access.TheVariants.{ElementsCopy}
 use Rattle.jni.specs.Access.{is_critical}
 use Rattle.semantics.specs.Method.{MethodId}
-use Rattle.monitors.specs.declared.monitors.Enter.{Enter}
-use Rattle.monitors.specs.declared.monitors.Enter.TheVariants as enter
-use Rattle.monitors.specs.declared.monitors.Exit.{Exit}
-use Rattle.monitors.specs.declared.monitors.Exit.TheVariants as exit
-use Rattle.monitors.specs.declared.monitors.Object.{Object}
-use Rattle.machine_answers.specs.declared.answer.Given.TheVariants.{Nothing, Number, Reference}
+use Rattle.machine_answers.specs.declared.answer.Given.TheVariants.{Nothing, Reference}
 use Rattle.machine_answers.specs.declared.answer.Given.TheVariants as given
 use Rattle.machine_answers.specs.declared.answer.Answer.{Answer}
-use Rattle.machine_answers.specs.declared.answer.Answer.TheVariants.{Gives, Writes, Throws, Halts, Ensures, Pushes, RefusesFrames, Deletes, DeletesGlobal, DeletesWeak, CopiesOut, CopiesIn, AcquiresCopy, AcquiresView, Releases, Enters, Exits}
+use Rattle.machine_answers.specs.declared.answer.Answer.TheVariants.{Gives, Writes, Throws, Halts, Ensures, Pushes, RefusesFrames, Deletes, DeletesGlobal, DeletesWeak, CopiesOut, CopiesIn, AcquiresCopy, AcquiresView, Releases}
 use Rattle.machine_scenes.specs.declared.array_region.ArrayRegion.{ArrayRegion}
 use Rattle.machine_scenes.specs.declared.buffer.Buffer.{Buffer}
 use Rattle.machine_scenes.specs.declared.buffer.Buffer.TheVariants as buffer
@@ -174,18 +169,6 @@ mode_of access o = FreeUncopied
 abbrev pub releases : List Buffer → (object : Option ℕ) → Operand → ReleaseMode → Answer
 releases buffers None o mode = Gives Nothing
 releases buffers (Some a) o mode = Releases (record { object = a; slot = slot_of o; held = buffer_there buffers (slot_of o); mode = mode })
-
--- ---- monitors
-
--- the monitor of an object is entered, where it can be; else -1 is given
-abbrev pub entered_by : Object → Enter → Answer
-entered_by o enter.Entered = Enters o
-entered_by o e = Gives (Number (2 ^ 32 - 1))
-
--- the monitor of an object is left, where the thread owns it; else it is an exception
-abbrev pub left_by : (name : ℕ) → Exit → Answer
-left_by name exit.Left = Exits name
-left_by name exit.NotOwner = Throws (class_id illegal_monitor_state)
 
 -- ---- what a call sees
 

@@ -17,3 +17,8 @@ pub returns-in-Exceptions : goal.returns-in-Exceptions
 returns-in-Exceptions c =
     let it = c.work_out_exception in
     answers_seen (scene_view c.args.scene.now) (call_view c.args.call.now) it.result it.ensures.seen it.ensures.there it.ensures.ends it.ensures.calls
+
+pub returns-in-Monitors : goal.returns-in-Monitors
+returns-in-Monitors c =
+    let it = c.work_out_monitor in
+    answers_seen (scene_view c.args.scene.now) (call_view c.args.call.now) it.result it.ensures.seen it.ensures.there it.ensures.ends it.ensures.calls
