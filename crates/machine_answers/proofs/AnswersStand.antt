@@ -1,5 +1,5 @@
 -- An answer stands for the source's where it is seen as that, and what it names is there: a row for each answer.
-use Rattle.std.proofs.Common.{Fits, ◌≡◌, ℕ, zero, suc, ◌<◌, ◌≤◌, ◌^◌, Bool, true, false, not, List, [], ◌∷◌, ◌++◌, length, Option, Some, None, slice_get, refl, sym, ap, ◌∙◌, subst, arith}
+use Rattle.std.proofs.Common.{Fits, ◌≡◌, ℕ, zero, suc, ◌<◌, ◌≤◌, ◌^◌, Bool, true, false, not, List, [], ◌∷◌, ◌++◌, length, map, Option, Some, None, slice_get, refl, sym, ap, ◌∙◌, subst, arith}
 use Rattle.std.specs.Prelude.{◌==◌, ◌&&◌, ◌-◌, FitsSigned, if◌then◌else◌, is_none, is_some, nat_lt, replicate}
 use Rattle.std.specs.Int.{w32, cast_signed, cast_unsigned}
 use Rattle.std.specs.Option.{option_map, option_map_or}
@@ -33,13 +33,14 @@ use Rattle.semantics.specs.CallEffects.{CallResult, level_of}
 use Rattle.semantics.specs.CallSight.{CallSight, name_of_first, name_of_second}
 use Rattle.semantics.specs.CallStep.{is_owned_by_other, target_element, trap_of_call}
 use Rattle.semantics.specs.Checks.{go_together}
-use Rattle.semantics.specs.Heap.{values_of}
+use Rattle.semantics.specs.Answer.{Region}
+use Rattle.semantics.specs.Heap.{numbers_of, values_of}
 use Rattle.semantics.specs.Object.{Object, ObjectValue, Number, Reference, Refers}
 use Rattle.semantics.specs.Thread.{monitor_of as monitor_in}
 use Rattle.semantics.specs.declared.trap.Trap.{Trap}
 use Rattle.semantics.specs.Variable.{Cleared, Weakly}
 use Rattle.semantics.proofs.AnswerFacts.{IsMade, IsOfKind, IsRaised, NoClass, NoElement, NoField, NoMethod, NoOwner, NoSize, NoStore, NoUnit, OfClass, OfField, OfFlag, OfInt, OfMethod, OfNothing, OfNumbers, OfReference, OfReferences, OfText, OfWeak, Takes}
-use Rattle.semantics.proofs.AnswerKinds.{AnswersAs, CallKind, Disowning, EndingGlobal, EndingLocal, EndingNoLocal, EndingNoStatic, EndingWeak, EndsLocal, EndsStatic, Ensuring, EnsuringNone, FillingNone, Giving, Halting, IsChecked, Making, MakingGlobal, Owning, Pending, Popping, Pushing, PushingNone, Raising, RaisingWith, Writing, answers_as, call_kind}
+use Rattle.semantics.proofs.AnswerKinds.{AnswersAs, CallKind, Disowning, EndingGlobal, EndingLocal, EndingNoLocal, EndingNoStatic, EndingWeak, EndsLocal, EndsStatic, Ensuring, EnsuringNone, Filling, FillingNone, Giving, Halting, IsChecked, Making, MakingGlobal, Owning, Pending, Popping, Pushing, PushingNone, Raising, RaisingWith, SettingRegion, Writing, answers_as, call_kind}
 use Rattle.world_values.proofs.LoadedWorlds.{class_within}
 use Rattle.code_meaning.specs.Fits.{IsReferenceKind}
 use Rattle.monitors.specs.Monitors.{entering, leaving, monitor_of}
@@ -49,6 +50,7 @@ use Rattle.monitors.specs.declared.monitors.Exit.{Exit}
 use Rattle.monitors.specs.declared.monitors.Exit.TheVariants.{Left}
 use Rattle.monitors.specs.declared.monitors.Object.{Object as MonitorObject}
 use Rattle.machine_scenes.proofs.ForetoldMonitors.{may_enter, owns}
+use Rattle.machine_scenes.specs.declared.array_region.ArrayRegion.{ArrayRegion}
 use Rattle.machine_scenes.specs.declared.new_object.New.{New}
 use Rattle.machine_scenes.specs.declared.new_object.New.TheVariants as news
 use Rattle.machine_scenes.specs.declared.references.Held.{Held}
@@ -66,16 +68,17 @@ use Rattle.machine_answers.specs.declared.answer.Given.TheVariants as given
 use Rattle.machine_answers.specs.Answered.{TwoCalls, Asked, IsAnswerTo, Passes, scene, unit}
 use Rattle.machine_answers.specs.Answers.{GivenAgrees}
 use Rattle.machine_answers.specs.Answers as row
-use Rattle.machine_answers.specs.AnswersSeen.{CallsMethod, EndsFirst, IsSeen, IsThere, WhenPassed, answer_seen, answer_there, given_seen, given_there, held_name, is_at, is_entered, is_key, is_left, is_static_at, is_weak, made_seen, named, new_there, owned_seen, reference_there, takes_object, value_there}
+use Rattle.machine_answers.specs.AnswersSeen.{CallsMethod, EndsFirst, IsSeen, IsThere, WhenPassed, answer_seen, answer_there, given_seen, given_there, held_name, is_at, is_entered, is_key, is_left, is_static_at, is_weak, made_seen, named, new_there, owned_seen, reference_there, region_seen, region_there, takes_object, value_there}
 use Rattle.machine_answers.specs.Asked.{deletes_static}
 use Rattle.machine_answers.specs.Checked.{may_be_null}
-use Rattle.machine_answers.specs.Sights.{held_seen, name_seen, value_seen}
+use Rattle.machine_answers.specs.Sights.{array_in, held_seen, name_seen, value_seen}
 use Rattle.machine_answers.proofs.CallOperands.{few_there, own_making}
 use Rattle.machine_answers.proofs.CallTraps.{goes_together, same_pending, seen_is}
 use Rattle.machine_answers.proofs.FieldValues.{values_there}
 use Rattle.machine_answers.proofs.KindAnswers.{InTable, IsStatic, Stands, does, named as named_at, own_key, pending_named, same_names, same_sight, sight, static_named}
 use Rattle.machine_answers.proofs.LongTables.{class_is_no_throwable, class_is_plain}
 use Rattle.machine_answers.proofs.MonitorAnswers.{changes_monitor, entered, left}
+use Rattle.machine_answers.proofs.RegionAnswers.{copied_in, copied_out, numbers_are}
 use Rattle.machine_answers.proofs.SightParts.{name_is}
 use Rattle.machine_answers.proofs.SightsAgree.{monitor_is}
 use Rattle.machine_answers.proofs.TrapsSeen.{with_depth}
@@ -151,6 +154,9 @@ same_static o i j is there = absurd (cc)
 key_is : (o : Option ℕ) (key : ℕ) → is_key o key ≡ true → o ≡ Some key
 key_is None key there = absurd (cc)
 key_is (Some k) key there = ap (λ (n : ℕ). Some n) (eqb-true k key there)
+
+first_part : (a b : Bool) → (a && b) ≡ true → a ≡ true
+first_part a b is = (and_parts a b is).0
 
 came_in : (came : Enter) → is_entered came ≡ true → came ≡ Entered
 came_in Entered is = refl
@@ -283,6 +289,10 @@ module _ (both : TwoCalls) where
     thrown {kind = kind} class c same makes =
         subst (λ (n : ℕ). Stands both (replies.Throws class) kind (source.Raises n)) same (row.throws (subst (IsMakeable w.classes) (sym same) makes))
 
+    -- the object of a region has a name
+    region_named : (r : ArrayRegion) → region_there store.heap (array_in (operand_of call.operands 3)) r ≡ true → name_at store.heap r.object ≡ Some (named store.heap r.object)
+    region_named r there = named_there store.heap r.object (first_part _ _ (first_part _ _ (first_part _ _ there)))
+
     -- an answer that changes a monitor gives a number
     of_monitor : {of : CallKind} {kind : ResultKind} {a : source.Answer} → AnswersAs (unit both) w.classes seen f of kind a → changes_monitor a ≡ true → kind ≡ GivesInt
     of_monitor (Owning n count) is = refl
@@ -351,6 +361,14 @@ module _ (both : TwoCalls) where
         subst (λ (y : source.Answer). Stands both (replies.DeletesGlobal i) GivesNothing y) is (global_ends i (static_at (references both) i) parts.1 (static_ends i of parts.0))
     stand (replies.DeletesWeak i) of EndingWeak is there =
         let parts = and_parts (is_static_at (operand_of call.operands 0) i) (is_weak (static_at (references both) i)) there in weak_ends i (static_at (references both) i) parts.1 (static_ends i of parts.0)
+    stand (replies.CopiesOut r) of (Filling q region) is there =
+        subst (λ (y : source.Answer). Stands both (replies.CopiesOut r) GivesNothing y) is (copied_out both f h r (region_named r there) there region.array)
+    stand (replies.CopiesIn r) of (SettingRegion q region) is there =
+        let same : region_seen store.heap r ≡ q = cc in
+        let name : named store.heap r.object ≡ name_of_first seen = ap (λ (x : Region). x.object) same ∙ region.object in
+        subst (λ (y : source.Answer). Stands both (replies.CopiesIn r) GivesNothing y) is
+        (copied_in both f h r (region_named r there) there region.array
+        (subst (λ (n : ℕ). values_of shared.heap n ≡ map Number (numbers_of shared.heap n)) (sym name) (numbers_are both f h free region.numbers)))
     stand (replies.Enters o) of rows is there =
         let parts = and_parts (is_key (name_at store.heap o.address) o.name) (is_entered (entering k (monitor_of store.monitors o.name))) there in
         enters o is (of_monitor rows (ap changes_monitor (sym is) ∙ entered k o.name (monitor_of store.monitors o.name) parts.1)) (key_is _ o.name parts.0) (came_in _ parts.1)

@@ -1,9 +1,8 @@
 -- What the machine works out of calls is what the source's calls do: a row for each function.
 use Rattle.std.proofs.Common.{◌≡◌, ℕ, ◌<◌, ◌≤◌, true, false, not, List, [], ◌∷◌, Option, slice_get, refl, sym, ap, ◌∙◌, subst, arith}
 use Rattle.std.specs.Prelude.{◌==◌, unwrap_or}
-use Rattle.base.specs.declared.element.ElementType.TheVariants.{Char as JChar}
 use Rattle.class_rules.specs.ClassIds.{class_id}
-use Rattle.class_rules.specs.BuiltIns.{array_index_out_of_bounds, has_own_making, string_index_out_of_bounds}
+use Rattle.class_rules.specs.BuiltIns.{has_own_making}
 use Rattle.class_rules.specs.Class.{assignable, superclass}
 use Rattle.class_rules.specs.Fields.{find_field, find_static, own_statics}
 use Rattle.class_rules.proofs.GrownTables.{grown_is_ordered}
@@ -11,10 +10,10 @@ use Rattle.classes.specs.declared.class.FieldHandle.{FieldHandle}
 use Rattle.code.specs.Call.{Call}
 use Rattle.code.specs.Effect.{truth_word}
 use Rattle.jni.specs.declared.function.JniFunction.{JniFunction}
-use Rattle.jni.specs.declared.function.JniFunction.TheVariants.{GetBuffer, ReleaseBuffer, FindClass, AllocObject, GetFieldID, GetStaticFieldID, GetSuperclass, GetObjectClass, IsInstanceOf, IsAssignableFrom, GetField, SetField, GetObjectField, SetObjectField, GetStaticField, SetStaticField, GetStaticObjectField, SetStaticObjectField, GetArrayRegion, SetArrayRegion, GetStringRegion, GetStaticMethodID, CallStaticVoidMethod, CallStaticIntMethod, CallStaticObjectMethod}
+use Rattle.jni.specs.declared.function.JniFunction.TheVariants.{GetBuffer, ReleaseBuffer, FindClass, AllocObject, GetFieldID, GetStaticFieldID, GetSuperclass, GetObjectClass, IsInstanceOf, IsAssignableFrom, GetField, SetField, GetObjectField, SetObjectField, GetStaticField, SetStaticField, GetStaticObjectField, SetStaticObjectField, GetStaticMethodID, CallStaticVoidMethod, CallStaticIntMethod, CallStaticObjectMethod}
 use Rattle.jni.specs.JniFunction.{calls_method, prototype}
 use Rattle.jni.specs.Subjects.{subject_of}
-use Rattle.jni.specs.declared.kinds.ParameterKind.TheVariants.{ClassObject, FieldID, IntNumber, NonNull, Nullable, NumberArray, StringObject}
+use Rattle.jni.specs.declared.kinds.ParameterKind.TheVariants.{ClassObject, FieldID, IntNumber, NonNull, Nullable}
 use Rattle.semantics.specs.AnswerTable.{call_answer}
 use Rattle.semantics.specs.Arguments.{name_or_zero}
 use Rattle.semantics.specs.Method.{find_method}
@@ -40,7 +39,6 @@ use Rattle.machine_answers.proofs.TrapsSeen.{fits_one}
 use Rattle.machine_answers.specs.Answered.{IsAnswerTo, TwoCalls, Asked, Passes, unit, scene}
 use Rattle.machine_answers.proofs.TwoCalls.{Works, at, class_given, fields, method_error, object_given_at, table_of}
 use Rattle.machine_answers.proofs.KindAnswers.{Stands, back, class_agrees, class_found, class_of_first, does, field_found, first_name, held_agrees, holder, method_found, named, number_read, place_is, reference_read, sight, stands, stored, there, written}
-use Rattle.machine_answers.proofs.RegionAnswers.{numbers_are, region_given, region_read, region_written}
 use Rattle.machine_answers.proofs.BufferAnswers.{answers_get_buffer, answers_release}
 use Rattle.machine_answers.proofs.MethodAnswers.{method_called}
 
@@ -129,17 +127,6 @@ module _ (both : TwoCalls) where
       let place = place_is both SetStaticObjectField ClassObject (Nullable ∷ []) refl refl h free (own_statics w.classes (field_there w.classes handle).class) in
       stands both (is ∙ (λ i. writes_there store.heap (it.same i) (place i) (held_reference (at both 2))))
       (written both declaring it.address _ _ _ _ it.is it.named (held_agrees both (at both 2) _ (named both SetStaticObjectField h 2)) h.store_agrees)
-  seen (GetArrayRegion T) here h free answer is =
-      let f = GetArrayRegion T in
-      let g = region_given both f (NumberArray T) T tt refl refl h free in
-      stands both is (region_read both g f h array_index_out_of_bounds (omega arith) (omega arith))
-  seen (SetArrayRegion T) here h free answer is =
-      let f = SetArrayRegion T in
-      let g = region_given both f (NumberArray T) T tt refl refl h free in
-      stands both is (region_written both g f h array_index_out_of_bounds (omega arith) (omega arith) (numbers_are both g f h T refl free))
-  seen GetStringRegion here h free answer is =
-      let g = region_given both GetStringRegion StringObject JChar tt refl refl h free in
-      stands both is (region_read both g GetStringRegion h string_index_out_of_bounds (omega arith) (omega arith))
   seen (GetBuffer access) here h free answer is = back both (GetBuffer access) h (answers_get_buffer both access h free answer is)
   seen (ReleaseBuffer access) here h free answer is = back both (ReleaseBuffer access) h (answers_release both access h free answer is)
   seen CallStaticVoidMethod here h free answer is = stands both is (back both CallStaticVoidMethod h (method_called both CallStaticVoidMethod refl h free))

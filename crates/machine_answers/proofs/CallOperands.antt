@@ -6,9 +6,8 @@ use Rattle.std.proofs.lemmas.List.{length-map}
 use Rattle.std.specs.List.{AllZip, list_any}
 use Rattle.std.specs.Option.{option_map_or}
 use Rattle.std.proofs.lemmas.Bool.Decides.{eqb_tells}
-use Rattle.base.specs.declared.element.ElementType.{ElementType}
 use Rattle.syntax.specs.Tree.{SourceUnit}
-use Rattle.class_rules.specs.BuiltIns.{class_class, has_own_making, number_array, string_class}
+use Rattle.class_rules.specs.BuiltIns.{class_class, has_own_making, string_class}
 use Rattle.class_rules.specs.Class.{Class, Classes, class_at, class_kind, is_plain, superclass}
 use Rattle.class_rules.proofs.GrownTables.{IsOrdered}
 use Rattle.classes.specs.declared.class.FieldHandle.{FieldHandle}
@@ -16,7 +15,7 @@ use Rattle.code.specs.declared.instr.Operand.{Operand}
 use Rattle.code.specs.declared.instr.Operand.TheVariants as operand
 use Rattle.heap.specs.Heap.{Space, IsLaidOut, name_at, values_at}
 use Rattle.jni.specs.declared.kinds.ParameterKind.{ParameterKind}
-use Rattle.jni.specs.declared.kinds.ParameterKind.TheVariants.{Passed, ClassObject, FieldID, IntNumber, NumberArray}
+use Rattle.jni.specs.declared.kinds.ParameterKind.TheVariants.{Passed, ClassObject, FieldID, IntNumber}
 use Rattle.semantics.specs.Arguments.{Actual, ReferenceActual, FieldActual, MethodActual, TextActual, VariableActual, ModeActual, NothingActual, reference_given, NumberActual}
 use Rattle.semantics.specs.Object.{Reference}
 use Rattle.code_meaning.specs.Does as list
@@ -149,7 +148,7 @@ module _ (unit : SourceUnit) (classes : Classes) (space : Space) (references : R
   -- ---- its class
 
   -- an object is of the kind that its parameter asks for
-  of_kind : (before : List ParameterKind) (p : ParameterKind) (after : List ParameterKind) (operands : List Operand) (a : ℕ) → operand_at references (operand_of operands (length before)) ≡ Some a
+  pub of_kind : (before : List ParameterKind) (p : ParameterKind) (after : List ParameterKind) (operands : List Operand) (a : ℕ) → operand_at references (operand_of operands (length before)) ≡ Some a
       → some_misfit classes space references (before ++ p ∷ after) operands ≡ false → class_misfits classes p (class_there space a) ≡ false
   of_kind before p after [] a at misfit = absurd (cc)
   of_kind [] p after (o ∷ operands) a at misfit = sym (ap (misfits classes space p) at) ∙ first_of (misfits classes space p (operand_at references o)) (some_misfit classes space references after operands) misfit
@@ -160,11 +159,6 @@ module _ (unit : SourceUnit) (classes : Classes) (space : Space) (references : R
   pub is_class : (before after : List ParameterKind) (operands : List Operand) (a : ℕ) → operand_at references (operand_of operands (length before)) ≡ Some a
       → some_misfit classes space references (before ++ ClassObject ∷ after) operands ≡ false → class_there space a ≡ class_class
   is_class before after operands a at misfit = same_number (class_there space a) class_class (of_kind before ClassObject after operands a at misfit)
-
-  -- or of a class of arrays of numbers
-  pub is_number_array : (t : ElementType) (before after : List ParameterKind) (operands : List Operand) (a : ℕ) → operand_at references (operand_of operands (length before)) ≡ Some a
-      → some_misfit classes space references (before ++ NumberArray t ∷ after) operands ≡ false → class_there space a ≡ number_array t
-  is_number_array t before after operands a at misfit = same_number (class_there space a) (number_array t) (of_kind before (NumberArray t) after operands a at misfit)
 
 pub own_making : (classes : Classes) (c : ℕ) → not (has_own_making classes c) ≡ true → c ≡ class_class → ⊥
 own_making classes c h is = clash (not (is_plain (class_kind classes class_class))) (class_class == string_class) (ap (λ (n : ℕ). not (has_own_making classes n)) (sym is) ∙ h)

@@ -1,166 +1,150 @@
--- What stands in memory for answers of regions, by what a call sees.
-use Rattle.std.proofs.Common.{◌≡◌, ℕ, ℤ, pos, negsuc, ◌+◌, ◌<◌, ◌≤◌, Bool, true, false, List, [], ◌∷◌, length, map, slice_get, take, Option, Some, None, refl, sym, ap, ◌∙◌, subst, arith}
-use Rattle.std.specs.Prelude.{if◌then◌else◌, nat_le}
-use Rattle.std.specs.List.{AllZip}
+-- What stands in memory for a region that is copied: its numbers are those of the object or of the local array.
+use Rattle.std.proofs.Common.{◌≡◌, ℕ, ℤ, ◌+◌, ◌<◌, ◌≤◌, false, true, List, [], ◌∷◌, drop, length, map, slice_get, take, Option, Some, refl, sym, ap, ◌∙◌, subst, arith}
+use Rattle.std.specs.Prelude.{◌==◌, ◌&&◌, is_some, nat_le}
 use Rattle.std.specs.Option.{option_map_or}
-use Rattle.std.proofs.lemmas.Bool.{leb-true}
+use Rattle.std.proofs.lemmas.Bool.{and_parts, eqb-true, leb-true}
 use Rattle.base.specs.declared.element.ElementType.{ElementType}
-use Rattle.class_rules.specs.ClassIds.{class_id}
-use Rattle.class_rules.specs.BuiltIns.{number_array}
-use Rattle.code.specs.declared.instr.LocalArray.{LocalArray as ArraySlots}
-use Rattle.code.specs.declared.instr.Operand.{Operand}
-use Rattle.code.specs.declared.instr.Operand.TheVariants as operand
-use Rattle.heap.specs.Heap.{name_at, values_at}
+use Rattle.base.specs.declared.element.ElementType.TheVariants.{Char as JChar}
+use Rattle.class_rules.specs.BuiltIns.{number_array, string_class}
+use Rattle.class_rules.specs.Class.{NumberField}
+use Rattle.class_queries.specs.Kinds.{class_misfits}
+use Rattle.code.specs.declared.instr.LocalArray.{LocalArray}
+use Rattle.heap.specs.Heap.{Space, block_at, name_at, values_at}
 use Rattle.jni.specs.declared.function.JniFunction.{JniFunction}
 use Rattle.jni.specs.JniFunction.{parameters_for}
 use Rattle.jni.specs.declared.kinds.ParameterKind.{ParameterKind}
-use Rattle.jni.specs.declared.kinds.ParameterKind.TheVariants.{ArrayVariable, IntNumber, NumberArray}
+use Rattle.jni.specs.declared.kinds.ParameterKind.TheVariants.{ArrayVariable, NumberArray, StringObject}
 use Rattle.jni.specs.declared.kinds.ResultKind.TheVariants.{GivesNothing}
 use Rattle.semantics.specs.Answer as source
-use Rattle.semantics.specs.Answer.{Region}
-use Rattle.semantics.specs.AnswerTable.{region_with, region_within}
 use Rattle.semantics.specs.Arguments.{name_or_zero}
 use Rattle.semantics.specs.CallEffects.{local_array}
 use Rattle.semantics.specs.Heap.{numbers_of, values_of}
 use Rattle.semantics.specs.Object.{Number, Object}
-use Rattle.semantics.specs.declared.trap.Trap.TheVariants as traps
-use Rattle.semantics.specs.declared.trap.Trap.TheVariants.{OutOfRange}
-use Rattle.semantics_typing.specs.Objects.{element_type_of}
+use Rattle.semantics.proofs.AnswerFacts.{OfArray, OfString, Takes, TakesNumbers}
+use Rattle.semantics_typing.specs.Objects.{element_type_of, elements_by_kind}
+use Rattle.semantics_typing.proofs.TableKinds.{kind_string}
 use Rattle.code_meaning.specs.Fits.{IsReferenceKind}
 use Rattle.machine_scenes.specs.declared.array_region.ArrayRegion.{ArrayRegion}
 use Rattle.machine_scenes.specs.Given.{class_there, operand_of}
-use Rattle.machine_answers.specs.declared.answer.Answer.{Answer}
 use Rattle.machine_answers.specs.declared.answer.Answer.TheVariants as replies
 use Rattle.machine_answers.specs.Answers.{AreWordsOf}
 use Rattle.machine_answers.specs.Answers as row
+use Rattle.machine_answers.specs.AnswersSeen.{named, region_seen, region_there}
 use Rattle.machine_answers.specs.Checked.{may_be_null, some_misfit}
 use Rattle.machine_answers.specs.Copies.{words_from}
-use Rattle.machine_answers.specs.Sights.{name_seen, number_at, values_seen, array_in}
-use Rattle.machine_answers.specs.WorkedOut.{copies_in, copies_out, region_in}
-use Rattle.machine_answers.proofs.CallOperands.{GivenObject, is_number_array}
+use Rattle.machine_answers.specs.Sights.{array_in, name_seen}
+use Rattle.machine_answers.proofs.CallOperands.{of_kind, same_number}
 use Rattle.machine_answers.proofs.CallTraps.{none_unfit}
 use Rattle.machine_answers.proofs.FieldValues.{values_there}
-use Rattle.machine_answers.proofs.KindAnswers.{Stands, count_seen, first_name, raised, stands}
+use Rattle.machine_answers.proofs.KindAnswers.{Stands, first_name}
 use Rattle.machine_answers.proofs.RegionOperands.{GivenArray, array_numbers, numbers_alone, slots_there, words_brought, words_there, local_array as given_array}
 use Rattle.machine_answers.proofs.SightParts.{object_there_is}
 use Rattle.machine_answers.specs.Answered.{TwoCalls, Passes, Asked, unit}
 use Rattle.machine_answers.proofs.TwoCalls.{all, at, fields, object_given_at, object_of, references}
 
-module _ (both : TwoCalls) where
+-- where a region lies
+record LiesIn (space : Space) (array : LocalArray) (r : ArrayRegion) : Type 0 where
+  within : r.start + r.count ≤ length (values_at space r.object)
+  slot : r.slot ≡ array.start
+  few : r.count ≤ array.len
+
+lies_in : (space : Space) (array : LocalArray) (r : ArrayRegion) → region_there space array r ≡ true → LiesIn space array r
+lies_in space array r there =
+    let object = is_some (block_at space r.object) in
+    let within = nat_le (r.start + r.count) (length (values_at space r.object)) in
+    let slot = r.slot == array.start in
+    let few = nat_le r.count array.len in
+    let all = and_parts (object && within && slot) few there in
+    let slots = and_parts (object && within) slot all.0 in
+    let part = and_parts object within slots.0 in
+    record {
+      within = leb-true (r.start + r.count) (length (values_at space r.object)) part.1;
+      slot = eqb-true r.slot array.start slots.1;
+      few = leb-true r.count array.len all.1;
+    }
+
+module _ (both : TwoCalls) (f : JniFunction) (h : Asked both f) where
   open both use {p, w, store, pending, activation, call, others, k, owner, shared, s, target, sound, args}
 
-  -- what a function of regions is given
-  pub record GivenRegion : Type 0 where
-    pub object : GivenObject (unit both) w.classes store.heap (references both) (fields both) call.operands args 0
-    pub array : GivenArray activation.slots.numbers.items s.variables call.operands args
+  -- the local array of the fourth argument
+  abbrev Fourth : Type 0
+  Fourth = GivenArray activation.slots.numbers.items s.variables call.operands args
 
-  pub region_given : (f : JniFunction) (q : ParameterKind) (T : ElementType) → IsReferenceKind q → may_be_null q ≡ false → parameters_for f (length args) ≡ q ∷ IntNumber ∷ IntNumber ∷ ArrayVariable T ∷ [] → Asked both f → Passes both → GivenRegion
-  region_given f q T kind never are h free = record {
-    object = object_given_at both f [] q (IntNumber ∷ IntNumber ∷ ArrayVariable T ∷ []) kind never are h free;
-    array = given_array activation.slots.numbers.items s.variables h.given h.arrays (ap (λ (l : List ParameterKind). slice_get l 3) are);
-  }
+  array_given : {T : ElementType} → Takes f 3 (ArrayVariable T) → Fourth
+  array_given takes = given_array activation.slots.numbers.items s.variables h.given h.arrays (takes (length args))
 
-  module _ (g : GivenRegion) (f : JniFunction) (h : Asked both f) where
-    abbrev a : ℕ
-    a = g.object.address
+  module _ (r : ArrayRegion) (there : name_at store.heap r.object ≡ Some (named store.heap r.object)) (lies : region_there store.heap (array_in (operand_of call.operands 3)) r ≡ true) where
+    lies_here : (g : Fourth) → LiesIn store.heap g.array r
+    lies_here g = lies_in store.heap g.array r (subst (λ (array : LocalArray). region_there store.heap array r ≡ true) (ap array_in g.at) lies)
 
-    abbrev array : ArraySlots
-    array = g.array.array
-
-    -- the object's name
-    abbrev n : ℕ
-    n = name_or_zero (name_seen store.heap (at both 0))
-
-    there : name_at store.heap a ≡ Some n
-    there = first_name both g.object
-
-    abbrev part : (start count : ℕ) → ArrayRegion
-    part start count = record { object = a; start = start; slot = array.start; count = count }
-
-    abbrev part_seen : (start count : ℕ) → Region
-    part_seen start count = record { object = n; start = start; count = count }
-
-    slots_within : (count : ℕ) → count ≤ array.len → (j : ℕ) → j < count → array.start + j < length activation.slots.numbers.items
-    slots_within count few j below = slots_there activation.slots.numbers.items array g.array.has.elements g.array.has.words j (omega (arith, below, few, g.array.has.count))
-
-    -- what is done with a part that is there stands for what is done with what is seen of it; so it does where there is none, or too much of it
-    module _ (exception : ℕ) (low : 2 < exception) (high : exception ≤ 42) (does : Option ArrayRegion → Answer) (answer : ArrayRegion → Answer) (go : Region → source.Answer)
-        (none : does None ≡ replies.Throws (class_id exception)) (some : (r : ArrayRegion) → does (Some r) ≡ (if nat_le r.count array.len then answer r else replies.Halts OutOfRange))
-        (each : (i j : ℕ) → j ≤ array.len → i + j ≤ length (values_at store.heap a) → Stands both (answer (part i j)) GivesNothing (go (part_seen i j))) where
-      raises : Stands both (does None) GivesNothing (source.Raises exception)
-      raises = stands both none (raised both exception low high)
-
-      by_room : (i j : ℕ) (b : Bool) → nat_le j array.len ≡ b → i + j ≤ length (values_at store.heap a)
-          → Stands both (if b then answer (part i j) else replies.Halts OutOfRange) GivesNothing (if b then go (part_seen i j) else source.Halts traps.OutOfRange)
-      by_room i j true few within = each i j (leb-true j array.len few) within
-      by_room i j false few within = row.halts
-
-      by_place : (i j : ℕ) (b : Bool) → nat_le (i + j) (length (values_at store.heap a)) ≡ b
-          → Stands both (does (if b then Some (part i j) else None)) GivesNothing (region_with go exception array.len (if b then Some (part_seen i j) else None))
-      by_place i j true inside = stands both (some (part i j)) (by_room i j (nat_le j array.len) refl (leb-true (i + j) (length (values_at store.heap a)) inside))
-      by_place i j false inside = raises
-
-      at_place : (z y : ℤ) → Stands both (does (region_in store.heap (Some a) z y array)) GivesNothing (region_with go exception array.len (region_within n (length (values_seen store.heap (Some a))) z y))
-      at_place (negsuc i) y = raises
-      at_place (pos i) (negsuc j) = raises
-      at_place (pos i) (pos j) =
-          subst (λ (l : ℕ). Stands both (does (if nat_le (i + j) (length (values_at store.heap a)) then Some (part i j) else None)) GivesNothing (region_with go exception array.len (if nat_le (i + j) l then Some (part_seen i j) else None)))
-          (count_seen both a) (by_place i j (nat_le (i + j) (length (values_at store.heap a))) refl)
-
-    -- the same by the arguments
-    abbrev Seen : (does : ArraySlots → Option ArrayRegion → Answer) (go : Region → source.Answer) (exception : ℕ) → Option ℕ → Operand → Type 0
-    Seen does go exception r o =
-        Stands both (does (array_in o) (region_in store.heap r (number_at activation.stack 1) (number_at activation.stack 0) (array_in o))) GivesNothing
-        (region_with go exception (array_in o).len (region_within n (length (values_seen store.heap r)) (number_at activation.stack 1) (number_at activation.stack 0)))
-
-    by_arguments : (does : ArraySlots → Option ArrayRegion → Answer) (go : Region → source.Answer) (exception : ℕ)
-        → ((z y : ℤ) → Stands both (does array (region_in store.heap (Some a) z y array)) GivesNothing (region_with go exception array.len (region_within n (length (values_seen store.heap (Some a))) z y)))
-        → Seen does go exception (at both 0) (operand_of call.operands 3)
-    by_arguments does go exception it =
-        subst (λ (o : Operand). Seen does go exception (at both 0) o) (sym g.array.at)
-        (subst (λ (r : Option ℕ). Seen does go exception r (operand.Array array)) (sym g.object.at)
-        (it (number_at activation.stack 1) (number_at activation.stack 0)))
+    slots_within : (g : Fourth) (i : ℕ) → i < r.count → r.slot + i < length activation.slots.numbers.items
+    slots_within g i below =
+        let it = lies_here g in
+        let within = slots_there activation.slots.numbers.items g.array g.has.elements g.has.words i (omega (arith, below, it.few, g.has.count)) in omega (arith, within, it.slot)
 
     -- numbers of the object are read
-    pub region_read : (exception : ℕ) → 2 < exception → exception ≤ 42 → Seen (copies_out exception) source.GetsRegion exception (at both 0) (operand_of call.operands 3)
-    region_read exception low high =
-        by_arguments (copies_out exception) source.GetsRegion exception
-        (at_place exception low high (copies_out exception array) replies.CopiesOut source.GetsRegion refl (λ r. refl)
-        (λ i j few within. row.copies_out (record {
-          name = n;
+    pub copied_out : {T : ElementType} → Takes f 3 (ArrayVariable T) → Stands both (replies.CopiesOut r) GivesNothing (source.GetsRegion (region_seen store.heap r))
+    copied_out takes =
+        let g = array_given takes in
+        let it = lies_here g in
+        row.copies_out (record {
+          name = named store.heap r.object;
           there = there;
-          array = array;
-          given = g.array.at;
-          slot = refl;
-          few = few;
-          slots = slots_within j few;
-          within = within;
-          words = words_there store.heap i j (values_at store.heap a) (values_of shared.heap n) (values_there p w store shared (all both) h.store_agrees a n there);
-        })))
+          array = g.array;
+          given = g.at;
+          slot = it.slot;
+          few = it.few;
+          slots = slots_within g;
+          within = it.within;
+          words = words_there store.heap r.start r.count (values_at store.heap r.object) (values_of shared.heap (named store.heap r.object)) (values_there p w store shared (all both) h.store_agrees r.object (named store.heap r.object) there);
+        })
 
     -- numbers of the local array are written, where the object holds nothing else
-    pub region_written : (exception : ℕ) → 2 < exception → exception ≤ 42 → values_of shared.heap n ≡ map Number (numbers_of shared.heap n) → Seen (copies_in exception) source.SetsRegion exception (at both 0) (operand_of call.operands 3)
-    region_written exception low high alone =
-        by_arguments (copies_in exception) source.SetsRegion exception
-        (at_place exception low high (copies_in exception array) replies.CopiesIn source.SetsRegion refl (λ r. refl)
-        (λ i j few within. row.copies_in (record {
-          name = n;
+    pub copied_in : {T : ElementType} → Takes f 3 (ArrayVariable T) → values_of shared.heap (named store.heap r.object) ≡ map Number (numbers_of shared.heap (named store.heap r.object))
+        → Stands both (replies.CopiesIn r) GivesNothing (source.SetsRegion (region_seen store.heap r))
+    copied_in takes alone =
+        let g = array_given takes in
+        let it = lies_here g in
+        let numbers = activation.slots.numbers.items in
+        row.copies_in (record {
+          name = named store.heap r.object;
           there = there;
-          slots = slots_within j few;
-          within = within;
+          slots = slots_within g;
+          within = it.within;
           all_numbers = alone;
-          words = subst (λ (zs : List ℤ). AreWordsOf (words_from activation.slots.numbers.items (part i j)) (take j zs)) (sym (ap local_array g.array.has.is))
-              (words_brought activation.slots.numbers.items array g.array.has.elements g.array.has.words j (omega (arith, few, g.array.has.count)));
-        })))
+          words = subst (λ (zs : List ℤ). AreWordsOf (words_from numbers r) (take r.count zs)) (sym (ap local_array g.has.is))
+              (subst (λ (i : ℕ). AreWordsOf (take r.count (drop i numbers)) (take r.count g.has.elements)) (sym it.slot)
+              (words_brought numbers g.array g.has.elements g.has.words r.count (omega (arith, it.few, g.has.count))));
+        })
 
-    -- as an array of numbers does
-    pub numbers_are : (T : ElementType) → parameters_for f (length args) ≡ NumberArray T ∷ IntNumber ∷ IntNumber ∷ ArrayVariable T ∷ [] → Passes both → values_of shared.heap n ≡ map Number (numbers_of shared.heap n)
-    numbers_are T are free =
-        let object = object_of both f h a n there in
-        let of_class : class_there store.heap a ≡ number_array T =
-        is_number_array (unit both) w.classes store.heap (references both) (fields both) T [] (IntNumber ∷ IntNumber ∷ ArrayVariable T ∷ []) call.operands a g.object.at
-        (subst (λ (l : List ParameterKind). some_misfit w.classes store.heap (references both) l call.operands ≡ false) are (none_unfit p w store pending activation call others k owner shared s target f args h free)) in
-        let same : object.0.class ≡ number_array T =
-        sym (ap (λ (o : Option Object). option_map_or (λ (x : Object). x.class) o 0) object.1)
-        ∙ sym (ap (λ (x : Object). x.class) (object_there_is store.heap shared.heap h.store_agrees.heap a n there)) ∙ of_class in
-        numbers_alone w.classes shared.heap h.typed n T (object.0, object.1, ap (element_type_of w.classes) same ∙ array_numbers w.classes sound.grown T)
+  -- an object holds nothing but numbers, where its class says so
+  module _ (free : Passes both) where
+    abbrev first : ℕ
+    first = name_or_zero (name_seen store.heap (at both 0))
+
+    of_class : (q : ParameterKind) (c : ℕ) (T : ElementType) → IsReferenceKind q → may_be_null q ≡ false → ((class : ℕ) → class_misfits w.classes q class ≡ false → class ≡ c) → element_type_of w.classes c ≡ Some (NumberField T) → Takes f 0 q
+        → values_of shared.heap first ≡ map Number (numbers_of shared.heap first)
+    of_class q c T kind never fits numbers takes = by_parameters (parameters_for f (length args)) refl (takes (length args))
+      where
+        by_parameters : (ps : List ParameterKind) → parameters_for f (length args) ≡ ps → slice_get ps 0 ≡ Some q → values_of shared.heap first ≡ map Number (numbers_of shared.heap first)
+        by_parameters [] are is = absurd (cc)
+        by_parameters (r ∷ ps) are is =
+            let same : r ≡ q = cc in
+            let given : parameters_for f (length args) ≡ q ∷ ps = are ∙ ap (λ (x : ParameterKind). x ∷ ps) same in
+            let g = object_given_at both f [] q ps kind never given h free in
+            let there : name_at store.heap g.address ≡ Some first = first_name both g in
+            let object = object_of both f h g.address first there in
+            let class : class_there store.heap g.address ≡ c =
+            fits (class_there store.heap g.address)
+            (of_kind (unit both) w.classes store.heap (references both) (fields both) [] q ps call.operands g.address g.at
+            (subst (λ (l : List ParameterKind). some_misfit w.classes store.heap (references both) l call.operands ≡ false) given (none_unfit p w store pending activation call others k owner shared s target f args h free))) in
+            let named : object.0.class ≡ c =
+            sym (ap (λ (o : Option Object). option_map_or (λ (x : Object). x.class) o 0) object.1)
+            ∙ sym (ap (λ (x : Object). x.class) (object_there_is store.heap shared.heap h.store_agrees.heap g.address first there)) ∙ class in
+            numbers_alone w.classes shared.heap h.typed first T (object.0, object.1, ap (element_type_of w.classes) named ∙ numbers)
+
+    -- as that of the first argument, an array of numbers or a string
+    pub numbers_are : {T : ElementType} → TakesNumbers f T → values_of shared.heap first ≡ map Number (numbers_of shared.heap first)
+    numbers_are (OfArray T takes) = of_class (NumberArray T) (number_array T) T tt refl (λ class fits. same_number class (number_array T) fits) (array_numbers w.classes sound.grown T) takes
+    numbers_are (OfString takes) =
+        of_class StringObject string_class JChar tt refl (λ class fits. same_number class string_class fits) (ap (elements_by_kind string_class) (kind_string w.classes sound.grown)) takes

@@ -1,5 +1,5 @@
 -- Answers in memory as answers of the source, by what a call sees.
-use Rattle.std.specs.Prelude.{◌≡◌, ℕ, ◌^◌, Bool, true, false, not, ◌&&◌, ◌==◌, nat_lt, pos, length, replicate, slice_get, is_some, Option, Some, None}
+use Rattle.std.specs.Prelude.{◌≡◌, ℕ, ◌+◌, ◌^◌, Bool, true, false, not, ◌&&◌, ◌==◌, nat_lt, pos, length, replicate, slice_get, is_some, nat_le, Option, Some, None}
 use Rattle.std.specs.Int.{w32, cast_signed}
 use Rattle.std.specs.Option.{option_map}
 use Rattle.class_rules.specs.Class.{Classes}
@@ -7,13 +7,14 @@ use Rattle.class_rules.specs.Fields.{FieldId}
 use Rattle.classes.specs.declared.class.FieldHandle.{FieldHandle}
 use Rattle.classes.specs.FieldViews.{field_of}
 use Rattle.code.specs.Call.{Call}
+use Rattle.code.specs.declared.instr.LocalArray.{LocalArray}
 use Rattle.jni.specs.declared.function.JniFunction.TheVariants.{DeleteLocalRef, MonitorEnter}
 use Rattle.jni.specs.declared.kinds.ResultKind.{ResultKind}
 use Rattle.jni.specs.declared.kinds.ResultKind.TheVariants.{GivesFlag}
 use Rattle.jni.specs.JniFunction.{calls_method, prototype}
 use Rattle.jni.specs.Subjects.{subject_of}
 use Rattle.jni.specs.declared.subject.Subject.{Subject}
-use Rattle.jni.specs.declared.subject.Subject.TheVariants.{Monitors}
+use Rattle.jni.specs.declared.subject.Subject.TheVariants.{Monitors, Regions}
 use Rattle.semantics.specs.Answer as source
 use Rattle.semantics.specs.Answer.{Region}
 use Rattle.semantics.specs.AnswerTable.{call_answer, method_called, monitor_entered, monitor_left, released}
@@ -43,7 +44,7 @@ use Rattle.machine_answers.specs.declared.answer.Given.{Given}
 use Rattle.machine_answers.specs.declared.answer.Given.TheVariants as given
 use Rattle.machine_answers.specs.declared.answer.Answer.{Answer}
 use Rattle.machine_answers.specs.declared.answer.Answer.TheVariants as answer
-use Rattle.machine_answers.specs.Sights.{call_seen, held_seen, method_seen, monitor_seen, name_seen, value_seen, values_seen}
+use Rattle.machine_answers.specs.Sights.{array_in, call_seen, held_seen, method_seen, monitor_seen, name_seen, value_seen, values_seen}
 use Rattle.machine_scenes.specs.declared.array_region.ArrayRegion.{ArrayRegion}
 use Rattle.machine_scenes.specs.declared.new_object.New.{New}
 use Rattle.machine_scenes.specs.declared.new_object.New.TheVariants as new
@@ -183,7 +184,12 @@ abbrev pub is_left : Exit → Bool
 is_left Left = true
 is_left came = false
 
--- an answer of those that are seen so: none of regions, buffers and methods
+-- a region lies within its object, and its slots are the first of a local array
+abbrev pub region_there : Space → LocalArray → ArrayRegion → Bool
+region_there space array r =
+    is_some (block_at space r.object) && nat_le (r.start + r.count) (length (values_at space r.object)) && (r.slot == array.start) && nat_le r.count array.len
+
+-- an answer of those that are seen so: none of buffers and methods
 abbrev pub answer_there : Scene → Call → ResultKind → Answer → Bool
 answer_there scene call kind (answer.Gives g) = given_there scene.space kind g
 answer_there scene call kind (answer.Writes a i v) =
@@ -196,6 +202,8 @@ answer_there scene call kind (answer.MakesGlobal a) = reference_there scene.spac
 answer_there scene call kind (answer.DeletesGlobal i) = is_static_at (operand_of call.operands 0) i && is_at (static_at scene.references i)
 answer_there scene call kind (answer.MakesWeak a) = reference_there scene.space a
 answer_there scene call kind (answer.DeletesWeak i) = is_static_at (operand_of call.operands 0) i && is_weak (static_at scene.references i)
+answer_there scene call kind (answer.CopiesOut r) = region_there scene.space (array_in (operand_of call.operands 3)) r
+answer_there scene call kind (answer.CopiesIn r) = region_there scene.space (array_in (operand_of call.operands 3)) r
 answer_there scene call kind (answer.Enters o) =
     is_key (name_at scene.space o.address) o.name && is_entered (entering scene.thread (monitor_of scene.monitors o.name))
 answer_there scene call kind (answer.Exits n) = is_left (leaving scene.thread (monitor_of scene.monitors n))
@@ -212,6 +220,7 @@ answer_there scene call kind a = false
 -- the first argument of a function that works on this is an object
 abbrev pub takes_object : Subject → Bool
 takes_object Monitors = true
+takes_object Regions = true
 takes_object s = false
 
 module _ (scene : Scene) (call : Call) where

@@ -1,5 +1,5 @@
 -- What the machine works out of a call, by what is in memory.
-use Rattle.std.specs.Prelude.{◌≡◌, ℕ, ◌+◌, ◌-◌, ℤ, pos, negsuc, nat_lt, nat_le, List, length, slice_get, unwrap_or, if◌then◌else◌, Option, Some, None}
+use Rattle.std.specs.Prelude.{◌≡◌, ℕ, ◌-◌, ℤ, pos, negsuc, nat_lt, List, length, slice_get, unwrap_or, if◌then◌else◌, Option, Some, None}
 use Rattle.syntax.specs.Tree.{SourceUnit}
 use Rattle.class_rules.specs.ClassIds.{class_id}
 use Rattle.class_rules.specs.BuiltIns.{no_class_def_found_error, no_such_field_error, no_such_method_error}
@@ -8,7 +8,6 @@ use Rattle.class_rules.specs.Fields.{FieldId, layout, own_statics}
 use Rattle.classes.specs.FieldViews.{field_of, place_among}
 use Rattle.classes.specs.declared.class.FieldHandle.{FieldHandle}
 use Rattle.code.specs.Call.{Call}
-use Rattle.code.specs.declared.instr.LocalArray.{LocalArray}
 use Rattle.code.specs.declared.instr.Operand.{Operand}
 use Rattle.code.specs.declared.instr.Operand.TheVariants as operand
 use Rattle.jni.specs.declared.mode.ReleaseMode.{ReleaseMode}
@@ -23,8 +22,7 @@ use Rattle.semantics.specs.Method.{MethodId}
 use Rattle.machine_answers.specs.declared.answer.Given.TheVariants.{Nothing, Reference}
 use Rattle.machine_answers.specs.declared.answer.Given.TheVariants as given
 use Rattle.machine_answers.specs.declared.answer.Answer.{Answer}
-use Rattle.machine_answers.specs.declared.answer.Answer.TheVariants.{Gives, Writes, Throws, Halts, Ensures, Pushes, RefusesFrames, Deletes, DeletesGlobal, DeletesWeak, CopiesOut, CopiesIn, AcquiresCopy, AcquiresView, Releases}
-use Rattle.machine_scenes.specs.declared.array_region.ArrayRegion.{ArrayRegion}
+use Rattle.machine_answers.specs.declared.answer.Answer.TheVariants.{Gives, Writes, Throws, Ensures, Pushes, RefusesFrames, Deletes, DeletesGlobal, DeletesWeak, AcquiresCopy, AcquiresView, Releases}
 use Rattle.machine_scenes.specs.declared.buffer.Buffer.{Buffer}
 use Rattle.machine_scenes.specs.declared.buffer.Buffer.TheVariants as buffer
 use Rattle.machine_scenes.specs.FieldIds.{IsMethod}
@@ -33,9 +31,7 @@ use Rattle.machine_scenes.specs.Scenes.{Scene}
 use Rattle.machine_scenes.specs.Statics.{References, static_at}
 use Rattle.machine_scenes.specs.declared.references.Held.{Held}
 use Rattle.machine_scenes.specs.declared.references.Held.TheVariants as held
-use Rattle.semantics.specs.declared.trap.Trap.TheVariants.{OutOfRange}
 use Rattle.machine_scenes.specs.Given.{operand_at, operand_of, field_at, class_of_given, field_there}
-use Rattle.machine_answers.specs.Sights.{array_in, number_at}
 
 -- the address of a class object, where class objects are the first of the table
 abbrev pub class_object : (loaded : List ℕ) → (class : Option ℕ) → Option ℕ
@@ -125,24 +121,6 @@ abbrev pub place_there : Classes → Option FieldHandle → List FieldId → ℕ
 place_there classes None fields = 0
 place_there classes (Some h) fields = place_among (field_there classes (Some h)) fields
 
--- ---- regions
-
--- elements of an object, from a start on, and as many first slots of a local array; none where the object hasn't so many
-abbrev pub region_in : Space → Option ℕ → (start count : ℤ) → LocalArray → Option ArrayRegion
-region_in space (Some a) (pos start) (pos n) array =
-    if nat_le (start + n) (length (values_at space a)) then Some (record { object = a; start = start; slot = array.start; count = n }) else None
-region_in space r start n array = None
-
--- a local array takes part in a region with its first elements: an exception where there is no region, and a trap where the array hasn't so many
-abbrev pub copies_out : (exception : ℕ) → LocalArray → Option ArrayRegion → Answer
-copies_out exception array None = Throws (class_id exception)
-copies_out exception array (Some r) = if nat_le r.count array.len then CopiesOut r else Halts OutOfRange
-
--- the same into the object
-abbrev pub copies_in : (exception : ℕ) → LocalArray → Option ArrayRegion → Answer
-copies_in exception array None = Throws (class_id exception)
-copies_in exception array (Some r) = if nat_le r.count array.len then CopiesIn r else Halts OutOfRange
-
 -- ---- buffers
 
 -- a copy or a view of an object is acquired, and NULL given where there is none
@@ -201,11 +179,3 @@ module _ (scene : Scene) (call : Call) where
   -- its place there
   abbrev pub place_of_static : ℕ
   place_of_static = place_there scene.classes handle (own_statics scene.classes class)
-
-  -- the local array of operand 3
-  abbrev pub local_array : LocalArray
-  local_array = array_in (operand_of call.operands 3)
-
-  -- the region of operand 0 that the two numbers tell
-  abbrev pub region : Option ArrayRegion
-  region = region_in scene.space (reference 0) (number_at scene.stack 1) (number_at scene.stack 0) local_array

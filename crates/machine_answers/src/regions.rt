@@ -1,15 +1,20 @@
 //! What functions of regions do: parts of arrays and strings that are copied to or from local arrays.
 
-ghost use Rattle.std.specs.Prelude.{◌≡◌, pos, Some};
+ghost use Rattle.std.specs.Prelude.{◌≡◌, ◌≤◌, ◌+◌, pos, is_some, length, true, IfSome, Some};
+ghost use Rattle.std.specs.Option.{option_map};
+ghost use Rattle.machine_answers.specs.AnswersSeen.{CallsMethod, EndsFirst, IsSeen, IsThere, answer_seen, answer_there, region_seen};
 ghost use Rattle.code.specs.Call.{call_view};
-ghost use Rattle.heap.specs.Heap.{IsAddress};
+ghost use Rattle.heap.specs.Heap.{IsAddress, values_at};
 ghost use Rattle.machine_scenes.specs.Given.{operand_of, AreAddresses, ReferenceIsThere};
 ghost use Rattle.machine_scenes.specs.Scenes.{scene_view};
+ghost use Rattle.jni.specs.JniFunction.{prototype};
 ghost use Rattle.jni.specs.Subjects.{subject_of};
-ghost use Rattle.machine_answers.specs.Answered.{IsAnswerTo};
-ghost use Rattle.machine_answers.specs.WorkedOut.{copies_in, copies_out, region, region_in};
+ghost use Rattle.machine_answers.specs.WorkedOut.{reference};
 ghost use Rattle.jni.specs.declared.subject.Subject.TheVariants as subject;
-ghost use Rattle.machine_answers.specs.Sights.{array_in, number_at};
+ghost use Rattle.machine_answers.specs.Sights.{array_in, name_seen, number_at, values_seen};
+ghost use Rattle.semantics.specs.Answer.{GetsRegion, SetsRegion};
+ghost use Rattle.semantics.specs.AnswerTable.{region_with, region_within};
+ghost use Rattle.semantics.specs.Arguments.{name_or_zero};
 
 use crate::answer::{Answer, argument};
 use crate::arrays::stack_number;
@@ -29,23 +34,44 @@ use semantics::Trap;
 /// What a function does that works on a region (JNI Specification, chapter 4, "Get<PrimitiveType>ArrayRegion Routines",
 /// "Set<PrimitiveType>ArrayRegion Routines" and "GetStringRegion").
 #[inline(always)]
-#[tactic(auto, using(crate::proofs::CallAnswers::answers))]
+#[tactic(auto, unfolding(semantics::specs::AnswerTable::call_answer))]
 pub(crate) fn work_out_region(scene: &Scene<'_>, call: &Call) -> Answer
     requires subject { subject_of call.now.function ≡ subject.Regions }
     requires objects { AreAddresses scene.now.heap.now scene.now.references call.now.operands.items }
-    ensures { IsAnswerTo (scene_view scene.now) (call_view call.now) result }
+    ensures seen { IsSeen (scene_view scene.now) (call_view call.now) result }
+    ensures there { IsThere (scene_view scene.now) (call_view call.now) result }
+    ensures ends { EndsFirst (scene_view scene.now) (call_view call.now) result }
+    ensures calls { CallsMethod (call_view call.now) result }
 {
     let array = array_in(operand_of(&call.operands, 3));
     let region = region_asked(scene, call, array);
     match call.function {
         JniFunction::GetArrayRegion(_) => {
-            copies_out(ARRAY_INDEX_OUT_OF_BOUNDS_EXCEPTION, array, region)
+            copies_out(
+                scene,
+                call,
+                ARRAY_INDEX_OUT_OF_BOUNDS_EXCEPTION,
+                array,
+                region,
+            )
         }
         JniFunction::SetArrayRegion(_) => {
-            copies_in(ARRAY_INDEX_OUT_OF_BOUNDS_EXCEPTION, array, region)
+            copies_in(
+                scene,
+                call,
+                ARRAY_INDEX_OUT_OF_BOUNDS_EXCEPTION,
+                array,
+                region,
+            )
         }
         JniFunction::GetStringRegion => {
-            copies_out(STRING_INDEX_OUT_OF_BOUNDS_EXCEPTION, array, region)
+            copies_out(
+                scene,
+                call,
+                STRING_INDEX_OUT_OF_BOUNDS_EXCEPTION,
+                array,
+                region,
+            )
         }
         _ => unreachable!(),
     }
@@ -55,7 +81,13 @@ pub(crate) fn work_out_region(scene: &Scene<'_>, call: &Call) -> Answer
 fn region_asked(scene: &Scene<'_>, call: &Call, array: LocalArray) -> Option<ArrayRegion>
     requires objects { AreAddresses scene.now.heap.now scene.now.references call.now.operands.items }
     requires array { array ≡ array_in (operand_of call.now.operands.items 3) }
-    ensures { result ≡ region (scene_view scene.now) (call_view call.now) }
+    ensures seen { is_some (name_seen scene.now.heap.now (reference (scene_view scene.now) (call_view call.now) 0)) ≡ true
+        → option_map (region_seen scene.now.heap.now) result
+        ≡ region_within (name_or_zero (name_seen scene.now.heap.now (reference (scene_view scene.now) (call_view call.now) 0)))
+        (length (values_seen scene.now.heap.now (reference (scene_view scene.now) (call_view call.now) 0)))
+        (number_at scene.now.stack.now 1) (number_at scene.now.stack.now 0) }
+    ensures there { IfSome result (λ r. IsAddress scene.now.heap.now r.object
+        × (r.start + r.count ≤ length (values_at scene.now.heap.now r.object)) × (r.slot ≡ array.start)) }
 {
     let object = argument(scene, call, 0);
     let start = next_number(scene.stack);
@@ -88,7 +120,10 @@ fn region_in(
     array: LocalArray,
 ) -> Option<ArrayRegion>
     requires { ReferenceIsThere heap.now reference }
-    ensures { result ≡ region_in heap.now reference start count array }
+    ensures seen { is_some (name_seen heap.now reference) ≡ true → option_map (region_seen heap.now) result
+        ≡ region_within (name_or_zero (name_seen heap.now reference)) (length (values_seen heap.now reference)) start count }
+    ensures there { IfSome result (λ r. IsAddress heap.now r.object
+        × (r.start + r.count ≤ length (values_at heap.now r.object)) × (r.slot ≡ array.start)) }
 {
     let object = reference?;
     if start < 0 || count < 0 {
@@ -106,7 +141,10 @@ fn region_within(
     array: LocalArray,
 ) -> Option<ArrayRegion>
     requires { IsAddress heap.now object }
-    ensures { result ≡ region_in heap.now (Some object) (pos start) (pos count) array }
+    ensures seen { option_map (region_seen heap.now) result
+        ≡ region_within (name_or_zero (name_seen heap.now (Some object))) (length (values_seen heap.now (Some object))) (pos start) (pos count) }
+    ensures there { IfSome result (λ r. IsAddress heap.now r.object
+        × (r.start + r.count ≤ length (values_at heap.now r.object)) × (r.slot ≡ array.start)) }
 {
     if start as usize + count as usize <= heap.len_of(object) {
         Some(ArrayRegion {
@@ -122,8 +160,19 @@ fn region_within(
 
 /// A region's numbers go into its slots; an exception of this class where there is no region, and a trap where the local array
 /// hasn't so many elements.
-fn copies_out(exception: ClassId, array: LocalArray, region: Option<ArrayRegion>) -> Answer
-    ensures { result ≡ copies_out exception.number array region }
+fn copies_out(
+    scene: &Scene<'_>,
+    call: &Call,
+    exception: ClassId,
+    array: LocalArray,
+    region: Option<ArrayRegion>,
+) -> Answer
+    requires array { array ≡ array_in (operand_of call.now.operands.items 3) }
+    requires there { IfSome region (λ r. IsAddress scene.now.heap.now r.object
+        × (r.start + r.count ≤ length (values_at scene.now.heap.now r.object)) × (r.slot ≡ array.start)) }
+    ensures seen { answer_seen (scene_view scene.now) (call_view call.now) (prototype call.now.function).result result
+        ≡ region_with GetsRegion exception.number array.len (option_map (region_seen scene.now.heap.now) region) }
+    ensures there { answer_there (scene_view scene.now) (call_view call.now) (prototype call.now.function).result result ≡ true }
 {
     match region {
         None => Answer::Throws(exception),
@@ -133,8 +182,19 @@ fn copies_out(exception: ClassId, array: LocalArray, region: Option<ArrayRegion>
 }
 
 /// What the slots of a region hold goes into its object; where it can't, the answer is that of `copies_out`.
-fn copies_in(exception: ClassId, array: LocalArray, region: Option<ArrayRegion>) -> Answer
-    ensures { result ≡ copies_in exception.number array region }
+fn copies_in(
+    scene: &Scene<'_>,
+    call: &Call,
+    exception: ClassId,
+    array: LocalArray,
+    region: Option<ArrayRegion>,
+) -> Answer
+    requires array { array ≡ array_in (operand_of call.now.operands.items 3) }
+    requires there { IfSome region (λ r. IsAddress scene.now.heap.now r.object
+        × (r.start + r.count ≤ length (values_at scene.now.heap.now r.object)) × (r.slot ≡ array.start)) }
+    ensures seen { answer_seen (scene_view scene.now) (call_view call.now) (prototype call.now.function).result result
+        ≡ region_with SetsRegion exception.number array.len (option_map (region_seen scene.now.heap.now) region) }
+    ensures there { answer_there (scene_view scene.now) (call_view call.now) (prototype call.now.function).result result ≡ true }
 {
     match region {
         None => Answer::Throws(exception),

@@ -22,3 +22,8 @@ pub returns-in-Monitors : goal.returns-in-Monitors
 returns-in-Monitors c =
     let it = c.work_out_monitor in
     answers_seen (scene_view c.args.scene.now) (call_view c.args.call.now) it.result it.ensures.seen it.ensures.there it.ensures.ends it.ensures.calls
+
+pub returns-in-Regions : goal.returns-in-Regions
+returns-in-Regions c =
+    let it = c.work_out_region in
+    answers_seen (scene_view c.args.scene.now) (call_view c.args.call.now) it.result it.ensures.seen it.ensures.there it.ensures.ends it.ensures.calls
