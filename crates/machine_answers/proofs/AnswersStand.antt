@@ -25,7 +25,7 @@ use Rattle.jni.specs.Subjects.{subject_of}
 use Rattle.jni.specs.declared.kinds.ParameterKind.{ParameterKind}
 use Rattle.jni.specs.declared.kinds.ParameterKind.TheVariants.{ClassObject, NonNull, NumberArray, Passed, StringObject}
 use Rattle.jni.specs.declared.kinds.ResultKind.{ResultKind}
-use Rattle.jni.specs.declared.kinds.ResultKind.TheVariants.{GivesInt, GivesNothing, NewLocal}
+use Rattle.jni.specs.declared.kinds.ResultKind.TheVariants.{GivesBuffer, GivesInt, GivesNothing, NewLocal}
 use Rattle.semantics.specs.Answer as source
 use Rattle.semantics.specs.Arguments.{name_or_zero, object_given, variable_given}
 use Rattle.semantics.specs.AnswerTable.{monitor_entered, monitor_left}
@@ -40,7 +40,7 @@ use Rattle.semantics.specs.Thread.{monitor_of as monitor_in}
 use Rattle.semantics.specs.declared.trap.Trap.{Trap}
 use Rattle.semantics.specs.Variable.{Cleared, Weakly}
 use Rattle.semantics.proofs.AnswerFacts.{IsMade, IsOfKind, IsRaised, NoClass, NoElement, NoField, NoMethod, NoOwner, NoSize, NoStore, NoUnit, OfClass, OfField, OfFlag, OfInt, OfMethod, OfNothing, OfNumbers, OfReference, OfReferences, OfText, OfWeak, Takes}
-use Rattle.semantics.proofs.AnswerKinds.{AnswersAs, CallKind, Disowning, EndingGlobal, EndingLocal, EndingNoLocal, EndingNoStatic, EndingWeak, EndsLocal, EndsStatic, Ensuring, EnsuringNone, Filling, FillingNone, Giving, Halting, IsChecked, Making, MakingGlobal, Owning, Pending, Popping, Pushing, PushingNone, Raising, RaisingWith, SettingRegion, Writing, answers_as, call_kind}
+use Rattle.semantics.proofs.AnswerKinds.{AnswersAs, CallKind, Copying, Disowning, EndingGlobal, EndingLocal, EndingNoLocal, EndingNoStatic, EndingWeak, EndsLocal, EndsStatic, Ensuring, EnsuringNone, Filling, FillingNone, Giving, Halting, IsChecked, Making, MakingGlobal, Owning, Pending, Popping, Pushing, PushingNone, Raising, RaisingWith, SettingRegion, Viewing, Writing, answers_as, call_kind}
 use Rattle.world_values.proofs.LoadedWorlds.{class_within}
 use Rattle.code_meaning.specs.Fits.{IsReferenceKind}
 use Rattle.monitors.specs.Monitors.{entering, leaving, monitor_of}
@@ -68,10 +68,12 @@ use Rattle.machine_answers.specs.declared.answer.Given.TheVariants as given
 use Rattle.machine_answers.specs.Answered.{TwoCalls, Asked, IsAnswerTo, Passes, scene, unit}
 use Rattle.machine_answers.specs.Answers.{GivenAgrees}
 use Rattle.machine_answers.specs.Answers as row
-use Rattle.machine_answers.specs.AnswersSeen.{CallsMethod, EndsFirst, IsSeen, IsThere, WhenPassed, answer_seen, answer_there, given_seen, given_there, held_name, is_at, is_entered, is_key, is_left, is_static_at, is_weak, made_seen, named, new_there, owned_seen, reference_there, region_seen, region_there, takes_object, value_there}
+use Rattle.machine_answers.specs.AnswersSeen.{CallsMethod, EndsFirst, IsSeen, IsThere, WhenPassed, answer_seen, answer_there, given_seen, given_there, held_name, is_at, is_entered, is_key, is_left, is_static_at, is_weak, made_seen, named, new_there, owned_seen, reference_there, region_seen, region_there, same_buffer, takes_object, value_there}
 use Rattle.machine_answers.specs.Asked.{deletes_static}
 use Rattle.machine_answers.specs.Checked.{may_be_null}
 use Rattle.machine_answers.specs.Sights.{array_in, held_seen, name_seen, value_seen}
+use Rattle.machine_answers.specs.WorkedOut.{buffer_there, slot_of}
+use Rattle.machine_answers.proofs.BufferAnswers.{buffer_is, copy_acquired, is_release, release_is, released_so}
 use Rattle.machine_answers.proofs.CallOperands.{few_there, own_making}
 use Rattle.machine_answers.proofs.CallTraps.{goes_together, same_pending, seen_is}
 use Rattle.machine_answers.proofs.FieldValues.{values_there}
@@ -369,6 +371,15 @@ module _ (both : TwoCalls) where
         subst (λ (y : source.Answer). Stands both (replies.CopiesIn r) GivesNothing y) is
         (copied_in both f h r (region_named r there) there region.array
         (subst (λ (n : ℕ). values_of shared.heap n ≡ map Number (numbers_of shared.heap n)) (sym name) (numbers_are both f h free region.numbers)))
+    stand (replies.AcquiresCopy a) of (Copying {access = access} gets plain) is there =
+        subst (λ (y : source.Answer). Stands both (replies.AcquiresCopy a) (GivesBuffer access) y) is (copy_acquired both f h a access (named_there store.heap a there))
+    stand (replies.AcquiresView a) of (Viewing {access = access} gets critical) is there =
+        subst (λ (y : source.Answer). Stands both (replies.AcquiresView a) (GivesBuffer access) y) is (row.acquires_view (named store.heap a) (access, refl) (named_there store.heap a there))
+    stand (replies.Releases r) of rows is there =
+        let slot = slot_of (operand_of call.operands 1) == r.slot in
+        let parts = and_parts (is_some (block_at store.heap r.object) && slot) (same_buffer (buffer_there activation.slots.buffers.items r.slot) r.held) there in
+        let first = and_parts (is_some (block_at store.heap r.object)) slot parts.0 in
+        released_so both f h r (named_there store.heap r.object first.0) (eqb-true _ r.slot first.1) (buffer_is _ r.held parts.1) of rows is (ap is_release (sym is) ∙ release_is (named store.heap r.object) r.mode)
     stand (replies.Enters o) of rows is there =
         let parts = and_parts (is_key (name_at store.heap o.address) o.name) (is_entered (entering k (monitor_of store.monitors o.name))) there in
         enters o is (of_monitor rows (ap changes_monitor (sym is) ∙ entered k o.name (monitor_of store.monitors o.name) parts.1)) (key_is _ o.name parts.0) (came_in _ parts.1)

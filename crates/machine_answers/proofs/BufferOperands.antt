@@ -1,4 +1,4 @@
--- What the operands of a function of buffers give: a buffer, and the mode of its release.
+-- What the operands of a function of buffers give: a buffer.
 use Rattle.std.proofs.Common.{inl, inr, ◌≡◌, ℕ, ℤ, pos, negsuc, ◌<◌, List, [], ◌∷◌, map, Option, Some, refl, sym, ap, ◌∙◌, subst, arith}
 use Rattle.std.specs.Prelude.{FitsSigned, IsTrue, slice_get}
 use Rattle.std.specs.Int.{w32, cast_signed, cast_unsigned}
@@ -12,15 +12,12 @@ use Rattle.syntax.specs.Tree.{SourceUnit}
 use Rattle.class_rules.specs.Class.{Classes}
 use Rattle.code.specs.declared.instr.Operand.{Operand}
 use Rattle.code.specs.declared.instr.Operand.TheVariants as operand
-use Rattle.jni.specs.declared.mode.ReleaseMode.{ReleaseMode as ModeOfCode}
-use Rattle.code_meaning.specs.Coding.{mode_code}
 use Rattle.code_meaning.specs.Does.{AllTogether}
 use Rattle.heap.specs.Heap.{Space}
 use Rattle.jni.specs.declared.access.Access.{Access}
-use Rattle.jni.specs.declared.access.Access.TheVariants.{ElementsCopy}
 use Rattle.jni.specs.declared.kinds.ParameterKind.{ParameterKind}
-use Rattle.jni.specs.declared.kinds.ParameterKind.TheVariants.{BufferVariable, Mode}
-use Rattle.semantics.specs.Arguments.{Actual, mode_given, mode_in_actual, variable_given, variable_in_actual}
+use Rattle.jni.specs.declared.kinds.ParameterKind.TheVariants.{BufferVariable}
+use Rattle.semantics.specs.Arguments.{Actual, variable_given, variable_in_actual}
 use Rattle.semantics.specs.Variable.{Variables}
 use Rattle.semantics_typing.specs.Objects.{AreInRange}
 use Rattle.world_values.specs.WorldRules.{is_in_range}
@@ -30,7 +27,6 @@ use Rattle.machine_scenes.specs.Buffers.{HeldBuffers, HoldsBuffer}
 use Rattle.machine_scenes.specs.Given as given
 use Rattle.machine_scenes.specs.Given.{HasBuffer, IsGiven, operand_of, operand_or_null}
 use Rattle.machine_scenes.specs.Statics.{References}
-use Rattle.machine_answers.specs.WorkedOut.{mode_of}
 use Rattle.machine_answers.proofs.ArgumentPlaces.{at_kind, with_each}
 
 -- ---- a buffer
@@ -51,15 +47,6 @@ module _ {unit : SourceUnit} {classes : Classes} {space : Space} {references : R
   pub given_buffer : (buffers : HeldBuffers) (vs : Variables) {access : Access} {ps : List ParameterKind} {operands : List Operand} {args : List Actual} → AllTogether (IsGiven unit classes space references fields) ps operands args → AllZip (HasBuffer space buffers vs) operands args
       → slice_get ps 1 ≡ Some (BufferVariable access) → GivenBuffer space buffers vs operands args
   given_buffer buffers vs all has is = let second = at_kind 1 (with_each all has) is in of_buffer buffers vs second.at second.is second.given.0 second.given.1
-
-  -- ---- a mode
-
-  of_mode : (t : ElementType) (operands : List Operand) (args : List Actual) {o : Operand} {a : Actual} → slice_get operands 2 ≡ Some o → slice_get args 2 ≡ Some a → IsGiven unit classes space references fields Mode o a → mode_of (ElementsCopy t) (operand_of operands 2) ≡ mode_code (mode_given args 2)
-  of_mode t operands args at is given.mode = ap (λ (o : Option Operand). mode_of (ElementsCopy t) (operand_or_null o)) at ∙ sym (ap (λ (a : Option Actual). mode_code (mode_in_actual a)) is)
-  of_mode t operands args at is (given.reference kind there) = absurd kind
-
-  pub given_mode : (t : ElementType) {ps : List ParameterKind} {operands : List Operand} {args : List Actual} → AllTogether (IsGiven unit classes space references fields) ps operands args → slice_get ps 2 ≡ Some Mode → mode_of (ElementsCopy t) (operand_of operands 2) ≡ mode_code (mode_given args 2)
-  given_mode t {operands = operands} {args = args} all is = let third = at_kind 2 all is in of_mode t operands args third.at third.is third.given
 
 -- ---- numbers
 

@@ -10,7 +10,7 @@ use Rattle.classes.specs.declared.class.FieldHandle.{FieldHandle}
 use Rattle.code.specs.Call.{Call}
 use Rattle.code.specs.Effect.{truth_word}
 use Rattle.jni.specs.declared.function.JniFunction.{JniFunction}
-use Rattle.jni.specs.declared.function.JniFunction.TheVariants.{GetBuffer, ReleaseBuffer, FindClass, AllocObject, GetFieldID, GetStaticFieldID, GetSuperclass, GetObjectClass, IsInstanceOf, IsAssignableFrom, GetField, SetField, GetObjectField, SetObjectField, GetStaticField, SetStaticField, GetStaticObjectField, SetStaticObjectField, GetStaticMethodID, CallStaticVoidMethod, CallStaticIntMethod, CallStaticObjectMethod}
+use Rattle.jni.specs.declared.function.JniFunction.TheVariants.{FindClass, AllocObject, GetFieldID, GetStaticFieldID, GetSuperclass, GetObjectClass, IsInstanceOf, IsAssignableFrom, GetField, SetField, GetObjectField, SetObjectField, GetStaticField, SetStaticField, GetStaticObjectField, SetStaticObjectField, GetStaticMethodID, CallStaticVoidMethod, CallStaticIntMethod, CallStaticObjectMethod}
 use Rattle.jni.specs.JniFunction.{calls_method, prototype}
 use Rattle.jni.specs.Subjects.{subject_of}
 use Rattle.jni.specs.declared.kinds.ParameterKind.TheVariants.{ClassObject, FieldID, IntNumber, NonNull, Nullable}
@@ -39,7 +39,6 @@ use Rattle.machine_answers.proofs.TrapsSeen.{fits_one}
 use Rattle.machine_answers.specs.Answered.{IsAnswerTo, TwoCalls, Asked, Passes, unit, scene}
 use Rattle.machine_answers.proofs.TwoCalls.{Works, at, class_given, fields, method_error, object_given_at, table_of}
 use Rattle.machine_answers.proofs.KindAnswers.{Stands, back, class_agrees, class_found, class_of_first, does, field_found, first_name, held_agrees, holder, method_found, named, number_read, place_is, reference_read, sight, stands, stored, there, written}
-use Rattle.machine_answers.proofs.BufferAnswers.{answers_get_buffer, answers_release}
 use Rattle.machine_answers.proofs.MethodAnswers.{method_called}
 
 module _ (both : TwoCalls) where
@@ -127,8 +126,6 @@ module _ (both : TwoCalls) where
       let place = place_is both SetStaticObjectField ClassObject (Nullable ∷ []) refl refl h free (own_statics w.classes (field_there w.classes handle).class) in
       stands both (is ∙ (λ i. writes_there store.heap (it.same i) (place i) (held_reference (at both 2))))
       (written both declaring it.address _ _ _ _ it.is it.named (held_agrees both (at both 2) _ (named both SetStaticObjectField h 2)) h.store_agrees)
-  seen (GetBuffer access) here h free answer is = back both (GetBuffer access) h (answers_get_buffer both access h free answer is)
-  seen (ReleaseBuffer access) here h free answer is = back both (ReleaseBuffer access) h (answers_release both access h free answer is)
   seen CallStaticVoidMethod here h free answer is = stands both is (back both CallStaticVoidMethod h (method_called both CallStaticVoidMethod refl h free))
   seen CallStaticIntMethod here h free answer is = stands both is (back both CallStaticIntMethod h (method_called both CallStaticIntMethod refl h free))
   seen CallStaticObjectMethod here h free answer is = stands both is (back both CallStaticObjectMethod h (method_called both CallStaticObjectMethod refl h free))

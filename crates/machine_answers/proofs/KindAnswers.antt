@@ -5,7 +5,6 @@ use Rattle.std.specs.Int.{w32, cast_signed, cast_unsigned}
 use Rattle.std.specs.List.{AllZip}
 use Rattle.std.specs.Option.{option_map_or}
 use Rattle.std.proofs.Math.Facts.{to_z-of_z}
-use Rattle.std.proofs.lemmas.List.{length-map}
 use Rattle.std.proofs.lemmas.Bool.Decides.{nat_tests}
 use Rattle.base.specs.Bytes.{lookup}
 use Rattle.base.specs.declared.element.ElementType.{ElementType}
@@ -16,7 +15,7 @@ use Rattle.classes.specs.declared.class.FieldHandle.{FieldHandle}
 use Rattle.code.specs.Effect.{element_word}
 use Rattle.code.specs.declared.instr.Operand.{Operand}
 use Rattle.code.specs.declared.instr.Operand.TheVariants as operand
-use Rattle.heap.specs.Heap.{name_at, values_at}
+use Rattle.heap.specs.Heap.{name_at}
 use Rattle.heap.specs.declared.value.Value.{Value}
 use Rattle.heap.specs.declared.value.Value.TheVariants as cell
 use Rattle.jni.specs.declared.function.JniFunction.{JniFunction}
@@ -60,7 +59,7 @@ use Rattle.machine_answers.specs.Answers.{GivenAgrees, IsAnswer}
 use Rattle.machine_answers.specs.Answers as row
 use Rattle.machine_answers.specs.Asked.{deletes_static}
 use Rattle.machine_answers.specs.Checked.{may_be_null, some_missing}
-use Rattle.machine_answers.specs.Sights.{call_seen, class_object_seen, held_seen, name_seen, number_at, object_seen, values_seen, words_of}
+use Rattle.machine_answers.specs.Sights.{call_seen, class_object_seen, held_seen, name_seen, number_at, object_seen, words_of}
 use Rattle.machine_answers.specs.WorkedOut.{IsFoundField, IsFoundMethod, address_in, class_object, found_class, held_reference, place_there, value_there, word_in, writes_there}
 use Rattle.machine_answers.proofs.CallOperands.{GivenObject, is_number, second_field}
 use Rattle.machine_answers.proofs.CallTraps.{handles_there, none_lacking, objects_there}
@@ -174,10 +173,6 @@ module _ (both : TwoCalls) where
       subst (λ (x : Object). ReferenceAgrees store.heap (address_in (value_there store.heap (Some a) i)) (reference_in (value_in x i)))
       (sym (object_there_is store.heap shared.heap agree.heap a n h)) (reference_there p w store shared (all both) agree a n i h)
   reference_read o q h agree i = absurd h
-
-  -- how many values an object has
-  pub count_seen : (a : ℕ) → length (values_at store.heap a) ≡ length (values_seen store.heap (Some a))
-  count_seen a = sym (length-map (values_at store.heap a) _)
 
   -- the class object of a class of the table
   abbrev pub InTable : ℕ → Type 0

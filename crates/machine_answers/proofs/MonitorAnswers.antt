@@ -8,9 +8,7 @@ use Rattle.semantics.specs.Answer.{Answer, Disowns, Owns, Raises}
 use Rattle.semantics.specs.AnswerTable.{gives_int, monitor_entered, monitor_left}
 use Rattle.semantics.specs.CallStep.{is_owned_by_other}
 use Rattle.monitors.specs.declared.monitors.Monitor.{Monitor}
-use Rattle.monitors.specs.declared.monitors.Enter.{Enter}
 use Rattle.monitors.specs.declared.monitors.Enter.TheVariants.{Entered, Limit, Busy}
-use Rattle.monitors.specs.declared.monitors.Exit.{Exit}
 use Rattle.monitors.specs.declared.monitors.Exit.TheVariants.{Left, NotOwner}
 use Rattle.monitors.specs.Monitors.{entering, leaving}
 use Rattle.machine_answers.specs.AnswersSeen.{is_entered, is_left}

@@ -9,9 +9,9 @@ use Rattle.jni.specs.declared.function.JniFunction.{JniFunction}
 use Rattle.jni.specs.JniFunction.{parameters_for}
 use Rattle.jni.specs.declared.kinds.ParameterKind.{ParameterKind}
 use Rattle.jni.specs.declared.kinds.ParameterKind.TheVariants.{ClassObject}
-use Rattle.semantics.specs.Arguments.{reference_given, object_given, name_or_zero}
+use Rattle.semantics.specs.Arguments.{reference_given, name_or_zero}
 use Rattle.semantics.specs.Heap.{class_of, object_at}
-use Rattle.semantics.specs.Object.{Object, Reference}
+use Rattle.semantics.specs.Object.{Object}
 use Rattle.semantics.specs.World.{loaded_objects}
 use Rattle.semantics_typing.proofs.TableKinds.{grown_long}
 use Rattle.code_meaning.specs.Does.{AllTogether}
@@ -87,9 +87,6 @@ module _ (both : TwoCalls) where
       object_at_place (unit both) w.classes store.heap references fields before q after kind never (subst (λ (l : List ParameterKind). AllTogether (IsGiven (unit both) w.classes store.heap references fields) l call.operands args) are h.given)
       (none_deleted p w store pending activation call others k owner shared s target f args h free)
       (subst (λ (l : List ParameterKind). some_missing references fields l call.operands ≡ false) are (none_lacking p w store pending activation call others k owner shared s target f args h free))
-
-  pub object_there : (g : GivenObject (unit both) w.classes store.heap references fields call.operands args 0) → name_at store.heap g.address ≡ Some (object_given args 0)
-  object_there g = g.named ∙ ap (λ (q : Reference). Some (name_or_zero q)) (sym g.is)
 
   -- the class that argument i is
   pub class_given : (f : JniFunction) (before after : List ParameterKind) → parameters_for f (length args) ≡ before ++ ClassObject ∷ after → Asked both f → Passes both

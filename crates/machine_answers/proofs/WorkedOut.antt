@@ -1,5 +1,5 @@
 -- What is worked out of a call of each function, by what is in memory.
-use Rattle.std.specs.Prelude.{Bool, true, false, ◌==◌, ◌≡◌, ℕ, List, [], slice_get, unwrap_or, Option, Some, None}
+use Rattle.std.specs.Prelude.{Bool, true, false, ◌==◌, ◌≡◌, ℕ, List, [], slice_get, unwrap_or, Option, Some}
 use Rattle.base.specs.declared.element.ElementType.{ElementType}
 use Rattle.class_rules.specs.ClassIds.{class_id}
 use Rattle.class_rules.specs.Class.{assignable, class_named, superclass}
@@ -10,17 +10,17 @@ use Rattle.code_meaning.specs.Coding.{element_of}
 use Rattle.heap.specs.declared.value.Value.{Value}
 use Rattle.heap.specs.declared.value.Value.TheVariants as value
 use Rattle.jni.specs.declared.function.JniFunction.{JniFunction}
-use Rattle.jni.specs.declared.function.JniFunction.TheVariants.{GetBuffer, ReleaseBuffer, FindClass, GetSuperclass, GetObjectClass, IsInstanceOf, IsAssignableFrom, AllocObject, GetFieldID, GetStaticFieldID, GetField, SetField, GetStaticField, SetStaticField, GetObjectField, SetObjectField, GetStaticObjectField, SetStaticObjectField, GetStaticMethodID, CallStaticVoidMethod, CallStaticIntMethod, CallStaticObjectMethod}
+use Rattle.jni.specs.declared.function.JniFunction.TheVariants.{FindClass, GetSuperclass, GetObjectClass, IsInstanceOf, IsAssignableFrom, AllocObject, GetFieldID, GetStaticFieldID, GetField, SetField, GetStaticField, SetStaticField, GetObjectField, SetObjectField, GetStaticObjectField, SetStaticObjectField, GetStaticMethodID, CallStaticVoidMethod, CallStaticIntMethod, CallStaticObjectMethod}
 use Rattle.jni.specs.declared.subject.Subject.{Subject}
-use Rattle.jni.specs.declared.subject.Subject.TheVariants.{Arrays, Exceptions, Monitors, References, Regions}
+use Rattle.jni.specs.declared.subject.Subject.TheVariants.{Arrays, Buffers, Exceptions, Monitors, References, Regions}
 use Rattle.semantics.specs.Method.{find_method}
 use Rattle.machine_answers.specs.declared.answer.Given.TheVariants.{Nothing, Number, Reference}
 use Rattle.machine_answers.specs.declared.answer.Answer.{Answer}
 use Rattle.machine_answers.specs.declared.answer.Answer.TheVariants.{Gives, Makes, Calls}
 use Rattle.machine_scenes.specs.declared.new_object.New.TheVariants.{Fresh}
 use Rattle.machine_scenes.specs.Scenes.{Scene}
-use Rattle.machine_scenes.specs.Given.{operand_of, class_of_given, name_there, fits_there}
-use Rattle.machine_answers.specs.WorkedOut.{class_object, found_class, IsFoundField, IsFoundMethod, value_there, word_in, address_in, held_reference, writes_there, acquires, mode_of, releases}
+use Rattle.machine_scenes.specs.Given.{class_of_given, name_there, fits_there}
+use Rattle.machine_answers.specs.WorkedOut.{class_object, found_class, IsFoundField, IsFoundMethod, value_there, word_in, address_in, held_reference, writes_there}
 use Rattle.machine_answers.specs.WorkedOut as at
 
 -- the subjects of which what is worked out stands here
@@ -30,6 +30,7 @@ is_here References = false
 is_here Exceptions = false
 is_here Monitors = false
 is_here Regions = false
+is_here Buffers = false
 is_here s = true
 
 -- A call that sees this.
@@ -71,8 +72,6 @@ module _ (scene : Scene) (call : Call) where
   worked_out (SetStaticField T) = writes_there scene.space declaring place_of_static (stored T)
   worked_out GetStaticObjectField = Gives (Reference (address_in (value_there scene.space declaring place_of_static)))
   worked_out SetStaticObjectField = writes_there scene.space declaring place_of_static (held_reference (reference 2))
-  worked_out (GetBuffer access) = acquires access (reference 0)
-  worked_out (ReleaseBuffer access) = releases scene.buffers (reference 0) (operand_of call.operands 1) (mode_of access (operand_of call.operands 2))
   worked_out CallStaticVoidMethod = Calls
   worked_out CallStaticIntMethod = Calls
   worked_out CallStaticObjectMethod = Calls

@@ -14,7 +14,7 @@ use Rattle.jni.specs.declared.kinds.ResultKind.TheVariants.{GivesFlag}
 use Rattle.jni.specs.JniFunction.{calls_method, prototype}
 use Rattle.jni.specs.Subjects.{subject_of}
 use Rattle.jni.specs.declared.subject.Subject.{Subject}
-use Rattle.jni.specs.declared.subject.Subject.TheVariants.{Monitors, Regions}
+use Rattle.jni.specs.declared.subject.Subject.TheVariants.{Buffers, Monitors, Regions}
 use Rattle.semantics.specs.Answer as source
 use Rattle.semantics.specs.Answer.{Region}
 use Rattle.semantics.specs.AnswerTable.{call_answer, method_called, monitor_entered, monitor_left, released}
@@ -46,6 +46,9 @@ use Rattle.machine_answers.specs.declared.answer.Answer.{Answer}
 use Rattle.machine_answers.specs.declared.answer.Answer.TheVariants as answer
 use Rattle.machine_answers.specs.Sights.{array_in, call_seen, held_seen, method_seen, monitor_seen, name_seen, value_seen, values_seen}
 use Rattle.machine_scenes.specs.declared.array_region.ArrayRegion.{ArrayRegion}
+use Rattle.machine_scenes.specs.declared.buffer.Buffer.{Buffer}
+use Rattle.machine_scenes.specs.declared.buffer.Buffer.TheVariants as buffer
+use Rattle.machine_answers.specs.WorkedOut.{buffer_there, slot_of}
 use Rattle.machine_scenes.specs.declared.new_object.New.{New}
 use Rattle.machine_scenes.specs.declared.new_object.New.TheVariants as new
 use Rattle.machine_scenes.specs.Given.{key_at, method_at, name_there, operand_at, operand_of}
@@ -189,7 +192,14 @@ abbrev pub region_there : Space → LocalArray → ArrayRegion → Bool
 region_there space array r =
     is_some (block_at space r.object) && nat_le (r.start + r.count) (length (values_at space r.object)) && (r.slot == array.start) && nat_le r.count array.len
 
--- an answer of those that are seen so: none of buffers and methods
+-- two slots of buffers hold the same
+abbrev pub same_buffer : Buffer → Buffer → Bool
+same_buffer buffer.Null buffer.Null = true
+same_buffer (buffer.Copy a) (buffer.Copy b) = a == b
+same_buffer (buffer.View a) (buffer.View b) = a == b
+same_buffer a b = false
+
+-- an answer of those that are seen so: none of methods
 abbrev pub answer_there : Scene → Call → ResultKind → Answer → Bool
 answer_there scene call kind (answer.Gives g) = given_there scene.space kind g
 answer_there scene call kind (answer.Writes a i v) =
@@ -204,6 +214,10 @@ answer_there scene call kind (answer.MakesWeak a) = reference_there scene.space 
 answer_there scene call kind (answer.DeletesWeak i) = is_static_at (operand_of call.operands 0) i && is_weak (static_at scene.references i)
 answer_there scene call kind (answer.CopiesOut r) = region_there scene.space (array_in (operand_of call.operands 3)) r
 answer_there scene call kind (answer.CopiesIn r) = region_there scene.space (array_in (operand_of call.operands 3)) r
+answer_there scene call kind (answer.AcquiresCopy a) = is_some (block_at scene.space a)
+answer_there scene call kind (answer.AcquiresView a) = is_some (block_at scene.space a)
+answer_there scene call kind (answer.Releases r) =
+    is_some (block_at scene.space r.object) && (slot_of (operand_of call.operands 1) == r.slot) && same_buffer (buffer_there scene.buffers r.slot) r.held
 answer_there scene call kind (answer.Enters o) =
     is_key (name_at scene.space o.address) o.name && is_entered (entering scene.thread (monitor_of scene.monitors o.name))
 answer_there scene call kind (answer.Exits n) = is_left (leaving scene.thread (monitor_of scene.monitors n))
@@ -221,6 +235,7 @@ answer_there scene call kind a = false
 abbrev pub takes_object : Subject → Bool
 takes_object Monitors = true
 takes_object Regions = true
+takes_object Buffers = true
 takes_object s = false
 
 module _ (scene : Scene) (call : Call) where

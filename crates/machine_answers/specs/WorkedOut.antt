@@ -11,18 +11,17 @@ use Rattle.code.specs.Call.{Call}
 use Rattle.code.specs.declared.instr.Operand.{Operand}
 use Rattle.code.specs.declared.instr.Operand.TheVariants as operand
 use Rattle.jni.specs.declared.mode.ReleaseMode.{ReleaseMode}
-use Rattle.jni.specs.declared.mode.ReleaseMode.TheVariants.{CopyBackAndFree, FreeUncopied}
+use Rattle.jni.specs.declared.mode.ReleaseMode.TheVariants.{FreeUncopied}
 use Rattle.heap.specs.Heap.{Space, values_at}
 use Rattle.heap.specs.declared.value.Value.{Value}
 use Rattle.heap.specs.declared.value.Value.TheVariants as value
 use Rattle.jni.specs.declared.access.Access.{Access}
 use Rattle.jni.specs.declared.access.Access.TheVariants.{ElementsCopy}
-use Rattle.jni.specs.Access.{is_critical}
 use Rattle.semantics.specs.Method.{MethodId}
 use Rattle.machine_answers.specs.declared.answer.Given.TheVariants.{Nothing, Reference}
 use Rattle.machine_answers.specs.declared.answer.Given.TheVariants as given
 use Rattle.machine_answers.specs.declared.answer.Answer.{Answer}
-use Rattle.machine_answers.specs.declared.answer.Answer.TheVariants.{Gives, Writes, Throws, Ensures, Pushes, RefusesFrames, Deletes, DeletesGlobal, DeletesWeak, AcquiresCopy, AcquiresView, Releases}
+use Rattle.machine_answers.specs.declared.answer.Answer.TheVariants.{Gives, Writes, Throws, Ensures, Pushes, RefusesFrames, Deletes, DeletesGlobal, DeletesWeak}
 use Rattle.machine_scenes.specs.declared.buffer.Buffer.{Buffer}
 use Rattle.machine_scenes.specs.declared.buffer.Buffer.TheVariants as buffer
 use Rattle.machine_scenes.specs.FieldIds.{IsMethod}
@@ -123,11 +122,6 @@ place_there classes (Some h) fields = place_among (field_there classes (Some h))
 
 -- ---- buffers
 
--- a copy or a view of an object is acquired, and NULL given where there is none
-abbrev pub acquires : Access → Option ℕ → Answer
-acquires access None = Gives (given.Buffer buffer.Null)
-acquires access (Some a) = if is_critical access then AcquiresView a else AcquiresCopy a
-
 -- the slot of an operand that is a buffer
 abbrev pub slot_of : Operand → ℕ
 slot_of (operand.Buffer i) = i
@@ -137,16 +131,10 @@ slot_of o = 0
 abbrev pub buffer_there : List Buffer → (slot : ℕ) → Buffer
 buffer_there buffers slot = unwrap_or (slice_get buffers slot) buffer.Null
 
--- the mode of a release: that of this operand for elements of an array; nothing else is copied back
-abbrev pub mode_of : Access → Operand → ReleaseMode
-mode_of (ElementsCopy T) (operand.Mode mode) = mode
-mode_of (ElementsCopy T) o = CopyBackAndFree
-mode_of access o = FreeUncopied
-
--- the buffer of an operand is released
-abbrev pub releases : List Buffer → (object : Option ℕ) → Operand → ReleaseMode → Answer
-releases buffers None o mode = Gives Nothing
-releases buffers (Some a) o mode = Releases (record { object = a; slot = slot_of o; held = buffer_there buffers (slot_of o); mode = mode })
+-- the mode of a release: the one that is given for elements of an array; nothing else is copied back
+abbrev pub mode_of : Access → (given : ReleaseMode) → ReleaseMode
+mode_of (ElementsCopy T) mode = mode
+mode_of access mode = FreeUncopied
 
 -- ---- what a call sees
 

@@ -1,17 +1,23 @@
 //! Functions of buffers, and what they do to copied lists, views and slots.
 
-ghost use Rattle.std.specs.Prelude.{◌≡◌, ◌<◌, ◌≤◌, length, map, slice_set, if◌then◌else◌, true, IfOk, OnErr};
+ghost use Rattle.std.specs.Prelude.{◌≡◌, ◌<◌, ◌≤◌, is_some, length, map, slice_set, if◌then◌else◌, true, IfOk, OnErr};
 ghost use Rattle.std.specs.Int.{w32, cast_signed};
 ghost use Rattle.code.specs.Call.{call_view};
 ghost use Rattle.heap.specs.Heap.{pins_at, IsAddress};
-ghost use Rattle.machine_answers.specs.Answered.{IsAnswerTo};
+ghost use Rattle.machine_answers.specs.AnswersSeen.{CallsMethod, EndsFirst, IsSeen, IsThere, answer_seen, answer_there};
 ghost use Rattle.machine_answers.specs.BufferChanges.{CanCopyBack, CanGiveUp, GivesUp, MakesCopy, MakesView, MayGiveUp, copied_back, space_back};
 ghost use Rattle.machine_scenes.specs.Buffers.{copies_back, gives_up};
 ghost use Rattle.machine_answers.specs.Copies.{words_at};
-ghost use Rattle.machine_scenes.specs.Given.{operand_of, AreAddresses};
+ghost use Rattle.machine_scenes.specs.Given.{operand_of, AreAddresses, ReferenceIsThere};
 ghost use Rattle.machine_scenes.specs.Scenes.{scene_view};
+ghost use Rattle.jni.specs.Access.{is_critical};
+ghost use Rattle.jni.specs.JniFunction.{prototype};
 ghost use Rattle.jni.specs.Subjects.{subject_of};
-ghost use Rattle.machine_answers.specs.WorkedOut.{acquires, buffer_there, mode_of, releases, slot_of};
+ghost use Rattle.machine_answers.specs.Sights.{mode_seen, name_seen};
+ghost use Rattle.machine_answers.specs.WorkedOut.{buffer_there, mode_of, slot_of};
+ghost use Rattle.semantics.specs.Answer.{Copies, Views};
+ghost use Rattle.semantics.specs.AnswerTable.{released};
+ghost use Rattle.semantics.specs.Arguments.{name_or_zero};
 ghost use Rattle.jni.specs.declared.subject.Subject.TheVariants as subject;
 
 use crate::answer::{Answer, Given, argument};
@@ -30,27 +36,35 @@ use tables::Elements;
 /// "Release<PrimitiveType>ArrayElements Routines", "GetPrimitiveArrayCritical, ReleasePrimitiveArrayCritical",
 /// "GetStringChars", "ReleaseStringChars" and "GetStringCritical, ReleaseStringCritical").
 #[inline(always)]
-#[tactic(auto, using(crate::proofs::CallAnswers::answers))]
+#[tactic(auto, using(crate::proofs::BufferAnswers::buffer_got, crate::proofs::BufferAnswers::buffer_released, std::proofs::lemmas::Grind::common_steps))]
 pub(crate) fn work_out_buffer(scene: &Scene<'_>, call: &Call) -> Answer
     requires subject { subject_of call.now.function ≡ subject.Buffers }
     requires objects { AreAddresses scene.now.heap.now scene.now.references call.now.operands.items }
-    ensures { IsAnswerTo (scene_view scene.now) (call_view call.now) result }
+    ensures seen { IsSeen (scene_view scene.now) (call_view call.now) result }
+    ensures there { IsThere (scene_view scene.now) (call_view call.now) result }
+    ensures ends { EndsFirst (scene_view scene.now) (call_view call.now) result }
+    ensures calls { CallsMethod (call_view call.now) result }
 {
     let object = argument(scene, call, 0);
     match call.function {
-        JniFunction::GetBuffer(access) => acquires(access, object),
+        JniFunction::GetBuffer(access) => acquires(scene, call, access, object),
         JniFunction::ReleaseBuffer(access) => {
             let mode = mode_of(access, operand_of(&call.operands, 2));
             let slot = slot_of(operand_of(&call.operands, 1));
-            releases(scene.buffers, object, slot, mode)
+            releases(scene, call, object, slot, mode)
         }
         _ => unreachable!(),
     }
 }
 
 /// A copy or a view of an object is acquired; NULL is given where there is none.
-fn acquires(access: Access, object: Option<Addr>) -> Answer
-    ensures { result ≡ acquires access object }
+fn acquires(scene: &Scene<'_>, call: &Call, access: Access, object: Option<Addr>) -> Answer
+    requires { ReferenceIsThere scene.now.heap.now object }
+    ensures seen { is_some (name_seen scene.now.heap.now object) ≡ true
+        → answer_seen (scene_view scene.now) (call_view call.now) (prototype call.now.function).result result
+        ≡ (if is_critical access then Views (name_or_zero (name_seen scene.now.heap.now object))
+        else Copies (name_or_zero (name_seen scene.now.heap.now object))) }
+    ensures there { answer_there (scene_view scene.now) (call_view call.now) (prototype call.now.function).result result ≡ true }
 {
     match object {
         None => Answer::Gives(Given::Buffer(Buffer::Null)),
@@ -71,7 +85,7 @@ fn slot_of(operand: Operand) -> usize
 
 /// The mode of a release: that of this operand for elements of an array. Nothing else is copied back.
 fn mode_of(access: Access, operand: Operand) -> ReleaseMode
-    ensures { result ≡ mode_of access operand }
+    ensures { result ≡ mode_of access (mode_seen operand) }
 {
     match access {
         Access::ElementsCopy(_) => match operand {
@@ -89,16 +103,28 @@ fn buffer_there(buffers: &[Buffer], slot: usize) -> Buffer
     buffers.get(slot).copied().unwrap_or(Buffer::Null)
 }
 
-/// The buffer in a slot is released.
-fn releases(buffers: &[Buffer], object: Option<Addr>, slot: usize, mode: ReleaseMode) -> Answer
-    ensures { (operand : Operand) → slot ≡ slot_of operand → result ≡ releases buffers.now object operand mode }
+/// The buffer in the slot of operand 1 is released.
+#[tactic(auto, using(crate::proofs::BufferAnswers::buffer_own, std::proofs::lemmas::Grind::common_steps))]
+fn releases(
+    scene: &Scene<'_>,
+    call: &Call,
+    object: Option<Addr>,
+    slot: usize,
+    mode: ReleaseMode,
+) -> Answer
+    requires object { ReferenceIsThere scene.now.heap.now object }
+    requires slot { slot ≡ slot_of (operand_of call.now.operands.items 1) }
+    ensures seen { is_some (name_seen scene.now.heap.now object) ≡ true
+        → answer_seen (scene_view scene.now) (call_view call.now) (prototype call.now.function).result result
+        ≡ released (name_or_zero (name_seen scene.now.heap.now object)) mode }
+    ensures there { answer_there (scene_view scene.now) (call_view call.now) (prototype call.now.function).result result ≡ true }
 {
     match object {
         None => Answer::Gives(Given::Nothing),
         Some(object) => Answer::Releases(Release {
             object,
             slot,
-            held: buffer_there(buffers, slot),
+            held: buffer_there(scene.buffers, slot),
             mode,
         }),
     }
