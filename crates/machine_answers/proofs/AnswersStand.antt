@@ -76,6 +76,7 @@ use Rattle.machine_answers.specs.WorkedOut.{buffer_there, slot_of}
 use Rattle.machine_answers.proofs.BufferAnswers.{buffer_is, copy_acquired, is_release, release_is, released_so}
 use Rattle.machine_answers.proofs.CallOperands.{few_there, own_making}
 use Rattle.machine_answers.proofs.CallTraps.{goes_together, same_pending, seen_is}
+use Rattle.machine_answers.proofs.FieldPlaces.{field_given, place_inside}
 use Rattle.machine_answers.proofs.FieldValues.{values_there}
 use Rattle.machine_answers.proofs.KindAnswers.{InTable, IsStatic, Stands, does, named as named_at, own_key, pending_named, same_names, same_sight, sight, static_named}
 use Rattle.machine_answers.proofs.LongTables.{class_is_no_throwable, class_is_plain}
@@ -422,7 +423,7 @@ agreed_there space (Some a) None agrees = absurd agrees
 module _ (both : TwoCalls) where
   open both use {p, w, store, pending, activation, call, others, k, owner, shared, s, target, sound, args}
 
-  module _ (f : JniFunction) (h : Asked both f) where
+  module _ (f : JniFunction) (h : Asked both f) (free : Passes both) where
     heap_cells : (a i b : ℕ) → slice_get (values_at store.heap a) i ≡ Some (cell.Block b) → is_some (block_at store.heap b) ≡ true
     heap_cells a i b is = by_name (name_at store.heap a) refl
       where
@@ -466,6 +467,8 @@ module _ (both : TwoCalls) where
         (λ is. some_key store.heap activation.locals (key_at (references both) (operand_of call.operands 0)) (name_seen store.heap (at both 0)) (level_of (lookup (variable_given args 0) s.variables)) (own_key both f h is))
         (first_object free)
         (not_owned free)
+        (field_given both f h free)
+        (place_inside both f h free)
 
 -- an answer that is seen as the source's stands for it
 pub answers_seen : (sees : Scene) (call : Call) (x : Answer) → IsSeen sees call x → IsThere sees call x → EndsFirst sees call x → CallsMethod call x → IsAnswerTo sees call x
@@ -478,7 +481,7 @@ answers_seen sees call x is there ends calls = record {
       let found : IsThere (scene both) (record both.call { function = f }) x =
       subst (λ (y : Scene). IsThere y (record both.call { function = f }) x) (sym same) (subst (λ (c : Call). IsThere sees c x) (sym (ap (λ (c : Call). record c { function = f }) here ∙ called)) there) in
       does both f h
-      (stand both f h free x refl (answers_as (unit both) both.w.classes both.k (sight both f) f) (passed both f h free (seen both.activation.locals (length both.s.callers))) (found (agreed_there both.store.heap both.pending both.s.pending h.pending_agrees) (heap_cells both f h)));
+      (stand both f h free x refl (answers_as (unit both) both.w.classes both.k (sight both f) f) (passed both f h free (seen both.activation.locals (length both.s.callers))) (found (agreed_there both.store.heap both.pending both.s.pending h.pending_agrees) (heap_cells both f h free)));
   ends = ends;
   calls = calls;
 }

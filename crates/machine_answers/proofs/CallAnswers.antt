@@ -10,7 +10,7 @@ use Rattle.classes.specs.declared.class.FieldHandle.{FieldHandle}
 use Rattle.code.specs.Call.{Call}
 use Rattle.code.specs.Effect.{truth_word}
 use Rattle.jni.specs.declared.function.JniFunction.{JniFunction}
-use Rattle.jni.specs.declared.function.JniFunction.TheVariants.{FindClass, AllocObject, GetFieldID, GetStaticFieldID, GetSuperclass, GetObjectClass, IsInstanceOf, IsAssignableFrom, GetField, SetField, GetObjectField, SetObjectField, GetStaticField, SetStaticField, GetStaticObjectField, SetStaticObjectField, GetStaticMethodID, CallStaticVoidMethod, CallStaticIntMethod, CallStaticObjectMethod}
+use Rattle.jni.specs.declared.function.JniFunction.TheVariants.{AllocObject, CallStaticIntMethod, CallStaticObjectMethod, CallStaticVoidMethod, FindClass, GetFieldID, GetObjectClass, GetStaticField, GetStaticFieldID, GetStaticMethodID, GetStaticObjectField, GetSuperclass, IsAssignableFrom, IsInstanceOf, SetStaticField, SetStaticObjectField}
 use Rattle.jni.specs.JniFunction.{calls_method, prototype}
 use Rattle.jni.specs.Subjects.{subject_of}
 use Rattle.jni.specs.declared.kinds.ParameterKind.TheVariants.{ClassObject, FieldID, IntNumber, NonNull, Nullable}
@@ -89,41 +89,25 @@ module _ (both : TwoCalls) where
   seen GetStaticMethodID here h free answer is =
       method_found both _ answer (method_error both (h.methods refl))
       (subst (λ (c : ℕ). IsFoundMethod (unit both) w.classes (find_method (unit both) w.classes c (text 0) (text 1)) answer) (name 0) is)
-  seen (GetField T) here h free answer is =
-      let f = GetField T in
-      stands both (is ∙ ap (λ (i : ℕ). Gives (given.Number (word_in (value_there store.heap (at both 0) i)))) (place_is both f NonNull [] refl refl h free _))
-      (row.gives (number_read both (at both 0) _ (named both f h 0) h.store_agrees _))
-  seen (SetField T) here h free answer is =
-      let f = SetField T in
-      let first = object_given_at both f [] NonNull (FieldID ∷ IntNumber ∷ []) tt refl refl h free in
-      stands both (is ∙ ap (λ (i : ℕ). writes_there store.heap (at both 0) i (worked.stored (scene both) call T)) (place_is both f NonNull (IntNumber ∷ []) refl refl h free _))
-      (written both (at both 0) first.address _ _ _ _ first.at (first_name both first) (stored both f 2 T refl refl h) h.store_agrees)
-  seen GetObjectField here h free answer is =
-      stands both (is ∙ ap (λ (i : ℕ). Gives (given.Reference (address_in (value_there store.heap (at both 0) i)))) (place_is both GetObjectField NonNull [] refl refl h free _))
-      (row.gives (row.reference (reference_read both (at both 0) _ (named both GetObjectField h 0) h.store_agrees _)))
-  seen SetObjectField here h free answer is =
-      let first = object_given_at both SetObjectField [] NonNull (FieldID ∷ Nullable ∷ []) tt refl refl h free in
-      stands both (is ∙ ap (λ (i : ℕ). writes_there store.heap (at both 0) i (held_reference (at both 2))) (place_is both SetObjectField NonNull (Nullable ∷ []) refl refl h free _))
-      (written both (at both 0) first.address _ _ _ _ first.at (first_name both first) (held_agrees both (at both 2) _ (named both SetObjectField h 2)) h.store_agrees)
   seen (GetStaticField T) here h free answer is =
       let f = GetStaticField T in
       let it = holder both f [] refl h free in
-      let place = place_is both f ClassObject [] refl refl h free (own_statics w.classes (field_there w.classes handle).class) in
+      let place = place_is both f ClassObject [] refl h free (own_statics w.classes (field_there w.classes handle).class) in
       stands both (is ∙ (λ i. Gives (given.Number (word_in (value_there store.heap (it.same i) (place i)))))) (row.gives (number_read both declaring _ it.agrees h.store_agrees _))
   seen (SetStaticField T) here h free answer is =
       let f = SetStaticField T in
       let it = holder both f (IntNumber ∷ []) refl h free in
-      let place = place_is both f ClassObject (IntNumber ∷ []) refl refl h free (own_statics w.classes (field_there w.classes handle).class) in
+      let place = place_is both f ClassObject (IntNumber ∷ []) refl h free (own_statics w.classes (field_there w.classes handle).class) in
       stands both (is ∙ (λ i. writes_there store.heap (it.same i) (place i) (worked.stored (scene both) call T)))
       (written both declaring it.address _ _ _ _ it.is it.named (stored both f 2 T refl refl h) h.store_agrees)
   seen GetStaticObjectField here h free answer is =
       let it = holder both GetStaticObjectField [] refl h free in
-      let place = place_is both GetStaticObjectField ClassObject [] refl refl h free (own_statics w.classes (field_there w.classes handle).class) in
+      let place = place_is both GetStaticObjectField ClassObject [] refl h free (own_statics w.classes (field_there w.classes handle).class) in
       stands both (is ∙ (λ i. Gives (given.Reference (address_in (value_there store.heap (it.same i) (place i))))))
       (row.gives (row.reference (reference_read both declaring _ it.agrees h.store_agrees _)))
   seen SetStaticObjectField here h free answer is =
       let it = holder both SetStaticObjectField (Nullable ∷ []) refl h free in
-      let place = place_is both SetStaticObjectField ClassObject (Nullable ∷ []) refl refl h free (own_statics w.classes (field_there w.classes handle).class) in
+      let place = place_is both SetStaticObjectField ClassObject (Nullable ∷ []) refl h free (own_statics w.classes (field_there w.classes handle).class) in
       stands both (is ∙ (λ i. writes_there store.heap (it.same i) (place i) (held_reference (at both 2))))
       (written both declaring it.address _ _ _ _ it.is it.named (held_agrees both (at both 2) _ (named both SetStaticObjectField h 2)) h.store_agrees)
   seen CallStaticVoidMethod here h free answer is = stands both is (back both CallStaticVoidMethod h (method_called both CallStaticVoidMethod refl h free))

@@ -135,9 +135,9 @@ module _ (unit : SourceUnit) (classes : Classes) (space : Space) (references : R
   handle_in given.null_field h = absurd (cc)
   handle_in (given.reference kind there) h = absurd kind
 
-  pub second_field : (p : ParameterKind) (parameters : List ParameterKind) {operands : List Operand} {args : List Actual} → may_be_null p ≡ false → AllTogether (IsGiven unit classes space references fields) (p ∷ FieldID ∷ parameters) operands args
+  pub second_field : (p : ParameterKind) (parameters : List ParameterKind) {operands : List Operand} {args : List Actual} → AllTogether (IsGiven unit classes space references fields) (p ∷ FieldID ∷ parameters) operands args
       → some_missing references fields (p ∷ FieldID ∷ parameters) operands ≡ false → (h : FieldHandle) × (field_at fields (operand_of operands 1) ≡ Some h)
-  second_field p parameters never (list.more {y = o} first (list.more {y = x} {ys = operands} second rest)) missing =
+  second_field p parameters (list.more {y = o} first (list.more {y = x} {ys = operands} second rest)) missing =
       let later = second_of (not (may_be_null p) && gives_null references fields o) (some_missing references fields (FieldID ∷ parameters) (x ∷ operands)) missing in
       handle_in second (first_of (gives_null references fields x) (some_missing references fields parameters operands) later)
 

@@ -253,17 +253,17 @@ module _ (both : TwoCalls) where
   -- ---- fields and statics
 
   -- the field ID of argument 1 isn't NULL
-  handle_given : (f : JniFunction) (q : ParameterKind) (parameters : List ParameterKind) → may_be_null q ≡ false → parameters_for f (length args) ≡ q ∷ FieldID ∷ parameters → Asked both f → Passes both
+  pub handle_given : (f : JniFunction) (q : ParameterKind) (parameters : List ParameterKind) → parameters_for f (length args) ≡ q ∷ FieldID ∷ parameters → Asked both f → Passes both
       → (x : FieldHandle) × (field_at (fields both) (operand_of call.operands 1) ≡ Some x)
-  handle_given f q parameters never are h free =
-      second_field (unit both) w.classes store.heap (references both) (fields both) q parameters never (subst (λ (l : List ParameterKind). AllTogether (IsGiven (unit both) w.classes store.heap (references both) (fields both)) l call.operands args) are h.given)
+  handle_given f q parameters are h free =
+      second_field (unit both) w.classes store.heap (references both) (fields both) q parameters (subst (λ (l : List ParameterKind). AllTogether (IsGiven (unit both) w.classes store.heap (references both) (fields both)) l call.operands args) are h.given)
       (subst (λ (l : List ParameterKind). some_missing (references both) (fields both) l call.operands ≡ false) are (none_lacking p w store pending activation call others k owner shared s target f args h free))
 
   -- the place of the field of argument 1 among these
-  pub place_is : (f : JniFunction) (q : ParameterKind) (parameters : List ParameterKind) → may_be_null q ≡ false → parameters_for f (length args) ≡ q ∷ FieldID ∷ parameters → Asked both f → Passes both → (among : List FieldId)
+  pub place_is : (f : JniFunction) (q : ParameterKind) (parameters : List ParameterKind) → parameters_for f (length args) ≡ q ∷ FieldID ∷ parameters → Asked both f → Passes both → (among : List FieldId)
       → place_there w.classes (field_at (fields both) (operand_of call.operands 1)) among ≡ place_in (field_there w.classes (field_at (fields both) (operand_of call.operands 1))) among
-  place_is f q parameters never are h free among =
-      let handle = handle_given f q parameters never are h free in
+  place_is f q parameters are h free among =
+      let handle = handle_given f q parameters are h free in
       subst (λ (o : Option FieldHandle). place_there w.classes o among ≡ place_in (field_there w.classes o) among) (sym handle.1) refl
 
   -- the class object that holds the static of a handle
@@ -276,7 +276,7 @@ module _ (both : TwoCalls) where
 
   pub holder : (f : JniFunction) (parameters : List ParameterKind) → parameters_for f (length args) ≡ ClassObject ∷ FieldID ∷ parameters → Asked both f → Passes both → Holder (field_at (fields both) (operand_of call.operands 1))
   holder f parameters are h free =
-      let handle = handle_given f ClassObject parameters refl are h free in
+      let handle = handle_given f ClassObject parameters are h free in
       let there = handle_of w.classes (fields both) call.operands 1 (handles_there p w store pending activation call others k owner shared s target f args h) handle.0 handle.1 in
       let class = class_of_field w.classes handle.0 there in
       let within = class_within w.classes handle.0 there in

@@ -9,6 +9,7 @@ pub mod CallTraps
 pub mod CopiedRegions
 pub mod FewValues
 pub mod FieldKinds
+pub mod FieldPlaces
 pub mod FieldValues
 pub mod ItemPlaces
 pub mod KindAnswers

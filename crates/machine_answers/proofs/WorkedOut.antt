@@ -10,9 +10,9 @@ use Rattle.code_meaning.specs.Coding.{element_of}
 use Rattle.heap.specs.declared.value.Value.{Value}
 use Rattle.heap.specs.declared.value.Value.TheVariants as value
 use Rattle.jni.specs.declared.function.JniFunction.{JniFunction}
-use Rattle.jni.specs.declared.function.JniFunction.TheVariants.{FindClass, GetSuperclass, GetObjectClass, IsInstanceOf, IsAssignableFrom, AllocObject, GetFieldID, GetStaticFieldID, GetField, SetField, GetStaticField, SetStaticField, GetObjectField, SetObjectField, GetStaticObjectField, SetStaticObjectField, GetStaticMethodID, CallStaticVoidMethod, CallStaticIntMethod, CallStaticObjectMethod}
+use Rattle.jni.specs.declared.function.JniFunction.TheVariants.{AllocObject, CallStaticIntMethod, CallStaticObjectMethod, CallStaticVoidMethod, FindClass, GetFieldID, GetObjectClass, GetStaticField, GetStaticFieldID, GetStaticMethodID, GetStaticObjectField, GetSuperclass, IsAssignableFrom, IsInstanceOf, SetStaticField, SetStaticObjectField}
 use Rattle.jni.specs.declared.subject.Subject.{Subject}
-use Rattle.jni.specs.declared.subject.Subject.TheVariants.{Arrays, Buffers, Exceptions, Monitors, References, Regions}
+use Rattle.jni.specs.declared.subject.Subject.TheVariants.{Arrays, Buffers, Exceptions, Fields, Monitors, References, Regions}
 use Rattle.semantics.specs.Method.{find_method}
 use Rattle.machine_answers.specs.declared.answer.Given.TheVariants.{Nothing, Number, Reference}
 use Rattle.machine_answers.specs.declared.answer.Answer.{Answer}
@@ -31,15 +31,13 @@ is_here Exceptions = false
 is_here Monitors = false
 is_here Regions = false
 is_here Buffers = false
+is_here Fields = false
 is_here s = true
 
 -- A call that sees this.
 module _ (scene : Scene) (call : Call) where
   abbrev reference : ℕ → Option ℕ
   reference = at.reference scene call
-
-  abbrev place : ℕ
-  place = at.place scene call
 
   abbrev declaring : Option ℕ
   declaring = at.declaring scene call
@@ -64,10 +62,6 @@ module _ (scene : Scene) (call : Call) where
   worked_out IsAssignableFrom = Gives (Number (truth_word (assignable scene.classes
       (name_there scene.space (reference 0)) (name_there scene.space (reference 1)))))
   worked_out AllocObject = Makes (Fresh (class_id (name_there scene.space (reference 0))))
-  worked_out (GetField T) = Gives (Number (word_in (value_there scene.space (reference 0) place)))
-  worked_out (SetField T) = writes_there scene.space (reference 0) place (stored T)
-  worked_out GetObjectField = Gives (Reference (address_in (value_there scene.space (reference 0) place)))
-  worked_out SetObjectField = writes_there scene.space (reference 0) place (held_reference (reference 2))
   worked_out (GetStaticField T) = Gives (Number (word_in (value_there scene.space declaring place_of_static)))
   worked_out (SetStaticField T) = writes_there scene.space declaring place_of_static (stored T)
   worked_out GetStaticObjectField = Gives (Reference (address_in (value_there scene.space declaring place_of_static)))

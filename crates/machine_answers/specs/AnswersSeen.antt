@@ -13,6 +13,7 @@ use Rattle.jni.specs.declared.kinds.ResultKind.{ResultKind}
 use Rattle.jni.specs.declared.kinds.ResultKind.TheVariants.{GivesFlag}
 use Rattle.jni.specs.JniFunction.{calls_method, prototype}
 use Rattle.jni.specs.Subjects.{subject_of}
+use Rattle.jni.specs.declared.subject.Subject.TheVariants as subject
 use Rattle.jni.specs.declared.subject.Subject.{Subject}
 use Rattle.jni.specs.declared.subject.Subject.TheVariants.{Buffers, Monitors, Regions}
 use Rattle.semantics.specs.Answer as source
@@ -45,6 +46,7 @@ use Rattle.machine_answers.specs.declared.answer.Given.TheVariants as given
 use Rattle.machine_answers.specs.declared.answer.Answer.{Answer}
 use Rattle.machine_answers.specs.declared.answer.Answer.TheVariants as answer
 use Rattle.machine_answers.specs.Sights.{array_in, call_seen, held_seen, method_seen, monitor_seen, name_seen, value_seen, values_seen}
+use Rattle.machine_answers.specs.WorkedOut.{handle, place}
 use Rattle.machine_scenes.specs.declared.array_region.ArrayRegion.{ArrayRegion}
 use Rattle.machine_scenes.specs.declared.buffer.Buffer.{Buffer}
 use Rattle.machine_scenes.specs.declared.buffer.Buffer.TheVariants as buffer
@@ -251,7 +253,7 @@ module _ (scene : Scene) (call : Call) where
 
   -- P, by what is known of a call that has passed its checks: an exception that is pending has a name; so has each object, and no two have one;
   -- an object has fewer values than there are `jint`s; a local reference that is to be deleted has a key; a first argument that is to be an
-  -- object isn't NULL; no other thread owns a monitor that is to be entered
+  -- object isn't NULL; no other thread owns a monitor that is to be entered; a field is given, and the object has its place
   abbrev pub WhenPassed : Type 0 → Type 0
   WhenPassed P =
       (is_some (name_seen scene.space scene.pending) ≡ is_some scene.pending)
@@ -260,6 +262,8 @@ module _ (scene : Scene) (call : Call) where
       → (call.function ≡ DeleteLocalRef → is_some (key_at scene.references (operand_of call.operands 0)) ≡ is_some (name 0))
       → (takes_object (subject_of call.function) ≡ true → is_some (name 0) ≡ true)
       → (call.function ≡ MonitorEnter → is_owned_by_other scene.thread (owned_seen scene (name_there scene.space (reference 0))) ≡ false)
+      → (subject_of call.function ≡ subject.Fields → is_some (handle scene call) ≡ true)
+      → (subject_of call.function ≡ subject.Fields → nat_lt (place scene call) count ≡ true)
       → P
 
 -- the answer is the source's, as it is seen
@@ -268,11 +272,15 @@ IsSeen scene call x = (locals : LocalTable) (callers : ℕ) → WhenPassed scene
     (answer_seen scene call (prototype call.function).result x
     ≡ call_answer scene.unit scene.classes scene.thread (call_seen scene locals callers call) call.function)
 
+-- each reference that a cell holds is there
+abbrev pub CellsAreThere : Space → Type 0
+CellsAreThere space = (a i b : ℕ) → slice_get (values_at space a) i ≡ Some (cell.Block b) → is_some (block_at space b) ≡ true
+
 -- what it names is there, where the pending exception and what cells hold is
 abbrev pub IsThere : Scene → Call → Answer → Type 0
 IsThere scene call x =
     (reference_there scene.space scene.pending ≡ true)
-    → ((a i b : ℕ) → slice_get (values_at scene.space a) i ≡ Some (cell.Block b) → is_some (block_at scene.space b) ≡ true)
+    → CellsAreThere scene.space
     → answer_there scene call (prototype call.function).result x ≡ true
 
 -- the local reference that ends is that of the first operand

@@ -17,6 +17,8 @@ use Rattle.heap.specs.declared.value.Value.{Value}
 use Rattle.heap.specs.declared.value.Value.TheVariants as value
 use Rattle.jni.specs.declared.access.Access.{Access}
 use Rattle.jni.specs.declared.access.Access.TheVariants.{ElementsCopy}
+use Rattle.jni.specs.Access.{is_critical}
+use Rattle.semantics.specs.Heap.{place_in}
 use Rattle.semantics.specs.Method.{MethodId}
 use Rattle.machine_answers.specs.declared.answer.Given.TheVariants.{Nothing, Reference}
 use Rattle.machine_answers.specs.declared.answer.Given.TheVariants as given
@@ -154,7 +156,7 @@ module _ (scene : Scene) (call : Call) where
 
   -- its place among the fields of operand 0
   abbrev pub place : ℕ
-  place = place_there scene.classes handle (layout scene.classes (class_of_given scene.space (reference 0)))
+  place = place_in field (layout scene.classes (class_of_given scene.space (reference 0)))
 
   -- the class that declares it
   abbrev pub class : ℕ

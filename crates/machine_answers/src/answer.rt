@@ -1,23 +1,32 @@
 //! What a function of the JNI does, as data.
 
-ghost use Rattle.std.specs.Prelude.{◌≡◌, ◌<◌, ℕ, [], Some, None, true, false, unwrap_or, slice_get, map, length};
+ghost use Rattle.std.specs.Prelude.{◌≡◌, ◌<◌, ℕ, [], Some, None, true, false, is_some, nat_lt, unwrap_or, slice_get, map, length};
+ghost use Rattle.std.specs.Int.{w32, cast_signed};
 ghost use Rattle.classes.specs.FieldViews.{find_as};
 ghost use Rattle.class_rules.specs.ClassIds.{number_of};
 ghost use Rattle.class_rules.specs.Fields.{layout, own_statics};
 ghost use Rattle.class_rules.specs.Grown.{IsGrown};
-ghost use Rattle.machine_answers.specs.AnswersSeen.{CallsMethod, EndsFirst, IsSeen, IsThere};
+ghost use Rattle.machine_answers.specs.AnswersSeen.{CallsMethod, CellsAreThere, EndsFirst, IsSeen, IsThere};
+ghost use Rattle.machine_answers.specs.AnswersSeen as view;
 ghost use Rattle.code.specs.Call.{call_view};
 ghost use Rattle.code.specs.Effect.{element_word, truth_word};
 ghost use Rattle.code_meaning.specs.Coding.{element_of};
-ghost use Rattle.heap.specs.Heap.{IsAddress};
+ghost use Rattle.heap.specs.Heap.{IsAddress, Space};
 ghost use Rattle.machine_answers.specs.Answered.{IsAnswerTo};
 ghost use Rattle.machine_answers.specs.Checked.{arguments_fit};
-ghost use Rattle.machine_answers.specs.Sights.{element_wanted, values_seen};
+ghost use Rattle.machine_answers.specs.Sights.{element_wanted, name_seen, number_at, object_seen, value_seen, values_seen};
 ghost use Rattle.machine_scenes.specs.Given.{field_there, name_there, AreAddresses, AreHandles, FieldIsThere, ReferenceIsThere};
 ghost use Rattle.machine_scenes.specs.Scenes.{scene_view};
 ghost use Rattle.jni.specs.Subjects.{subject_of};
+ghost use Rattle.jni.specs.declared.kinds.ResultKind.TheVariants.{GivesNothing};
 ghost use Rattle.machine_answers.specs.WorkedOut.{address_in, class_object, declaring, deletes, deletes_global, deletes_weak, field, found_class, frame_for, handle, held_reference, place, place_of_static, place_there, reference, room_for, value_there, word_in, writes_there, IsFoundField, IsFoundMethod};
+ghost use Rattle.semantics.specs.Answer.{Writes};
+ghost use Rattle.semantics.specs.AnswerTable.{value_in};
+ghost use Rattle.semantics.specs.Arguments.{name_or_zero};
+ghost use Rattle.semantics.specs.Heap.{number_in, place_in, reference_in};
 ghost use Rattle.semantics.specs.Method.{find_method};
+ghost use Rattle.semantics.specs.Object.{Number, Refers};
+ghost use Rattle.semantics.specs.Value.{convert};
 ghost use Rattle.syntax.specs.Parts.{functions_of};
 ghost use Rattle.syntax.specs.Tree.{Function, FunctionItem};
 ghost use Rattle.syntax.specs.Views.{unit_tree};
@@ -246,7 +255,7 @@ fn work_out_reference(scene: &Scene<'_>, call: &Call) -> Answer
 
 /// What a function does that works on the fields of an object.
 #[inline(always)]
-#[tactic(auto, using(crate::proofs::FieldKinds::no_static, crate::proofs::CallAnswers::answers))]
+#[tactic(auto, using(crate::proofs::FieldKinds::no_static, std::proofs::lemmas::Grind::common_steps), unfolding(semantics::specs::AnswerTable::call_answer))]
 fn work_out_field(scene: &Scene<'_>, call: &Call) -> Answer
     requires subject { subject_of call.now.function ≡ subject.Fields }
     requires grown { IsGrown scene.now.classes.now }
@@ -254,7 +263,10 @@ fn work_out_field(scene: &Scene<'_>, call: &Call) -> Answer
     requires handles { AreHandles scene.now.classes.now scene.now.fields.now call.now.operands.items }
     requires passed { arguments_fit (scene_view scene.now) call.now.operands.items
         (element_wanted call.now.target) call.now.function ≡ true }
-    ensures { IsAnswerTo (scene_view scene.now) (call_view call.now) result }
+    ensures seen { IsSeen (scene_view scene.now) (call_view call.now) result }
+    ensures there { IsThere (scene_view scene.now) (call_view call.now) result }
+    ensures ends { EndsFirst (scene_view scene.now) (call_view call.now) result }
+    ensures calls { CallsMethod (call_view call.now) result }
 {
     match call.function {
         JniFunction::GetField(_) => {
@@ -509,7 +521,8 @@ fn place_of_field(scene: &Scene<'_>, call: &Call) -> usize
     requires grown { IsGrown scene.now.classes.now }
     requires objects { AreAddresses scene.now.heap.now scene.now.references call.now.operands.items }
     requires handles { AreHandles scene.now.classes.now scene.now.fields.now call.now.operands.items }
-    ensures { (field (scene_view scene.now) (call_view call.now)).is_static ≡ false
+    ensures { is_some (handle (scene_view scene.now) (call_view call.now)) ≡ true
+        → (field (scene_view scene.now) (call_view call.now)).is_static ≡ false
         → result ≡ place (scene_view scene.now) (call_view call.now) }
 {
     let class = class_of_given(scene.heap, argument(scene, call, 0));
@@ -542,9 +555,15 @@ fn value_of_field(scene: &Scene<'_>, call: &Call) -> Option<Value>
     requires grown { IsGrown scene.now.classes.now }
     requires objects { AreAddresses scene.now.heap.now scene.now.references call.now.operands.items }
     requires handles { AreHandles scene.now.classes.now scene.now.fields.now call.now.operands.items }
-    ensures { (field (scene_view scene.now) (call_view call.now)).is_static ≡ false
-        → result ≡ value_there scene.now.heap.now (reference (scene_view scene.now) (call_view call.now) 0)
-        (place (scene_view scene.now) (call_view call.now)) }
+    ensures number { is_some (handle (scene_view scene.now) (call_view call.now)) ≡ true
+        → (field (scene_view scene.now) (call_view call.now)).is_static ≡ false → cast_signed w32 (word_in result)
+        ≡ number_in (value_in (object_seen scene.now.heap.now (reference (scene_view scene.now) (call_view call.now) 0))
+        (place (scene_view scene.now) (call_view call.now))) }
+    ensures reference { is_some (handle (scene_view scene.now) (call_view call.now)) ≡ true
+        → (field (scene_view scene.now) (call_view call.now)).is_static ≡ false → name_seen scene.now.heap.now (address_in result)
+        ≡ reference_in (value_in (object_seen scene.now.heap.now (reference (scene_view scene.now) (call_view call.now) 0))
+        (place (scene_view scene.now) (call_view call.now))) }
+    ensures there { CellsAreThere scene.now.heap.now → view.reference_there scene.now.heap.now (address_in result) ≡ true }
 {
     let first = argument(scene, call, 0);
     value_there(scene.heap, first, place_of_field(scene, call))
@@ -556,9 +575,15 @@ fn writes_field(scene: &Scene<'_>, call: &Call, value: Value) -> Answer
     requires grown { IsGrown scene.now.classes.now }
     requires objects { AreAddresses scene.now.heap.now scene.now.references call.now.operands.items }
     requires handles { AreHandles scene.now.classes.now scene.now.fields.now call.now.operands.items }
-    ensures { (field (scene_view scene.now) (call_view call.now)).is_static ≡ false
-        → result ≡ writes_there scene.now.heap.now (reference (scene_view scene.now) (call_view call.now) 0)
-        (place (scene_view scene.now) (call_view call.now)) value }
+    ensures seen { is_some (handle (scene_view scene.now) (call_view call.now)) ≡ true
+        → (field (scene_view scene.now) (call_view call.now)).is_static ≡ false
+        → nat_lt (place (scene_view scene.now) (call_view call.now))
+        (length (values_seen scene.now.heap.now (reference (scene_view scene.now) (call_view call.now) 0))) ≡ true
+        → view.answer_seen (scene_view scene.now) (call_view call.now) GivesNothing result
+        ≡ Writes (name_or_zero (name_seen scene.now.heap.now (reference (scene_view scene.now) (call_view call.now) 0)))
+        (place (scene_view scene.now) (call_view call.now)) (value_seen scene.now.heap.now value) }
+    ensures there { view.value_there scene.now.heap.now value ≡ true
+        → view.answer_there (scene_view scene.now) (call_view call.now) GivesNothing result ≡ true }
 {
     let first = argument(scene, call, 0);
     writes_there(scene.heap, first, place_of_field(scene, call), value)
@@ -595,7 +620,8 @@ fn writes_static(scene: &Scene<'_>, call: &Call, value: Value) -> Answer
 pub(crate) fn field_place(classes: &ClassTable, class: ClassId, field: Option<FieldHandle>) -> usize
     requires grown { IsGrown classes.now }
     requires there { FieldIsThere classes.now field }
-    ensures { (field_there classes.now field).is_static ≡ false → result ≡ place_there classes.now field (layout classes.now class.number) }
+    ensures { is_some field ≡ true → (field_there classes.now field).is_static ≡ false
+        → result ≡ place_in (field_there classes.now field) (layout classes.now class.number) }
 {
     match field {
         Some(handle) => {
@@ -661,7 +687,9 @@ pub(crate) fn address_in(value: Option<Value>) -> Option<Addr>
 /// How a cell holds a reference.
 #[inline(always)]
 pub(crate) fn held_reference(reference: Option<Addr>) -> Value
-    ensures { result ≡ held_reference reference }
+    ensures is { result ≡ held_reference reference }
+    ensures seen { (space : Space) → value_seen space result ≡ Refers (name_seen space reference) }
+    ensures there { (space : Space) → ReferenceIsThere space reference → view.value_there space result ≡ true }
 {
     match reference {
         Some(addr) => Value::Block(addr),
@@ -701,7 +729,9 @@ pub(crate) fn top_word(stack: &Stack) -> u32
 #[tactic(auto, using(code_meaning::proofs::ElementWords::element_same))]
 #[inline(always)]
 pub(crate) fn stored(element: syntax::ElementType, stack: &Stack) -> Value
-    ensures { result ≡ Value.Number (element_word (element_of element) (unwrap_or (slice_get stack.now 0) 0)) }
+    ensures word { result ≡ Value.Number (element_word (element_of element) (unwrap_or (slice_get stack.now 0) 0)) }
+    ensures seen { (space : Space) → value_seen space result ≡ Number (convert element (number_at stack.now 0)) }
+    ensures there { (space : Space) → view.value_there space result ≡ true }
 {
     Value::Number(element_word(element, top_word(stack)))
 }

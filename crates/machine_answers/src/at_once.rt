@@ -3,6 +3,7 @@
 //! twice.
 
 ghost use Rattle.std.specs.Prelude.{◌≡◌, ◌<◌, ℕ, Bool, true, false, None, Some, [], ◌∷◌, is_some, length, map, slice_get, IfSome};
+ghost use Rattle.std.specs.Int.{w32, cast_signed};
 ghost use Rattle.std.specs.List.{list_any};
 ghost use Rattle.class_rules.specs.Class.{assignable};
 ghost use Rattle.class_rules.specs.Fields.{layout};
@@ -14,8 +15,8 @@ ghost use Rattle.jni.specs.declared.kinds.ParameterKind.TheVariants.{ClassObject
 ghost use Rattle.machine_answers.specs.Answered.{IsAnswerTo};
 ghost use Rattle.machine_answers.specs.AtOnce.{field_in_spot};
 ghost use Rattle.machine_answers.specs.Checked.{called, calls_well, function_in, misfits, returns, takes, takes_all, some_misfit, some_missing, trap_found};
-ghost use Rattle.machine_answers.specs.Sights.{element_wanted, gives_deleted, name_seen, number_at, values_seen};
-ghost use Rattle.machine_answers.specs.WorkedOut.{declaring, field, place_of_static, place_there, value_there};
+ghost use Rattle.machine_answers.specs.Sights.{element_wanted, gives_deleted, name_seen, number_at, object_seen, values_seen};
+ghost use Rattle.machine_answers.specs.WorkedOut.{address_in, declaring, field, place_of_static, word_in};
 ghost use Rattle.machine_scenes.specs.Given.{class_there, field_at, field_there, method_at, operand_at, operand_of, AreAddresses, AreHandles, FieldIsThere, ReferenceIsThere};
 ghost use Rattle.machine_scenes.specs.Locals.{locals_after};
 ghost use Rattle.machine_scenes.specs.Scenes.{scene_view};
@@ -25,8 +26,9 @@ ghost use Rattle.syntax.specs.Views.{parameter_tree, unit_tree};
 ghost use Rattle.tables.specs.Locals.{has_room};
 ghost use Rattle.machine_answers.specs.declared.answer.Given.TheVariants.{Number, Reference};
 ghost use Rattle.machine_answers.specs.declared.answer.Answer.TheVariants.{Calls, Gives, Writes, Deletes};
-ghost use Rattle.semantics.specs.AnswerTable.{element_given, gives_reference, index_within};
-ghost use Rattle.machine_answers.specs.AnswersSeen.{reference_there};
+ghost use Rattle.semantics.specs.AnswerTable.{element_given, gives_reference, index_within, value_in};
+ghost use Rattle.semantics.specs.Heap.{number_in, place_in, reference_in};
+ghost use Rattle.machine_answers.specs.AnswersSeen.{CellsAreThere, reference_there};
 
 use crate::answer::{
     address_in, argument, count_there, field_place, held_reference, holder_of_static, name_of,
@@ -123,8 +125,14 @@ fn value_at(scene: &Scene<'_>, spot: &Spot) -> Option<Value>
     requires class { spot.now.class.number ≡ class_there scene.now.heap.now spot.now.object }
     requires field { FieldIsThere scene.now.classes.now (field_in_spot spot.now) }
     requires own { (field_there scene.now.classes.now (field_in_spot spot.now)).is_static ≡ false }
-    ensures { result ≡ value_there scene.now.heap.now (Some spot.now.object) (place_there scene.now.classes.now
-        (field_in_spot spot.now) (layout scene.now.classes.now (class_there scene.now.heap.now spot.now.object))) }
+    ensures number { cast_signed w32 (word_in result) ≡ number_in (value_in (object_seen scene.now.heap.now (Some spot.now.object))
+        (place_in (field_there scene.now.classes.now (field_in_spot spot.now))
+        (layout scene.now.classes.now (class_there scene.now.heap.now spot.now.object)))) }
+    ensures reference { name_seen scene.now.heap.now (address_in result)
+        ≡ reference_in (value_in (object_seen scene.now.heap.now (Some spot.now.object))
+        (place_in (field_there scene.now.classes.now (field_in_spot spot.now))
+        (layout scene.now.classes.now (class_there scene.now.heap.now spot.now.object)))) }
+    ensures there { CellsAreThere scene.now.heap.now → reference_there scene.now.heap.now (address_in result) ≡ true }
 {
     let place = field_place(scene.classes, spot.class, spot.field());
     value_there(scene.heap, Some(spot.object), place)
@@ -140,7 +148,7 @@ fn write_to(scene: &Scene<'_>, spot: &Spot, value: Value) -> Option<Write>
     requires own { (field_there scene.now.classes.now (field_in_spot spot.now)).is_static ≡ false }
     ensures value { IfSome result (λ write. write.value ≡ value) }
     ensures object { IfSome result (λ write. write.object ≡ spot.now.object) }
-    ensures place { IfSome result (λ write. write.place ≡ place_there scene.now.classes.now (field_in_spot spot.now)
+    ensures place { IfSome result (λ write. write.place ≡ place_in (field_there scene.now.classes.now (field_in_spot spot.now))
         (layout scene.now.classes.now (class_there scene.now.heap.now spot.now.object))) }
     ensures inside { IfSome result (λ write. write.place < length (values_at scene.now.heap.now write.object)) }
 {
@@ -347,7 +355,7 @@ fn element_at_once(scene: &Scene<'_>, array: Addr) -> Option<Option<Addr>>
 
 /// The change that a call makes.
 #[inline(always)]
-#[tactic(auto, using(crate::proofs::CallAnswers::answers, std::proofs::lemmas::Grind::common_steps))]
+#[tactic(auto, using(crate::proofs::CallAnswers::answers, crate::proofs::AnswersStand::answers_seen, std::proofs::lemmas::Grind::common_steps), unfolding(semantics::specs::AnswerTable::call_answer))]
 pub fn write_at_once(scene: &Scene<'_>, call: &Call) -> Option<Write>
     requires grown { IsGrown scene.now.classes.now }
     requires loaded { (i a : ℕ) → slice_get scene.now.loaded.now i ≡ Some a → IsAddress scene.now.heap.now a }

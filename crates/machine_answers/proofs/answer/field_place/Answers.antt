@@ -6,7 +6,7 @@ use Rattle.machine_scenes.proofs.Handles.{kind_of_field}
 use Rattle.machine_answers.proofs.answer.field_place.Goals as goal
 
 pub returns-then-handle : goal.returns-then-handle
-returns-then-handle c is =
+returns-then-handle c given is =
     let classes = c.args.classes.now in
     let h = c.in-Some.handle in
     absurd (both_ways (field_there classes c.args.field).is_static is

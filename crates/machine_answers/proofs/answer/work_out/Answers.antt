@@ -32,3 +32,8 @@ pub returns-in-Buffers : goal.returns-in-Buffers
 returns-in-Buffers c =
     let it = c.work_out_buffer in
     answers_seen (scene_view c.args.scene.now) (call_view c.args.call.now) it.result it.ensures.seen it.ensures.there it.ensures.ends it.ensures.calls
+
+pub returns-in-Fields : goal.returns-in-Fields
+returns-in-Fields c =
+    let it = c.work_out_field in
+    answers_seen (scene_view c.args.scene.now) (call_view c.args.call.now) it.result it.ensures.seen it.ensures.there it.ensures.ends it.ensures.calls
