@@ -76,7 +76,7 @@ use Rattle.machine_answers.specs.WorkedOut.{buffer_there, slot_of}
 use Rattle.machine_answers.proofs.BufferAnswers.{buffer_is, copy_acquired, is_release, release_is, released_so}
 use Rattle.machine_answers.proofs.CallOperands.{few_there, own_making}
 use Rattle.machine_answers.proofs.CallTraps.{goes_together, same_pending, seen_is}
-use Rattle.machine_answers.proofs.FieldPlaces.{field_given, place_inside}
+use Rattle.machine_answers.proofs.FieldPlaces.{field_given, place_inside, class_named, static_given, static_inside_it}
 use Rattle.machine_answers.proofs.FieldValues.{values_there}
 use Rattle.machine_answers.proofs.KindAnswers.{InTable, IsStatic, Stands, does, named as named_at, own_key, pending_named, same_names, same_sight, sight, static_named}
 use Rattle.machine_answers.proofs.LongTables.{class_is_no_throwable, class_is_plain}
@@ -469,6 +469,9 @@ module _ (both : TwoCalls) where
         (not_owned free)
         (field_given both f h free)
         (place_inside both f h free)
+        (static_given both f h free)
+        (class_named both f h free)
+        (static_inside_it both f h free)
 
 -- an answer that is seen as the source's stands for it
 pub answers_seen : (sees : Scene) (call : Call) (x : Answer) → IsSeen sees call x → IsThere sees call x → EndsFirst sees call x → CallsMethod call x → IsAnswerTo sees call x

@@ -1,25 +1,24 @@
 -- What the machine works out of calls is what the source's calls do: a row for each function.
-use Rattle.std.proofs.Common.{◌≡◌, ℕ, ◌<◌, ◌≤◌, true, false, not, List, [], ◌∷◌, Option, slice_get, refl, sym, ap, ◌∙◌, subst, arith}
-use Rattle.std.specs.Prelude.{◌==◌, unwrap_or}
+use Rattle.std.proofs.Common.{◌≡◌, ℕ, true, false, not, List, [], slice_get, refl, sym, ap, ◌∙◌, subst, arith}
+use Rattle.std.specs.Prelude.{unwrap_or}
 use Rattle.class_rules.specs.ClassIds.{class_id}
 use Rattle.class_rules.specs.BuiltIns.{has_own_making}
 use Rattle.class_rules.specs.Class.{assignable, superclass}
-use Rattle.class_rules.specs.Fields.{find_field, find_static, own_statics}
+use Rattle.class_rules.specs.Fields.{find_field, find_static}
 use Rattle.class_rules.proofs.GrownTables.{grown_is_ordered}
-use Rattle.classes.specs.declared.class.FieldHandle.{FieldHandle}
 use Rattle.code.specs.Call.{Call}
 use Rattle.code.specs.Effect.{truth_word}
 use Rattle.jni.specs.declared.function.JniFunction.{JniFunction}
-use Rattle.jni.specs.declared.function.JniFunction.TheVariants.{AllocObject, CallStaticIntMethod, CallStaticObjectMethod, CallStaticVoidMethod, FindClass, GetFieldID, GetObjectClass, GetStaticField, GetStaticFieldID, GetStaticMethodID, GetStaticObjectField, GetSuperclass, IsAssignableFrom, IsInstanceOf, SetStaticField, SetStaticObjectField}
+use Rattle.jni.specs.declared.function.JniFunction.TheVariants.{AllocObject, CallStaticIntMethod, CallStaticObjectMethod, CallStaticVoidMethod, FindClass, GetFieldID, GetObjectClass, GetStaticFieldID, GetStaticMethodID, GetSuperclass, IsAssignableFrom, IsInstanceOf}
 use Rattle.jni.specs.JniFunction.{calls_method, prototype}
 use Rattle.jni.specs.Subjects.{subject_of}
-use Rattle.jni.specs.declared.kinds.ParameterKind.TheVariants.{ClassObject, FieldID, IntNumber, NonNull, Nullable}
+use Rattle.jni.specs.declared.kinds.ParameterKind.TheVariants.{NonNull}
 use Rattle.semantics.specs.AnswerTable.{call_answer}
 use Rattle.semantics.specs.Arguments.{name_or_zero}
 use Rattle.semantics.specs.Method.{find_method}
 use Rattle.semantics.specs.Object.{Number}
 use Rattle.world_values.proofs.LoadedWorlds.{class_within}
-use Rattle.machine_scenes.specs.Given.{field_at, field_there, fits_there, name_there, operand_of}
+use Rattle.machine_scenes.specs.Given.{fits_there, name_there}
 use Rattle.machine_scenes.specs.NewObjects.{IsMakeable}
 use Rattle.machine_scenes.specs.Scenes.{Scene}
 use Rattle.machine_scenes.specs.declared.new_object.New.TheVariants.{Fresh}
@@ -27,8 +26,8 @@ use Rattle.machine_answers.specs.declared.answer.Answer.{Answer}
 use Rattle.machine_answers.specs.declared.answer.Answer.TheVariants.{Calls, Gives, Makes}
 use Rattle.machine_answers.specs.declared.answer.Given.TheVariants as given
 use Rattle.machine_answers.specs.Answers as row
-use Rattle.machine_answers.specs.Sights.{class_object_seen, name_seen}
-use Rattle.machine_answers.specs.WorkedOut.{IsFoundField, IsFoundMethod, address_in, class_object, held_reference, value_there, word_in, writes_there}
+use Rattle.machine_answers.specs.Sights.{name_seen}
+use Rattle.machine_answers.specs.WorkedOut.{IsFoundField, IsFoundMethod, class_object}
 use Rattle.machine_answers.proofs.AnswersStand.{makeable}
 use Rattle.machine_answers.proofs.WorkedOut as worked
 use Rattle.machine_answers.proofs.WorkedOut.{IsWorkedOut, is_here}
@@ -37,8 +36,8 @@ use Rattle.machine_answers.proofs.CallTraps.{has_passed}
 use Rattle.machine_answers.proofs.SightParts.{name_is}
 use Rattle.machine_answers.proofs.TrapsSeen.{fits_one}
 use Rattle.machine_answers.specs.Answered.{IsAnswerTo, TwoCalls, Asked, Passes, unit, scene}
-use Rattle.machine_answers.proofs.TwoCalls.{Works, at, class_given, fields, method_error, object_given_at, table_of}
-use Rattle.machine_answers.proofs.KindAnswers.{Stands, back, class_agrees, class_found, class_of_first, does, field_found, first_name, held_agrees, holder, method_found, named, number_read, place_is, reference_read, sight, stands, stored, there, written}
+use Rattle.machine_answers.proofs.TwoCalls.{Works, at, class_given, method_error, object_given_at, table_of}
+use Rattle.machine_answers.proofs.KindAnswers.{Stands, back, class_agrees, class_found, class_of_first, does, field_found, method_found, sight, stands, there}
 use Rattle.machine_answers.proofs.MethodAnswers.{method_called}
 
 module _ (both : TwoCalls) where
@@ -51,13 +50,6 @@ module _ (both : TwoCalls) where
   -- the text of the call at a place
   abbrev text : ℕ → List ℕ
   text i = unwrap_or (slice_get call.texts i) []
-
-  -- the field ID of argument 1, and its class object
-  abbrev handle : Option FieldHandle
-  handle = field_at (fields both) (operand_of call.operands 1)
-
-  abbrev declaring : Option ℕ
-  declaring = class_object_seen store.loaded.items (field_there w.classes handle).class
 
   -- an object of a class that has passed its checks can be made
   makes_object : (h : Asked both AllocObject) → Passes both → IsMakeable w.classes (name_or_zero (name_seen store.heap (at both 0)))
@@ -89,27 +81,6 @@ module _ (both : TwoCalls) where
   seen GetStaticMethodID here h free answer is =
       method_found both _ answer (method_error both (h.methods refl))
       (subst (λ (c : ℕ). IsFoundMethod (unit both) w.classes (find_method (unit both) w.classes c (text 0) (text 1)) answer) (name 0) is)
-  seen (GetStaticField T) here h free answer is =
-      let f = GetStaticField T in
-      let it = holder both f [] refl h free in
-      let place = place_is both f ClassObject [] refl h free (own_statics w.classes (field_there w.classes handle).class) in
-      stands both (is ∙ (λ i. Gives (given.Number (word_in (value_there store.heap (it.same i) (place i)))))) (row.gives (number_read both declaring _ it.agrees h.store_agrees _))
-  seen (SetStaticField T) here h free answer is =
-      let f = SetStaticField T in
-      let it = holder both f (IntNumber ∷ []) refl h free in
-      let place = place_is both f ClassObject (IntNumber ∷ []) refl h free (own_statics w.classes (field_there w.classes handle).class) in
-      stands both (is ∙ (λ i. writes_there store.heap (it.same i) (place i) (worked.stored (scene both) call T)))
-      (written both declaring it.address _ _ _ _ it.is it.named (stored both f 2 T refl refl h) h.store_agrees)
-  seen GetStaticObjectField here h free answer is =
-      let it = holder both GetStaticObjectField [] refl h free in
-      let place = place_is both GetStaticObjectField ClassObject [] refl h free (own_statics w.classes (field_there w.classes handle).class) in
-      stands both (is ∙ (λ i. Gives (given.Reference (address_in (value_there store.heap (it.same i) (place i))))))
-      (row.gives (row.reference (reference_read both declaring _ it.agrees h.store_agrees _)))
-  seen SetStaticObjectField here h free answer is =
-      let it = holder both SetStaticObjectField (Nullable ∷ []) refl h free in
-      let place = place_is both SetStaticObjectField ClassObject (Nullable ∷ []) refl h free (own_statics w.classes (field_there w.classes handle).class) in
-      stands both (is ∙ (λ i. writes_there store.heap (it.same i) (place i) (held_reference (at both 2))))
-      (written both declaring it.address _ _ _ _ it.is it.named (held_agrees both (at both 2) _ (named both SetStaticObjectField h 2)) h.store_agrees)
   seen CallStaticVoidMethod here h free answer is = stands both is (back both CallStaticVoidMethod h (method_called both CallStaticVoidMethod refl h free))
   seen CallStaticIntMethod here h free answer is = stands both is (back both CallStaticIntMethod h (method_called both CallStaticIntMethod refl h free))
   seen CallStaticObjectMethod here h free answer is = stands both is (back both CallStaticObjectMethod h (method_called both CallStaticObjectMethod refl h free))

@@ -19,6 +19,9 @@ use Rattle.jni.specs.declared.subject.Subject.TheVariants as subject
 pub takes_field : (f : JniFunction) (n : ℕ) → subject_of f ≡ subject.Fields → slice_get (parameters_for f n) 1 ≡ Some FieldID
 takes_field f n of = grind (arith, of)
 
+pub takes_static : (f : JniFunction) (n : ℕ) → subject_of f ≡ subject.Statics → slice_get (parameters_for f n) 1 ≡ Some FieldID
+takes_static f n of = grind (arith, of)
+
 module _ (unit : SourceUnit) (classes : Classes) (space : Space) (references : References) (fields : List (Option Handle)) (operands : List Operand) (wanted : ElementType) where
   abbrev pub names_static : Bool
   names_static = (field_there classes (field_at fields (operand_of operands 1))).is_static

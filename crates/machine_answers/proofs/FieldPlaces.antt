@@ -1,5 +1,5 @@
 -- The object that has a field has a value at its place, and so has the class object that declares a static.
-use Rattle.std.proofs.Common.{◌≡◌, ℕ, ◌<◌, Bool, true, false, List, [], ◌∷◌, length, Option, Some, None, slice_get, refl, sym, ap, ◌∙◌, subst, arith}
+use Rattle.std.proofs.Common.{◌≡◌, ℕ, zero, suc, ◌-◌, ◌<◌, Bool, true, false, List, [], ◌∷◌, length, Option, Some, None, slice_get, refl, sym, ap, ◌∙◌, subst, arith}
 use Rattle.std.specs.Prelude.{◌==◌, ◌||◌, IsSome, if◌then◌else◌, is_some, nat_lt, not}
 use Rattle.std.specs.Option.{option_map_or}
 use Rattle.std.proofs.lemmas.Bool.{and_parts, lt-ltb}
@@ -19,24 +19,26 @@ use Rattle.jni.specs.declared.kinds.ParameterKind.TheVariants.{FieldID}
 use Rattle.jni.specs.declared.subject.Subject.TheVariants as subject
 use Rattle.semantics.specs.Arguments.{name_or_zero, reference_given}
 use Rattle.semantics.specs.CallSight as source
-use Rattle.semantics.specs.Heap.{Heap, class_of, is_instance, object_at, place_in, values_of}
+use Rattle.semantics.specs.Heap.{Heap, class_of, is_instance, place_in, static_place, values_of}
 use Rattle.semantics.specs.Object.{Object, ObjectValue}
 use Rattle.semantics_typing.proofs.FieldWrites.{class_low}
-use Rattle.semantics_typing.proofs.Places.{declared_class, field_own, field_placed}
-use Rattle.semantics_typing.proofs.TableKinds.{grown_long, has_fields, itself, no_elements}
+use Rattle.semantics_typing.proofs.Places.{declared_class, field_own, field_placed, static_placed}
+use Rattle.semantics_typing.proofs.TableKinds.{grown_long, has_fields, itself, kind_class, no_elements}
 use Rattle.semantics_typing.proofs.Writes.{there_if}
 use Rattle.semantics_typing.specs.Objects.{AreTypedObjects, element_type_of, fields_of}
 use Rattle.world_values.specs.DeclaredFields.{DeclaresWell, IsDeclared}
-use Rattle.machine_scenes.specs.Given.{class_of_given, field_at, field_there, no_field, operand_of}
-use Rattle.machine_scenes.proofs.Handles.{class_of_field, field_of_handle, kind_of_field}
+use Rattle.machine_scenes.specs.Given.{class_of_given, field_at, field_there, operand_of}
+use Rattle.machine_scenes.specs.HeapAgrees.{ReferenceAgrees}
+use Rattle.machine_scenes.proofs.Handles.{class_known, class_of_field, field_of_handle, kind_of_field}
 use Rattle.machine_scenes.proofs.OperandsThere.{handle_of}
 use Rattle.machine_answers.specs.Answered.{Asked, Passes, TwoCalls, unit}
-use Rattle.machine_answers.specs.Sights.{element_wanted, object_seen, values_seen}
+use Rattle.machine_answers.specs.Sights.{class_object_seen, element_wanted, name_seen, object_seen, values_seen}
+use Rattle.machine_answers.specs.WorkedOut.{class_object}
 use Rattle.machine_answers.proofs.CallTraps.{handles_there, has_passed}
-use Rattle.machine_answers.proofs.FieldKinds.{no_static, takes_field, the_field}
+use Rattle.machine_answers.proofs.FieldKinds.{a_static, no_static, takes_field, takes_static, the_field}
 use Rattle.machine_answers.proofs.KindAnswers.{handle_given}
-use Rattle.machine_answers.proofs.SightParts.{object_seen_is}
-use Rattle.machine_answers.proofs.TwoCalls.{agrees, at, fields, references}
+use Rattle.machine_answers.proofs.SightParts.{name_seen_is, object_seen_is}
+use Rattle.machine_answers.proofs.TwoCalls.{agrees, at, fields, references, table_of}
 
 -- ---- in the source
 
@@ -91,6 +93,18 @@ module _ (classes : Classes) (well : DeclaresWell classes) (g : IsGrown classes)
         ap (λ (l : List ObjectValue). nat_lt (place_in f (layout classes c)) (length l)) values ∙ ap (nat_lt (place_in f (layout classes c))) count
         ∙ lt-ltb _ _ (slice_get_within (layout classes c) (place_in f (layout classes c)) f (field_placed classes well f declared kind c below))
 
+    -- a class object
+    pub static_inside : f.is_static ≡ true → nat_lt (static_place classes f) (length (values_of heap f.class)) ≡ true
+    static_inside kind =
+        let d = declared_class classes f declared in
+        let o = typed.class_objects f.class (class_low classes f.class d.0 d.1) (class_known classes f.class d.0 d.1).1 in
+        let none : element_type_of classes class_class ≡ None = rw (kind_class classes g) refl in
+        let count : length o.0.values ≡ length (own_statics classes f.class) =
+        (typed.objects f.class o.0 o.1).count (ap (element_type_of classes) o.2 ∙ none) ∙ ap (λ (d : ℕ). length (fields_of classes f.class d)) o.2 in
+        let values : values_of heap f.class ≡ o.0.values = ap (λ (x : Option Object). option_map_or (λ (y : Object). y.values) x []) o.1 in
+        ap (λ (l : List ObjectValue). nat_lt (static_place classes f) (length l)) values ∙ ap (nat_lt (static_place classes f)) count
+        ∙ lt-ltb _ _ (slice_get_within (own_statics classes f.class) (static_place classes f) f (static_placed classes well f declared kind))
+
 -- the field of a handle is declared
 declared_there : (classes : Classes) (x : FieldHandle) → IsSome (field_of classes x) → IsDeclared classes (field_there classes (Some x))
 declared_there classes x there =
@@ -136,3 +150,27 @@ module _ (both : TwoCalls) (f : JniFunction) (h : Asked both f) (free : Passes b
       (and_parts (not field.is_static) (assignable w.classes (class_of_given store.heap (at both 0)) field.class) (the_field (unit both) w.classes store.heap (references both) (fields both) call.operands (element_wanted call.target) f of fit)).1 in
       let inside = field_inside w.classes sound.declares sound.grown field (declared (takes_field f (length args) of)) shared.heap h.typed own n (ap (λ (x : Object). assignable w.classes x.class field.class) (sym same) ∙ has) in
       ap (λ (x : Object). nat_lt (place_in field (layout w.classes x.class)) (length x.values)) same ∙ inside
+
+  pub static_given : subject_of f ≡ subject.Statics → is_some (field_at (fields both) (operand_of call.operands 1)) ≡ true
+  static_given of = ap is_some (given (takes_static f (length args) of)).1
+
+  -- the class object that declares a static
+  agrees_there : IsDeclared w.classes field → ReferenceAgrees store.heap (class_object_seen store.loaded.items field.class) (Some field.class)
+  agrees_there known =
+      let d = declared_class w.classes field known in
+      let low = class_low w.classes field.class d.0 d.1 in
+      by_class field.class low (table_of both f h field.class low (class_known w.classes field.class d.0 d.1).1)
+    where
+      by_class : (c : ℕ) → 0 < c → ReferenceAgrees store.heap (class_object store.loaded.items (Some c)) (Some c) → ReferenceAgrees store.heap (class_object_seen store.loaded.items c) (Some c)
+      by_class zero low agrees = absurd (omega (arith, low))
+      by_class (suc c) low agrees = let before : suc c - 1 ≡ c = omega arith in subst (λ (n : ℕ). ReferenceAgrees store.heap (slice_get store.loaded.items n) (Some (suc c))) before agrees
+
+  pub class_named : subject_of f ≡ subject.Statics → name_seen store.heap (class_object_seen store.loaded.items field.class) ≡ Some field.class
+  class_named of = name_seen_is store.heap _ (Some field.class) (agrees_there (declared (takes_static f (length args) of)))
+
+  pub static_inside_it : subject_of f ≡ subject.Statics → nat_lt (static_place w.classes field) (length (values_seen store.heap (class_object_seen store.loaded.items field.class))) ≡ true
+  static_inside_it of =
+      let known = declared (takes_static f (length args) of) in
+      let same : object_seen store.heap (class_object_seen store.loaded.items field.class) ≡ source.object_seen shared.heap field.class = object_seen_is store.heap shared.heap h.store_agrees.heap _ (Some field.class) (agrees_there known) in
+      let own = a_static (unit both) w.classes store.heap (references both) (fields both) call.operands (element_wanted call.target) f of (has_passed p w store pending activation call others k owner shared s target f args h free) in
+      ap (λ (x : Object). nat_lt (static_place w.classes field) (length x.values)) same ∙ static_inside w.classes sound.declares sound.grown field known shared.heap h.typed own

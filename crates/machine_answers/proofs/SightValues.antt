@@ -1,17 +1,12 @@
 -- The values of an object as they are seen: each by itself, and as many; what is read of one and what is written.
-use Rattle.std.proofs.Common.{Fits, ◌≡◌, ℕ, ◌^◌, Bool, true, false, List, [], length, Option, Some, None, refl, sym, ap, ◌∙◌, arith}
+use Rattle.std.proofs.Common.{◌≡◌, ℕ, Bool, true, false, List, [], length, Option, Some, None, refl, sym, ap, ◌∙◌, arith}
 use Rattle.std.specs.Prelude.{◌&&◌, if◌then◌else◌, is_some, map, nat_lt, slice_get}
-use Rattle.std.specs.Int.{w32, cast_signed, cast_unsigned}
+use Rattle.std.specs.Int.{w32, cast_signed}
 use Rattle.std.specs.Option.{option_map, option_map_or}
-use Rattle.std.proofs.Math.Facts.{of_z-to_z, sfits_to_z, to_z-of_z}
 use Rattle.std.proofs.lemmas.Bool.{ltb-true}
 use Rattle.std.proofs.lemmas.List.{length-map}
 use Rattle.std.proofs.lemmas.Option.{slice_get-map}
-use Rattle.base.specs.declared.element.ElementType.{ElementType}
 use Rattle.code.specs.Call.{Call}
-use Rattle.code.specs.Effect.{element_word}
-use Rattle.code_meaning.specs.Coding.{element_of}
-use Rattle.code_meaning.proofs.ElementWords.{convert_fits, element_words}
 use Rattle.heap.specs.Heap.{Block, Space, block_at, values_at}
 use Rattle.heap.specs.declared.value.Value.{Value}
 use Rattle.heap.specs.declared.value.Value.TheVariants as cell
@@ -20,7 +15,6 @@ use Rattle.semantics.specs.Answer as source
 use Rattle.semantics.specs.AnswerTable.{value_in}
 use Rattle.semantics.specs.Arguments.{name_or_zero}
 use Rattle.semantics.specs.Heap.{number_in, reference_in, value_or_zero}
-use Rattle.semantics.specs.Value.{convert}
 use Rattle.machine_scenes.specs.Scenes.{Scene}
 use Rattle.machine_answers.specs.AnswersSeen.{CellsAreThere, answer_seen, answer_there, reference_there, value_there as cell_there}
 use Rattle.machine_answers.specs.declared.answer.Answer.TheVariants.{Gives, Writes}
@@ -74,13 +68,6 @@ module _ (space : Space) where
       by_value (Some (cell.Block b)) there = there b refl
 
 -- ---- what is written
-
--- what is left of a word in an element
-pub stored_word : (T : ElementType) (word : ℕ) → Fits w32 word → cast_signed w32 (element_word (element_of T) word) ≡ convert T (cast_signed w32 word)
-stored_word T word fits =
-    ap (λ (n : ℕ). cast_signed w32 (element_word (element_of T) n)) (sym (of_z-to_z {w = w32} fits))
-    ∙ ap (cast_signed w32) (element_words T (cast_signed w32 word) (sfits_to_z {w = w32} fits))
-    ∙ to_z-of_z {w = w32} (convert_fits T (cast_signed w32 word))
 
 module _ (scene : Scene) (call : Call) where
   -- a value of an object, where the object has it

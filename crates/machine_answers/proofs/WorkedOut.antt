@@ -1,18 +1,14 @@
 -- What is worked out of a call of each function, by what is in memory.
-use Rattle.std.specs.Prelude.{Bool, true, false, ◌==◌, ◌≡◌, ℕ, List, [], slice_get, unwrap_or, Option, Some}
-use Rattle.base.specs.declared.element.ElementType.{ElementType}
+use Rattle.std.specs.Prelude.{Bool, true, false, ◌≡◌, ℕ, List, [], slice_get, unwrap_or, Option, Some}
 use Rattle.class_rules.specs.ClassIds.{class_id}
 use Rattle.class_rules.specs.Class.{assignable, class_named, superclass}
 use Rattle.class_rules.specs.Fields.{find_field, find_static}
 use Rattle.code.specs.Call.{Call}
-use Rattle.code.specs.Effect.{element_word, truth_word}
-use Rattle.code_meaning.specs.Coding.{element_of}
-use Rattle.heap.specs.declared.value.Value.{Value}
-use Rattle.heap.specs.declared.value.Value.TheVariants as value
+use Rattle.code.specs.Effect.{truth_word}
 use Rattle.jni.specs.declared.function.JniFunction.{JniFunction}
-use Rattle.jni.specs.declared.function.JniFunction.TheVariants.{AllocObject, CallStaticIntMethod, CallStaticObjectMethod, CallStaticVoidMethod, FindClass, GetFieldID, GetObjectClass, GetStaticField, GetStaticFieldID, GetStaticMethodID, GetStaticObjectField, GetSuperclass, IsAssignableFrom, IsInstanceOf, SetStaticField, SetStaticObjectField}
+use Rattle.jni.specs.declared.function.JniFunction.TheVariants.{AllocObject, CallStaticIntMethod, CallStaticObjectMethod, CallStaticVoidMethod, FindClass, GetFieldID, GetObjectClass, GetStaticFieldID, GetStaticMethodID, GetSuperclass, IsAssignableFrom, IsInstanceOf}
 use Rattle.jni.specs.declared.subject.Subject.{Subject}
-use Rattle.jni.specs.declared.subject.Subject.TheVariants.{Arrays, Buffers, Exceptions, Fields, Monitors, References, Regions}
+use Rattle.jni.specs.declared.subject.Subject.TheVariants.{Arrays, Buffers, Exceptions, Fields, Monitors, References, Regions, Statics}
 use Rattle.semantics.specs.Method.{find_method}
 use Rattle.machine_answers.specs.declared.answer.Given.TheVariants.{Nothing, Number, Reference}
 use Rattle.machine_answers.specs.declared.answer.Answer.{Answer}
@@ -20,7 +16,7 @@ use Rattle.machine_answers.specs.declared.answer.Answer.TheVariants.{Gives, Make
 use Rattle.machine_scenes.specs.declared.new_object.New.TheVariants.{Fresh}
 use Rattle.machine_scenes.specs.Scenes.{Scene}
 use Rattle.machine_scenes.specs.Given.{class_of_given, name_there, fits_there}
-use Rattle.machine_answers.specs.WorkedOut.{class_object, found_class, IsFoundField, IsFoundMethod, value_there, word_in, address_in, held_reference, writes_there}
+use Rattle.machine_answers.specs.WorkedOut.{class_object, found_class, IsFoundField, IsFoundMethod}
 use Rattle.machine_answers.specs.WorkedOut as at
 
 -- the subjects of which what is worked out stands here
@@ -32,6 +28,7 @@ is_here Monitors = false
 is_here Regions = false
 is_here Buffers = false
 is_here Fields = false
+is_here Statics = false
 is_here s = true
 
 -- A call that sees this.
@@ -39,19 +36,9 @@ module _ (scene : Scene) (call : Call) where
   abbrev reference : ℕ → Option ℕ
   reference = at.reference scene call
 
-  abbrev declaring : Option ℕ
-  declaring = at.declaring scene call
-
-  abbrev place_of_static : ℕ
-  place_of_static = at.place_of_static scene call
-
   -- a text of the call
   abbrev pub text : ℕ → List ℕ
   text i = unwrap_or (slice_get call.texts i) []
-
-  -- how a cell of this type holds the word on the stack
-  abbrev pub stored : ElementType → Value
-  stored T = value.Number (element_word (element_of T) (unwrap_or (slice_get scene.stack 0) 0))
 
   -- the answer of a function that finds no field and no method
   abbrev pub worked_out : JniFunction → Answer
@@ -62,10 +49,6 @@ module _ (scene : Scene) (call : Call) where
   worked_out IsAssignableFrom = Gives (Number (truth_word (assignable scene.classes
       (name_there scene.space (reference 0)) (name_there scene.space (reference 1)))))
   worked_out AllocObject = Makes (Fresh (class_id (name_there scene.space (reference 0))))
-  worked_out (GetStaticField T) = Gives (Number (word_in (value_there scene.space declaring place_of_static)))
-  worked_out (SetStaticField T) = writes_there scene.space declaring place_of_static (stored T)
-  worked_out GetStaticObjectField = Gives (Reference (address_in (value_there scene.space declaring place_of_static)))
-  worked_out SetStaticObjectField = writes_there scene.space declaring place_of_static (held_reference (reference 2))
   worked_out CallStaticVoidMethod = Calls
   worked_out CallStaticIntMethod = Calls
   worked_out CallStaticObjectMethod = Calls

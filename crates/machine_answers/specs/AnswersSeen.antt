@@ -46,7 +46,7 @@ use Rattle.machine_answers.specs.declared.answer.Given.TheVariants as given
 use Rattle.machine_answers.specs.declared.answer.Answer.{Answer}
 use Rattle.machine_answers.specs.declared.answer.Answer.TheVariants as answer
 use Rattle.machine_answers.specs.Sights.{array_in, call_seen, held_seen, method_seen, monitor_seen, name_seen, value_seen, values_seen}
-use Rattle.machine_answers.specs.WorkedOut.{handle, place}
+use Rattle.machine_answers.specs.WorkedOut.{handle, place, declaring, field, place_of_static}
 use Rattle.machine_scenes.specs.declared.array_region.ArrayRegion.{ArrayRegion}
 use Rattle.machine_scenes.specs.declared.buffer.Buffer.{Buffer}
 use Rattle.machine_scenes.specs.declared.buffer.Buffer.TheVariants as buffer
@@ -253,7 +253,8 @@ module _ (scene : Scene) (call : Call) where
 
   -- P, by what is known of a call that has passed its checks: an exception that is pending has a name; so has each object, and no two have one;
   -- an object has fewer values than there are `jint`s; a local reference that is to be deleted has a key; a first argument that is to be an
-  -- object isn't NULL; no other thread owns a monitor that is to be entered; a field is given, and the object has its place
+  -- object isn't NULL; no other thread owns a monitor that is to be entered; a field is given, and the object has its place; a static is
+  -- given, its class object has the name of the class, and its place
   abbrev pub WhenPassed : Type 0 → Type 0
   WhenPassed P =
       (is_some (name_seen scene.space scene.pending) ≡ is_some scene.pending)
@@ -264,6 +265,9 @@ module _ (scene : Scene) (call : Call) where
       → (call.function ≡ MonitorEnter → is_owned_by_other scene.thread (owned_seen scene (name_there scene.space (reference 0))) ≡ false)
       → (subject_of call.function ≡ subject.Fields → is_some (handle scene call) ≡ true)
       → (subject_of call.function ≡ subject.Fields → nat_lt (place scene call) count ≡ true)
+      → (subject_of call.function ≡ subject.Statics → is_some (handle scene call) ≡ true)
+      → (subject_of call.function ≡ subject.Statics → name_seen scene.space (declaring scene call) ≡ Some (field scene call).class)
+      → (subject_of call.function ≡ subject.Statics → nat_lt (place_of_static scene call) (length (values_seen scene.space (declaring scene call))) ≡ true)
       → P
 
 -- the answer is the source's, as it is seen

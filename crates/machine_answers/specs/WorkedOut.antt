@@ -4,8 +4,8 @@ use Rattle.syntax.specs.Tree.{SourceUnit}
 use Rattle.class_rules.specs.ClassIds.{class_id}
 use Rattle.class_rules.specs.BuiltIns.{no_class_def_found_error, no_such_field_error, no_such_method_error}
 use Rattle.class_rules.specs.Class.{Classes}
-use Rattle.class_rules.specs.Fields.{FieldId, layout, own_statics}
-use Rattle.classes.specs.FieldViews.{field_of, place_among}
+use Rattle.class_rules.specs.Fields.{FieldId, layout}
+use Rattle.classes.specs.FieldViews.{field_of}
 use Rattle.classes.specs.declared.class.FieldHandle.{FieldHandle}
 use Rattle.code.specs.Call.{Call}
 use Rattle.code.specs.declared.instr.Operand.{Operand}
@@ -17,8 +17,7 @@ use Rattle.heap.specs.declared.value.Value.{Value}
 use Rattle.heap.specs.declared.value.Value.TheVariants as value
 use Rattle.jni.specs.declared.access.Access.{Access}
 use Rattle.jni.specs.declared.access.Access.TheVariants.{ElementsCopy}
-use Rattle.jni.specs.Access.{is_critical}
-use Rattle.semantics.specs.Heap.{place_in}
+use Rattle.semantics.specs.Heap.{place_in, static_place}
 use Rattle.semantics.specs.Method.{MethodId}
 use Rattle.machine_answers.specs.declared.answer.Given.TheVariants.{Nothing, Reference}
 use Rattle.machine_answers.specs.declared.answer.Given.TheVariants as given
@@ -33,6 +32,7 @@ use Rattle.machine_scenes.specs.Statics.{References, static_at}
 use Rattle.machine_scenes.specs.declared.references.Held.{Held}
 use Rattle.machine_scenes.specs.declared.references.Held.TheVariants as held
 use Rattle.machine_scenes.specs.Given.{operand_at, operand_of, field_at, class_of_given, field_there}
+use Rattle.machine_answers.specs.Sights.{class_object_seen}
 
 -- the address of a class object, where class objects are the first of the table
 abbrev pub class_object : (loaded : List ℕ) → (class : Option ℕ) → Option ℕ
@@ -117,11 +117,6 @@ abbrev pub writes_there : Space → Option ℕ → (place : ℕ) → Value → A
 writes_there space None place v = Gives Nothing
 writes_there space (Some a) place v = if nat_lt place (length (values_at space a)) then Writes a place v else Gives Nothing
 
--- the place of the field of a handle among these, and 0 for NULL
-abbrev pub place_there : Classes → Option FieldHandle → List FieldId → ℕ
-place_there classes None fields = 0
-place_there classes (Some h) fields = place_among (field_there classes (Some h)) fields
-
 -- ---- buffers
 
 -- the slot of an operand that is a buffer
@@ -164,8 +159,8 @@ module _ (scene : Scene) (call : Call) where
 
   -- the class object that holds the static
   abbrev pub declaring : Option ℕ
-  declaring = class_object scene.loaded (Some class)
+  declaring = class_object_seen scene.loaded class
 
   -- its place there
   abbrev pub place_of_static : ℕ
-  place_of_static = place_there scene.classes handle (own_statics scene.classes class)
+  place_of_static = static_place scene.classes field

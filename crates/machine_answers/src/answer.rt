@@ -4,7 +4,7 @@ ghost use Rattle.std.specs.Prelude.{◌≡◌, ◌<◌, ℕ, [], Some, None, tru
 ghost use Rattle.std.specs.Int.{w32, cast_signed};
 ghost use Rattle.classes.specs.FieldViews.{find_as};
 ghost use Rattle.class_rules.specs.ClassIds.{number_of};
-ghost use Rattle.class_rules.specs.Fields.{layout, own_statics};
+ghost use Rattle.class_rules.specs.Fields.{layout};
 ghost use Rattle.class_rules.specs.Grown.{IsGrown};
 ghost use Rattle.machine_answers.specs.AnswersSeen.{CallsMethod, CellsAreThere, EndsFirst, IsSeen, IsThere};
 ghost use Rattle.machine_answers.specs.AnswersSeen as view;
@@ -19,11 +19,11 @@ ghost use Rattle.machine_scenes.specs.Given.{field_there, name_there, AreAddress
 ghost use Rattle.machine_scenes.specs.Scenes.{scene_view};
 ghost use Rattle.jni.specs.Subjects.{subject_of};
 ghost use Rattle.jni.specs.declared.kinds.ResultKind.TheVariants.{GivesNothing};
-ghost use Rattle.machine_answers.specs.WorkedOut.{address_in, class_object, declaring, deletes, deletes_global, deletes_weak, field, found_class, frame_for, handle, held_reference, place, place_of_static, place_there, reference, room_for, value_there, word_in, writes_there, IsFoundField, IsFoundMethod};
+ghost use Rattle.machine_answers.specs.WorkedOut.{address_in, class_object, declaring, deletes, deletes_global, deletes_weak, field, found_class, frame_for, handle, held_reference, place, place_of_static, reference, room_for, value_there, word_in, writes_there, IsFoundField, IsFoundMethod};
 ghost use Rattle.semantics.specs.Answer.{Writes};
 ghost use Rattle.semantics.specs.AnswerTable.{value_in};
 ghost use Rattle.semantics.specs.Arguments.{name_or_zero};
-ghost use Rattle.semantics.specs.Heap.{number_in, place_in, reference_in};
+ghost use Rattle.semantics.specs.Heap.{number_in, place_in, reference_in, static_place};
 ghost use Rattle.semantics.specs.Method.{find_method};
 ghost use Rattle.semantics.specs.Object.{Number, Refers};
 ghost use Rattle.semantics.specs.Value.{convert};
@@ -291,7 +291,7 @@ fn work_out_field(scene: &Scene<'_>, call: &Call) -> Answer
 
 /// What a function does that works on a static of a class.
 #[inline(always)]
-#[tactic(auto, using(crate::proofs::FieldKinds::a_static, crate::proofs::CallAnswers::answers))]
+#[tactic(auto, using(crate::proofs::FieldKinds::a_static, std::proofs::lemmas::Grind::common_steps), unfolding(semantics::specs::AnswerTable::call_answer))]
 fn work_out_static(scene: &Scene<'_>, call: &Call) -> Answer
     requires subject { subject_of call.now.function ≡ subject.Statics }
     requires loaded { (i a : ℕ) → slice_get scene.now.loaded.now i ≡ Some a → IsAddress scene.now.heap.now a }
@@ -299,7 +299,10 @@ fn work_out_static(scene: &Scene<'_>, call: &Call) -> Answer
     requires handles { AreHandles scene.now.classes.now scene.now.fields.now call.now.operands.items }
     requires passed { arguments_fit (scene_view scene.now) call.now.operands.items
         (element_wanted call.now.target) call.now.function ≡ true }
-    ensures { IsAnswerTo (scene_view scene.now) (call_view call.now) result }
+    ensures seen { IsSeen (scene_view scene.now) (call_view call.now) result }
+    ensures there { IsThere (scene_view scene.now) (call_view call.now) result }
+    ensures ends { EndsFirst (scene_view scene.now) (call_view call.now) result }
+    ensures calls { CallsMethod (call_view call.now) result }
 {
     match call.function {
         JniFunction::GetStaticField(_) => {
@@ -532,8 +535,11 @@ fn place_of_field(scene: &Scene<'_>, call: &Call) -> usize
 /// The class object that holds the static of operand 1.
 #[inline(always)]
 pub(crate) fn holder_of_static(scene: &Scene<'_>, call: &Call) -> Option<Addr>
-    requires { AreHandles scene.now.classes.now scene.now.fields.now call.now.operands.items }
-    ensures { result ≡ declaring (scene_view scene.now) (call_view call.now) }
+    requires loaded { (i a : ℕ) → slice_get scene.now.loaded.now i ≡ Some a → IsAddress scene.now.heap.now a }
+    requires handles { AreHandles scene.now.classes.now scene.now.fields.now call.now.operands.items }
+    ensures is { is_some (handle (scene_view scene.now) (call_view call.now)) ≡ true
+        → result ≡ declaring (scene_view scene.now) (call_view call.now) }
+    ensures there { ReferenceIsThere scene.now.heap.now result }
 {
     let class = declaring(handle_of(scene, call));
     class_object(scene.loaded, Some(class))
@@ -543,7 +549,8 @@ pub(crate) fn holder_of_static(scene: &Scene<'_>, call: &Call) -> Option<Addr>
 #[inline(always)]
 pub(crate) fn place_of_static(scene: &Scene<'_>, call: &Call) -> usize
     requires { AreHandles scene.now.classes.now scene.now.fields.now call.now.operands.items }
-    ensures { (field (scene_view scene.now) (call_view call.now)).is_static ≡ true
+    ensures { is_some (handle (scene_view scene.now) (call_view call.now)) ≡ true
+        → (field (scene_view scene.now) (call_view call.now)).is_static ≡ true
         → result ≡ place_of_static (scene_view scene.now) (call_view call.now) }
 {
     static_place(scene.classes, handle_of(scene, call))
@@ -594,9 +601,15 @@ fn writes_field(scene: &Scene<'_>, call: &Call, value: Value) -> Answer
 pub(crate) fn value_of_static(scene: &Scene<'_>, call: &Call) -> Option<Value>
     requires loaded { (i a : ℕ) → slice_get scene.now.loaded.now i ≡ Some a → IsAddress scene.now.heap.now a }
     requires handles { AreHandles scene.now.classes.now scene.now.fields.now call.now.operands.items }
-    ensures { (field (scene_view scene.now) (call_view call.now)).is_static ≡ true
-        → result ≡ value_there scene.now.heap.now (declaring (scene_view scene.now) (call_view call.now))
-        (place_of_static (scene_view scene.now) (call_view call.now)) }
+    ensures number { is_some (handle (scene_view scene.now) (call_view call.now)) ≡ true
+        → (field (scene_view scene.now) (call_view call.now)).is_static ≡ true → cast_signed w32 (word_in result)
+        ≡ number_in (value_in (object_seen scene.now.heap.now (declaring (scene_view scene.now) (call_view call.now)))
+        (place_of_static (scene_view scene.now) (call_view call.now))) }
+    ensures reference { is_some (handle (scene_view scene.now) (call_view call.now)) ≡ true
+        → (field (scene_view scene.now) (call_view call.now)).is_static ≡ true → name_seen scene.now.heap.now (address_in result)
+        ≡ reference_in (value_in (object_seen scene.now.heap.now (declaring (scene_view scene.now) (call_view call.now)))
+        (place_of_static (scene_view scene.now) (call_view call.now))) }
+    ensures there { CellsAreThere scene.now.heap.now → view.reference_there scene.now.heap.now (address_in result) ≡ true }
 {
     let holder = holder_of_static(scene, call);
     value_there(scene.heap, holder, place_of_static(scene, call))
@@ -607,9 +620,15 @@ pub(crate) fn value_of_static(scene: &Scene<'_>, call: &Call) -> Option<Value>
 fn writes_static(scene: &Scene<'_>, call: &Call, value: Value) -> Answer
     requires loaded { (i a : ℕ) → slice_get scene.now.loaded.now i ≡ Some a → IsAddress scene.now.heap.now a }
     requires handles { AreHandles scene.now.classes.now scene.now.fields.now call.now.operands.items }
-    ensures { (field (scene_view scene.now) (call_view call.now)).is_static ≡ true
-        → result ≡ writes_there scene.now.heap.now (declaring (scene_view scene.now) (call_view call.now))
-        (place_of_static (scene_view scene.now) (call_view call.now)) value }
+    ensures seen { is_some (handle (scene_view scene.now) (call_view call.now)) ≡ true
+        → (field (scene_view scene.now) (call_view call.now)).is_static ≡ true
+        → nat_lt (place_of_static (scene_view scene.now) (call_view call.now))
+        (length (values_seen scene.now.heap.now (declaring (scene_view scene.now) (call_view call.now)))) ≡ true
+        → view.answer_seen (scene_view scene.now) (call_view call.now) GivesNothing result
+        ≡ Writes (name_or_zero (name_seen scene.now.heap.now (declaring (scene_view scene.now) (call_view call.now))))
+        (place_of_static (scene_view scene.now) (call_view call.now)) (value_seen scene.now.heap.now value) }
+    ensures there { view.value_there scene.now.heap.now value ≡ true
+        → view.answer_there (scene_view scene.now) (call_view call.now) GivesNothing result ≡ true }
 {
     let holder = holder_of_static(scene, call);
     writes_there(scene.heap, holder, place_of_static(scene, call), value)
@@ -638,8 +657,8 @@ pub(crate) fn field_place(classes: &ClassTable, class: ClassId, field: Option<Fi
 /// The place of the static of a handle among those of the class that declares it, and 0 for NULL.
 fn static_place(classes: &ClassTable, field: Option<FieldHandle>) -> usize
     requires { FieldIsThere classes.now field }
-    ensures { (field_there classes.now field).is_static ≡ true
-        → result ≡ place_there classes.now field (own_statics classes.now (field_there classes.now field).class) }
+    ensures { is_some field ≡ true → (field_there classes.now field).is_static ≡ true
+        → result ≡ static_place classes.now (field_there classes.now field) }
 {
     match field {
         Some(handle) => classes.static_place(handle),

@@ -16,7 +16,7 @@ ghost use Rattle.machine_answers.specs.Answered.{IsAnswerTo};
 ghost use Rattle.machine_answers.specs.AtOnce.{field_in_spot};
 ghost use Rattle.machine_answers.specs.Checked.{called, calls_well, function_in, misfits, returns, takes, takes_all, some_misfit, some_missing, trap_found};
 ghost use Rattle.machine_answers.specs.Sights.{element_wanted, gives_deleted, name_seen, number_at, object_seen, values_seen};
-ghost use Rattle.machine_answers.specs.WorkedOut.{address_in, declaring, field, place_of_static, word_in};
+ghost use Rattle.machine_answers.specs.WorkedOut.{address_in, declaring, field, handle, place_of_static, word_in};
 ghost use Rattle.machine_scenes.specs.Given.{class_there, field_at, field_there, method_at, operand_at, operand_of, AreAddresses, AreHandles, FieldIsThere, ReferenceIsThere};
 ghost use Rattle.machine_scenes.specs.Locals.{locals_after};
 ghost use Rattle.machine_scenes.specs.Scenes.{scene_view};
@@ -221,7 +221,7 @@ pub fn number_at_once(scene: &Scene<'_>, call: &Call) -> Option<u32>
                     && has_static(scene, call)
                     && holds_number(element, asked_type(scene, call))
                 {
-                    Some(word_in(value_of_static(scene, call)))
+                    Some(word_in(value_in_static(scene, call)))
                 } else {
                     None
                 }
@@ -306,7 +306,7 @@ pub fn reference_at_once(scene: &Scene<'_>, locals: &Locals, call: &Call) -> Opt
                     && has_static(scene, call)
                     && holds_reference(asked_type(scene, call))
                 {
-                    Some(address_in(value_of_static(scene, call)))
+                    Some(address_in(value_in_static(scene, call)))
                 } else {
                     None
                 }
@@ -440,16 +440,35 @@ pub fn write_at_once(scene: &Scene<'_>, call: &Call) -> Option<Write>
     }
 }
 
+/// The value of the static of operand 1, which is one.
+#[inline(always)]
+fn value_in_static(scene: &Scene<'_>, call: &Call) -> Option<Value>
+    requires loaded { (i a : ℕ) → slice_get scene.now.loaded.now i ≡ Some a → IsAddress scene.now.heap.now a }
+    requires handles { AreHandles scene.now.classes.now scene.now.fields.now call.now.operands.items }
+    requires given { is_some (handle (scene_view scene.now) (call_view call.now)) ≡ true }
+    requires own { (field (scene_view scene.now) (call_view call.now)).is_static ≡ true }
+    ensures number { cast_signed w32 (word_in result)
+        ≡ number_in (value_in (object_seen scene.now.heap.now (declaring (scene_view scene.now) (call_view call.now)))
+        (place_of_static (scene_view scene.now) (call_view call.now))) }
+    ensures reference { name_seen scene.now.heap.now (address_in result)
+        ≡ reference_in (value_in (object_seen scene.now.heap.now (declaring (scene_view scene.now) (call_view call.now)))
+        (place_of_static (scene_view scene.now) (call_view call.now))) }
+    ensures there { CellsAreThere scene.now.heap.now → reference_there scene.now.heap.now (address_in result) ≡ true }
+{
+    value_of_static(scene, call)
+}
+
 /// The change of the static of operand 1 to this value, where there is such a place.
 #[inline(always)]
 fn write_to_static(scene: &Scene<'_>, call: &Call, value: Value) -> Option<Write>
     requires loaded { (i a : ℕ) → slice_get scene.now.loaded.now i ≡ Some a → IsAddress scene.now.heap.now a }
     requires handles { AreHandles scene.now.classes.now scene.now.fields.now call.now.operands.items }
-    ensures { IfSome result (λ write. (write.value ≡ value)
-        × (declaring (scene_view scene.now) (call_view call.now) ≡ Some write.object)
-        × (write.place < length (values_at scene.now.heap.now write.object))
-        × ((field (scene_view scene.now) (call_view call.now)).is_static ≡ true
-        → write.place ≡ place_of_static (scene_view scene.now) (call_view call.now))) }
+    requires given { is_some (handle (scene_view scene.now) (call_view call.now)) ≡ true }
+    requires own { (field (scene_view scene.now) (call_view call.now)).is_static ≡ true }
+    ensures value { IfSome result (λ write. write.value ≡ value) }
+    ensures object { IfSome result (λ write. declaring (scene_view scene.now) (call_view call.now) ≡ Some write.object) }
+    ensures place { IfSome result (λ write. write.place ≡ place_of_static (scene_view scene.now) (call_view call.now)) }
+    ensures inside { IfSome result (λ write. write.place < length (values_at scene.now.heap.now write.object)) }
 {
     let place = place_of_static(scene, call);
     match holder_of_static(scene, call) {

@@ -37,3 +37,8 @@ pub returns-in-Fields : goal.returns-in-Fields
 returns-in-Fields c =
     let it = c.work_out_field in
     answers_seen (scene_view c.args.scene.now) (call_view c.args.call.now) it.result it.ensures.seen it.ensures.there it.ensures.ends it.ensures.calls
+
+pub returns-in-Statics : goal.returns-in-Statics
+returns-in-Statics c =
+    let it = c.work_out_static in
+    answers_seen (scene_view c.args.scene.now) (call_view c.args.call.now) it.result it.ensures.seen it.ensures.there it.ensures.ends it.ensures.calls
