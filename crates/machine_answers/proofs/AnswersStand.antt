@@ -1,5 +1,5 @@
 -- An answer stands for the source's where it is seen as that, and what it names is there: a row for each answer.
-use Rattle.std.proofs.Common.{Fits, ◌≡◌, ℕ, zero, suc, ◌<◌, ◌≤◌, ◌^◌, Bool, true, false, not, List, [], ◌∷◌, ◌++◌, length, map, Option, Some, None, slice_get, refl, sym, ap, ◌∙◌, subst, arith}
+use Rattle.std.proofs.Common.{Fits, ◌≡◌, ℕ, zero, suc, ◌<◌, ◌≤◌, ◌^◌, Bool, true, false, not, List, [], ◌∷◌, ◌++◌, length, map, Option, Some, None, slice_get, refl, sym, ap, ◌∙◌, subst, arith, inl, inr}
 use Rattle.std.specs.Prelude.{◌==◌, ◌&&◌, ◌-◌, FitsSigned, if◌then◌else◌, is_none, is_some, nat_lt, replicate}
 use Rattle.std.specs.Int.{w32, cast_signed, cast_unsigned}
 use Rattle.std.specs.Option.{option_map, option_map_or}
@@ -9,7 +9,9 @@ use Rattle.base.specs.Bytes.{lookup}
 use Rattle.base.specs.declared.element.ElementType.{ElementType}
 use Rattle.base.specs.declared.element.ElementType.TheVariants.{Int as JInt, Short as JShort, Byte as JByte, Char as JChar}
 use Rattle.class_rules.specs.BuiltIns.{array_index_out_of_bounds, array_store_exception, class_class, illegal_monitor_state, negative_array_size, no_class_def_found_error, no_such_field_error, number_array, string_class, string_index_out_of_bounds, throwable_class}
-use Rattle.class_rules.specs.Class.{ArrayOfObjects, Plain, array_name, assignable, class_kind, class_name}
+use Rattle.syntax.specs.Parts.{functions_of}
+use Rattle.syntax.specs.Tree.{Function, SourceUnit}
+use Rattle.class_rules.specs.Class.{ArrayOfObjects, Classes, Plain, array_name, assignable, class_kind, class_name}
 use Rattle.class_rules.specs.declared.class_id.ClassId.{ClassId}
 use Rattle.code.specs.Call.{Call}
 use Rattle.code.specs.Effect.{truth_word}
@@ -28,13 +30,14 @@ use Rattle.jni.specs.declared.kinds.ResultKind.{ResultKind}
 use Rattle.jni.specs.declared.kinds.ResultKind.TheVariants.{GivesBuffer, GivesInt, GivesNothing, NewLocal}
 use Rattle.semantics.specs.Answer as source
 use Rattle.semantics.specs.Arguments.{name_or_zero, object_given, variable_given}
-use Rattle.semantics.specs.AnswerTable.{monitor_entered, monitor_left}
-use Rattle.semantics.specs.CallEffects.{CallResult, level_of}
+use Rattle.semantics.specs.AnswerTable.{monitor_entered, monitor_left, method_called}
+use Rattle.semantics.specs.CallEffects.{CallResult, level_of, MethodResult}
 use Rattle.semantics.specs.CallSight.{CallSight, name_of_first, name_of_second}
 use Rattle.semantics.specs.CallStep.{is_owned_by_other, target_element, trap_of_call}
 use Rattle.semantics.specs.Checks.{go_together}
 use Rattle.semantics.specs.Answer.{Region}
 use Rattle.semantics.specs.Heap.{numbers_of, values_of}
+use Rattle.semantics.specs.Method.{MethodId}
 use Rattle.semantics.specs.Object.{Object, ObjectValue, Number, Reference, Refers}
 use Rattle.semantics.specs.Thread.{monitor_of as monitor_in}
 use Rattle.semantics.specs.declared.trap.Trap.{Trap}
@@ -55,7 +58,9 @@ use Rattle.machine_scenes.specs.declared.new_object.New.{New}
 use Rattle.machine_scenes.specs.declared.new_object.New.TheVariants as news
 use Rattle.machine_scenes.specs.declared.references.Held.{Held}
 use Rattle.machine_scenes.specs.declared.references.Held.TheVariants as held
-use Rattle.machine_scenes.specs.Given.{key_at, name_there as name_of, operand_of}
+use Rattle.machine_scenes.specs.declared.handle.MethodHandle.{MethodHandle}
+use Rattle.machine_scenes.specs.FieldIds.{IsMethod}
+use Rattle.machine_scenes.specs.Given.{key_at, method_at, name_there as name_of, operand_of}
 use Rattle.machine_scenes.specs.HeapAgrees.{ReferenceAgrees, ValueAgrees, ValuesAgree}
 use Rattle.machine_scenes.specs.Locals.{IsKeyGiven}
 use Rattle.machine_scenes.specs.NewObjects.{Describes, IsMakeable}
@@ -68,25 +73,26 @@ use Rattle.machine_answers.specs.declared.answer.Given.TheVariants as given
 use Rattle.machine_answers.specs.Answered.{TwoCalls, Asked, IsAnswerTo, Passes, scene, unit}
 use Rattle.machine_answers.specs.Answers.{GivenAgrees}
 use Rattle.machine_answers.specs.Answers as row
-use Rattle.machine_answers.specs.AnswersSeen.{CallsMethod, EndsFirst, IsSeen, IsThere, WhenPassed, answer_seen, answer_there, given_seen, given_there, held_name, is_at, is_entered, is_key, is_left, is_static_at, is_weak, made_seen, named, new_there, owned_seen, reference_there, region_seen, region_there, same_buffer, takes_object, value_there}
+use Rattle.machine_answers.specs.AnswersSeen.{CallsMethod, EndsFirst, IsSeen, IsThere, WhenPassed, answer_seen, answer_there, given_seen, given_there, held_name, is_at, is_entered, is_key, is_left, is_static_at, is_weak, made_seen, named, new_there, owned_seen, reference_there, region_seen, region_there, same_buffer, takes_object, value_there, GivesMethod, IsThereOrMethod}
 use Rattle.machine_answers.specs.Asked.{deletes_static}
 use Rattle.machine_answers.specs.Checked.{may_be_null}
-use Rattle.machine_answers.specs.Sights.{array_in, held_seen, name_seen, value_seen}
+use Rattle.machine_answers.specs.Sights.{array_in, held_seen, name_seen, value_seen, method_seen}
 use Rattle.machine_answers.specs.WorkedOut.{buffer_there, slot_of}
 use Rattle.machine_answers.proofs.BufferAnswers.{buffer_is, copy_acquired, is_release, release_is, released_so}
 use Rattle.machine_answers.proofs.CallOperands.{few_there, own_making}
 use Rattle.machine_answers.proofs.CallTraps.{goes_together, same_pending, seen_is}
 use Rattle.machine_answers.proofs.FieldPlaces.{field_given, place_inside, class_named, static_given, static_inside_it}
 use Rattle.machine_answers.proofs.FieldValues.{values_there}
-use Rattle.machine_answers.proofs.KindAnswers.{InTable, IsStatic, Stands, does, named as named_at, own_key, pending_named, same_names, same_sight, sight, static_named}
+use Rattle.machine_answers.proofs.KindAnswers.{InTable, IsStatic, Stands, class_of_first, does, named as named_at, own_key, pending_named, same_names, same_sight, sight, static_named}
 use Rattle.machine_answers.proofs.LongTables.{class_is_no_throwable, class_is_plain}
 use Rattle.machine_answers.proofs.MonitorAnswers.{changes_monitor, entered, left}
 use Rattle.machine_answers.proofs.RegionAnswers.{copied_in, copied_out, numbers_are}
-use Rattle.machine_answers.proofs.SightParts.{name_is}
+use Rattle.machine_answers.proofs.SightParts.{name_is, name_seen_is}
 use Rattle.machine_answers.proofs.SightsAgree.{monitor_is}
 use Rattle.machine_answers.proofs.TrapsSeen.{with_depth}
+use Rattle.machine_answers.proofs.MethodAnswers.{called_method}
 use Rattle.tables.specs.Locals.{LocalTable}
-use Rattle.machine_answers.proofs.TwoCalls.{all, at, built_in_class, class_given, method_error, object_given_at, references}
+use Rattle.machine_answers.proofs.TwoCalls.{all, at, built_in_class, class_given, method_error, object_given_at, references, fields, table_of}
 
 -- ---- what is given
 
@@ -144,6 +150,19 @@ module _ (scene : Scene) where
   given_agrees g (OfMethod m class name text found) is there = absurd (cc)
   given_agrees given.Nothing OfNothing is there = row.nothing
   given_agrees g OfNothing is there = absurd (cc)
+
+-- the method of a handle
+pub method_named : (u : SourceUnit) (classes : Classes) (h : MethodHandle) (m : MethodId) → IsMethod u classes h m → method_seen u (Some h) ≡ Some m
+method_named u classes h m is =
+    ap (option_map (λ (f : Function). let n : MethodId = record { class = h.class.number; function = f } in n)) is.function
+    ∙ ap (λ (c : ℕ). let n : MethodId = record { class = c; function = m.function } in Some n) is.class
+
+-- it is given where a method is
+method_given : {u : SourceUnit} {classes : Classes} {sight : CallSight} {f : JniFunction} {of : CallKind} {kind : ResultKind} {a : source.Answer} (space : Space) (h : MethodHandle) (m : MethodId) → IsMethod u classes h m
+    → AnswersAs u classes sight f of kind a → source.Gives (MethodResult (Some m)) ≡ a → (c : CallResult) × (GivenAgrees u classes space kind (given.MethodId (Some h)) c) × (source.Gives c ≡ a)
+method_given {u = u} {classes = classes} space h m is (Giving (OfMethod n class name text found)) same =
+    let one : m ≡ n = cc in (MethodResult (Some n), row.method (subst (IsMethod u classes h) one is), refl)
+method_given space h m is rows same = absurd (cc)
 
 -- ---- functions
 
@@ -385,7 +404,20 @@ module _ (both : TwoCalls) where
         let parts = and_parts (is_key (name_at store.heap o.address) o.name) (is_entered (entering k (monitor_of store.monitors o.name))) there in
         enters o is (of_monitor rows (ap changes_monitor (sym is) ∙ entered k o.name (monitor_of store.monitors o.name) parts.1)) (key_is _ o.name parts.0) (came_in _ parts.1)
     stand (replies.Exits n) of rows is there = exits n is (of_monitor rows (ap changes_monitor (sym is) ∙ left k n (monitor_of store.monitors n) there)) (came_out _ there)
+    stand replies.Calls of rows is there = called (method_seen (unit both) (method_at (fields both) (operand_of call.operands 1))) is there
+      where
+        called : {kind : ResultKind} {a : source.Answer} (o : Option MethodId) → method_called o ≡ a → is_some o ≡ true → Stands both replies.Calls kind a
+        called None is there = absurd (cc)
+        called {kind = kind} (Some m) is there = subst (λ (y : source.Answer). Stands both replies.Calls kind y) is (row.calls m)
     stand x of rows is there = absurd (cc)
+
+    -- the answer that gives a method ID
+    stand_method : {of : CallKind} {kind : ResultKind} {a : source.Answer} (x : Answer) → AnswersAs (unit both) w.classes seen f of kind a → answer_seen (scene both) call kind x ≡ a
+        → GivesMethod (scene both) x → Stands both x kind a
+    stand_method {kind = kind} (replies.Gives (given.MethodId (Some g))) rows is (n, method) =
+        let it = method_given store.heap g n method rows (ap (λ (o : Option MethodId). source.Gives (MethodResult o)) (sym (method_named (unit both) w.classes g n method)) ∙ is) in
+        subst (λ (y : source.Answer). Stands both (replies.Gives (given.MethodId (Some g))) kind y) it.2 (row.gives it.1)
+    stand_method x rows is h = absurd h
 
 -- ---- what is known of a call that has passed its checks
 
@@ -439,8 +471,8 @@ module _ (both : TwoCalls) where
     name i = name_is store.heap (at both i)
 
     -- the object of the first argument
-    first_object : Passes both → takes_object (subject_of f) ≡ true → is_some (name_seen store.heap (at both 0)) ≡ true
-    first_object free takes = by_parameters (prototype f).parameters refl (first_kind f takes)
+    first_object : takes_object (subject_of f) ≡ true → is_some (name_seen store.heap (at both 0)) ≡ true
+    first_object takes = by_parameters (prototype f).parameters refl (first_kind f takes)
       where
         by_parameters : (ps : List ParameterKind) → (prototype f).parameters ≡ ps → is_object (slice_get ps 0) ≡ true → is_some (name_seen store.heap (at both 0)) ≡ true
         by_parameters [] are is = absurd (cc)
@@ -451,40 +483,57 @@ module _ (both : TwoCalls) where
             ap (λ (o : Option ℕ). is_some (name_seen store.heap o)) object.at ∙ ap is_some object.named
 
     -- the thread doesn't wait, so no other thread owns the object
-    not_owned : Passes both → f ≡ MonitorEnter → is_owned_by_other k (owned_seen (scene both) (name_of store.heap (at both 0))) ≡ false
-    not_owned free of =
+    not_owned : f ≡ MonitorEnter → is_owned_by_other k (owned_seen (scene both) (name_of store.heap (at both 0))) ≡ false
+    not_owned of =
         let here : Asked both MonitorEnter = subst (λ (g : JniFunction). Asked both g) of h in
         let none : trap_of_call w.classes shared s target MonitorEnter args ≡ None = sym (seen_is p w store pending activation call others k owner shared s target MonitorEnter args here) ∙ ap (with_depth false) free in
         ap (λ (x : CallSight). is_owned_by_other k x.monitor) (same_sight both MonitorEnter here)
         ∙ ap (λ (o : Option Trap). is_none o && is_owned_by_other k (monitor_in shared.monitors (object_given args 0))) (sym none) ∙ here.ready
 
+    -- the method of a call of one
+    method_there : calls_method f ≡ true → is_some (method_seen (unit both) (method_at (fields both) (operand_of call.operands 1))) ≡ true
+    method_there calls =
+        let it = called_method both f calls h free in
+        ap (λ (o : Option MethodHandle). is_some (method_seen (unit both) o)) it.at ∙ ap is_some (method_named (unit both) w.classes it.handle it.method it.is)
+
     -- what holds of it
-    passed : {P : Type 0} → Passes both → WhenPassed (scene both) (record call { function = f }) P → P
-    passed free so =
-        so (sym (same_pending store.heap pending _ (pending_named both f h)))
+    passed : {P : Type 0} → WhenPassed (scene both) (record call { function = f }) P → P
+    passed so =
+        so (λ c in_table. name_seen_is store.heap _ (Some c) (table_of both f h c in_table.0 in_table.1))
+        (λ is. class_of_first both f h (object_given_at both f [] NonNull [] tt refl (ap (λ (g : JniFunction). parameters_for g (length args)) is) h free))
+        (sym (same_pending store.heap pending _ (pending_named both f h)))
         ((λ i. name 0 i == name 1 i) ∙ same_names both (at both 0) (at both 1) (name_seen store.heap (at both 0)) (name_seen store.heap (at both 1)) h.store_agrees.heap (named_at both f h 0) (named_at both f h 1))
         (to_z_pos w32 (few_there store.heap (at both 0) h.store_agrees.laid_out (omega (arith, sound.cells, h.store_agrees.cells))))
         (λ is. some_key store.heap activation.locals (key_at (references both) (operand_of call.operands 0)) (name_seen store.heap (at both 0)) (level_of (lookup (variable_given args 0) s.variables)) (own_key both f h is))
-        (first_object free)
-        (not_owned free)
+        first_object
+        not_owned
         (field_given both f h free)
         (place_inside both f h free)
         (static_given both f h free)
         (class_named both f h free)
         (static_inside_it both f h free)
 
+    by_there : {a : source.Answer} (x : Answer) → AnswersAs (unit both) w.classes (sight both f) f (call_kind f) (prototype f).result a
+        → answer_seen (scene both) (record call { function = f }) (prototype f).result x ≡ a → IsThereOrMethod (scene both) (record call { function = f }) x → Stands both x (prototype f).result a
+    by_there x rows is (inl there) = stand both f h free x refl rows is (there (agreed_there store.heap pending s.pending h.pending_agrees) heap_cells method_there)
+    by_there x rows is (inr method) = stand_method both f h free x rows is method
+
 -- an answer that is seen as the source's stands for it
-pub answers_seen : (sees : Scene) (call : Call) (x : Answer) → IsSeen sees call x → IsThere sees call x → EndsFirst sees call x → CallsMethod call x → IsAnswerTo sees call x
+pub answers_by : (sees : Scene) (call : Call) (x : Answer) → IsSeen sees call x → IsThereOrMethod sees call x → EndsFirst sees call x → CallsMethod call x → IsAnswerTo sees call x
 unfolding IsAnswerTo
-answers_seen sees call x is there ends calls = record {
+answers_by sees call x is there ends calls = record {
   stands = λ both f same here h free.
       let called : (record call { function = f }) ≡ call = ap (λ (g : JniFunction). record call { function = g }) (sym h.same_function ∙ ap (λ (c : Call). c.function) here) in
       let seen : IsSeen (scene both) (record both.call { function = f }) x =
       subst (λ (y : Scene). IsSeen y (record both.call { function = f }) x) (sym same) (subst (λ (c : Call). IsSeen sees c x) (sym (ap (λ (c : Call). record c { function = f }) here ∙ called)) is) in
-      let found : IsThere (scene both) (record both.call { function = f }) x =
-      subst (λ (y : Scene). IsThere y (record both.call { function = f }) x) (sym same) (subst (λ (c : Call). IsThere sees c x) (sym (ap (λ (c : Call). record c { function = f }) here ∙ called)) there) in
+      let found : IsThereOrMethod (scene both) (record both.call { function = f }) x =
+      subst (λ (y : Scene). IsThereOrMethod y (record both.call { function = f }) x) (sym same) (subst (λ (c : Call). IsThereOrMethod sees c x) (sym (ap (λ (c : Call). record c { function = f }) here ∙ called)) there) in
       does both f h
-      (stand both f h free x refl (answers_as (unit both) both.w.classes both.k (sight both f) f) (passed both f h free (seen both.activation.locals (length both.s.callers))) (found (agreed_there both.store.heap both.pending both.s.pending h.pending_agrees) (heap_cells both f h free)));
+      (by_there both f h free x (answers_as (unit both) both.w.classes both.k (sight both f) f) (passed both f h free (seen both.activation.locals (length both.s.callers))) found);
   ends = ends;
   calls = calls;
 }
+
+-- where it gives no method ID
+pub answers_seen : (sees : Scene) (call : Call) (x : Answer) → IsSeen sees call x → IsThere sees call x → EndsFirst sees call x → CallsMethod call x → IsAnswerTo sees call x
+answers_seen sees call x is there ends calls = answers_by sees call x is (inl there) ends calls

@@ -5,8 +5,6 @@ use Rattle.std.specs.Option.{option_map_or}
 use Rattle.std.proofs.lemmas.Bool.Decides.{nat_tests}
 use Rattle.base.specs.Bytes.{lookup}
 use Rattle.class_rules.specs.ClassIds.{class_id}
-use Rattle.class_rules.specs.BuiltIns.{no_class_def_found_error, no_such_field_error, no_such_method_error}
-use Rattle.class_rules.specs.Fields.{FieldId}
 use Rattle.classes.specs.declared.class.FieldHandle.{FieldHandle}
 use Rattle.code.specs.declared.instr.Operand.TheVariants as operand
 use Rattle.heap.specs.Heap.{name_at}
@@ -16,7 +14,6 @@ use Rattle.jni.specs.JniFunction.{parameters_for, prototype}
 use Rattle.jni.specs.declared.kinds.ParameterKind.{ParameterKind}
 use Rattle.jni.specs.declared.kinds.ParameterKind.TheVariants.{FieldID}
 use Rattle.jni.specs.declared.kinds.ResultKind.{ResultKind}
-use Rattle.jni.specs.declared.kinds.ResultKind.TheVariants.{NewLocal, GivesField, GivesMethod}
 use Rattle.semantics.specs.Answer as source
 use Rattle.semantics.specs.AnswerTable as table
 use Rattle.semantics.specs.AnswerTable.{call_answer}
@@ -24,7 +21,6 @@ use Rattle.semantics.specs.CallSight.{CallSight}
 use Rattle.semantics.specs.Arguments.{name_or_zero, reference_given, variable_given}
 use Rattle.semantics.specs.CallEffects.{same_reference, level_of}
 use Rattle.semantics.specs.CallSight as seen
-use Rattle.semantics.specs.Method.{MethodId}
 use Rattle.semantics.specs.Object.{Object, Reference}
 use Rattle.semantics.specs.Variable.{StaticReference}
 use Rattle.code_meaning.specs.Does.{AllTogether}
@@ -33,7 +29,6 @@ use Rattle.machine_scenes.specs.declared.references.Held.{Held}
 use Rattle.machine_scenes.specs.Given.{IsGiven, ReferenceIsThere, class_of_given, field_at, key_at, operand_of}
 use Rattle.machine_scenes.specs.HeapAgrees.{HeapAgrees, ReferenceAgrees}
 use Rattle.machine_scenes.specs.Locals.{IsKeyGiven}
-use Rattle.machine_scenes.specs.NewObjects.{IsMakeable}
 use Rattle.machine_scenes.specs.Statics.{static_at}
 use Rattle.machine_scenes.proofs.BlocksOfNames.{name_within}
 use Rattle.machine_scenes.proofs.OperandsThere.{address_of}
@@ -45,13 +40,12 @@ use Rattle.machine_answers.specs.Answers as row
 use Rattle.machine_answers.specs.Asked.{deletes_static}
 use Rattle.machine_answers.specs.Checked.{some_missing}
 use Rattle.machine_answers.specs.Sights.{call_seen, held_seen, name_seen}
-use Rattle.machine_answers.specs.WorkedOut.{IsFoundField, IsFoundMethod, class_object, found_class}
 use Rattle.machine_answers.proofs.CallOperands.{GivenObject, second_field}
 use Rattle.machine_answers.proofs.CallTraps.{none_lacking, objects_there}
 use Rattle.machine_answers.proofs.SightParts.{name_seen_is, object_there_is}
 use Rattle.machine_answers.proofs.SightsAgree.{held_is, sights_agree, static_given}
 use Rattle.machine_answers.specs.Answered.{TwoCalls, Asked, Passes, Does, brought, unit, scene}
-use Rattle.machine_answers.proofs.TwoCalls.{agrees, at, built_in_class, fields, object_of, references, table_of}
+use Rattle.machine_answers.proofs.TwoCalls.{agrees, at, built_in_class, fields, object_of, references}
 
 module _ (both : TwoCalls) where
   open both use {p, w, store, pending, activation, call, others, k, owner, shared, s, target, sound, args}
@@ -110,10 +104,6 @@ module _ (both : TwoCalls) where
   abbrev pub InTable : ℕ → Type 0
   InTable c = (0 < c) × (c ≤ length w.classes)
 
-  pub class_agrees : (f : JniFunction) → Asked both f → (o : Option ℕ) → ((c : ℕ) → o ≡ Some c → InTable c) → ReferenceAgrees store.heap (class_object store.loaded.items o) o
-  class_agrees f h None known = tt
-  class_agrees f h (Some c) known = let it = known c refl in table_of both f h c it.0 it.1
-
   -- the class of an object is one
   pub class_of_first : (f : JniFunction) → Asked both f → (g : GivenObject (unit both) w.classes store.heap (references both) (fields both) call.operands args 0) → InTable (class_of_given store.heap (at both 0))
   class_of_first f h g =
@@ -145,18 +135,6 @@ module _ (both : TwoCalls) where
   -- an exception of a built-in class after Class
   pub raised : {kind : ResultKind} (c : ℕ) → 2 < c → c ≤ 42 → Stands (replies.Throws (class_id c)) kind (source.Raises c)
   raised c low high = row.throws (built_in_class both c low high)
-
-  pub class_found : (f : JniFunction) → Asked both f → (o : Option ℕ) → ((c : ℕ) → o ≡ Some c → InTable c) → Stands (found_class store.loaded.items o) NewLocal (table.found_class o)
-  class_found f h None known = raised no_class_def_found_error (omega arith) (omega arith)
-  class_found f h (Some c) known = row.gives (row.reference (class_agrees f h (Some c) known))
-
-  pub field_found : (o : Option FieldId) (answer : Answer) → IsFoundField w.classes o answer → Stands answer GivesField (table.found_field o)
-  field_found None answer is = stands is (raised no_such_field_error (omega arith) (omega arith))
-  field_found (Some f) answer is = stands is.1 (row.gives (row.field is.2))
-
-  pub method_found : (o : Option MethodId) (answer : Answer) → IsMakeable w.classes no_such_method_error → IsFoundMethod (unit both) w.classes o answer → Stands answer GivesMethod (table.found_method o)
-  method_found None answer makeable is = stands is (row.throws makeable)
-  method_found (Some m) answer makeable is = stands is.1 (row.gives (row.method is.2))
 
   -- the key of a reference that is deleted, by the name by which it is seen
   pub own_key : (f : JniFunction) → Asked both f → f ≡ DeleteLocalRef

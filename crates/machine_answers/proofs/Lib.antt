@@ -2,10 +2,10 @@ pub mod AnswersStand
 pub mod ArgumentPlaces
 pub mod BufferAnswers
 pub mod BufferOperands
-pub mod CallAnswers
 pub mod CallChecks
 pub mod CallOperands
 pub mod CallTraps
+pub mod ClassesSeen
 pub mod CopiedRegions
 pub mod FewValues
 pub mod FieldKinds
@@ -16,6 +16,7 @@ pub mod KindAnswers
 pub mod LongTables
 pub mod MethodAnswers
 pub mod MonitorAnswers
+pub mod MonitorsSeen
 pub mod Overlays
 pub mod PassedValues
 pub mod RegionAnswers
@@ -28,5 +29,4 @@ pub mod SightsAgree
 pub mod TrapsSeen
 pub mod TwoCalls
 pub mod Unasked
-pub mod WorkedOut
 pub mod Writes

@@ -1,8 +1,8 @@
 -- What calls of methods do.
-use Rattle.std.proofs.Common.{◌≡◌, true, drop, map, Option, Some, None, refl, sym, ap, ◌∙◌, subst, arith}
+use Rattle.std.proofs.Common.{◌≡◌, true, drop, map, Option, Some, None, refl, sym, ap, ◌∙◌, arith}
 use Rattle.std.proofs.lemmas.List.{drop-map}
 use Rattle.jni.specs.declared.function.JniFunction.{JniFunction}
-use Rattle.jni.specs.JniFunction.{calls_method, prototype}
+use Rattle.jni.specs.JniFunction.{calls_method}
 use Rattle.semantics.specs.Arguments.{Actual, method_given}
 use Rattle.semantics.specs.CallStep.{target_element}
 use Rattle.semantics.specs.Answer.{Calls as Calling}
@@ -13,12 +13,9 @@ use Rattle.semantics.specs.Method.{MethodId}
 use Rattle.machine_scenes.specs.declared.handle.MethodHandle.{MethodHandle}
 use Rattle.machine_scenes.specs.FieldIds.{IsMethod, MethodAgrees}
 use Rattle.machine_scenes.specs.Given.{method_at, operand_of}
-use Rattle.machine_answers.specs.declared.answer.Answer.TheVariants.{Calls}
-use Rattle.machine_answers.specs.Answers.{IsAnswer}
-use Rattle.machine_answers.specs.Answers as row
 use Rattle.machine_answers.proofs.CallChecks.{method_at_place}
 use Rattle.machine_answers.proofs.CallTraps.{goes_together}
-use Rattle.machine_answers.specs.Answered.{TwoCalls, Passes, brought, Asked, Does, unit}
+use Rattle.machine_answers.specs.Answered.{TwoCalls, Passes, Asked, unit}
 use Rattle.machine_answers.proofs.TwoCalls.{fields, references}
 
 module _ (both : TwoCalls) where
@@ -58,9 +55,3 @@ module _ (both : TwoCalls) where
           let passes : all_pass m.function.parameters (drop 2 (map of args)) ≡ true = grind (arith, is, given, fit) in
           let answer : call_answer (unit both) w.classes k (sight_of_call shared s f args) f ≡ as_called (method_given args 1) = grind (arith, is) in
           record { method = m; given = given; handle = x; at = at; is = agrees; passes = ap (all_pass m.function.parameters) (sym (drop-map of 2 args)) ∙ passes; answer = answer ∙ ap (λ (o : Option MethodId). as_called o) given }
-
-  -- it is entered
-  pub method_called : (f : JniFunction) → calls_method f ≡ true → Asked both f → Passes both → Does both f Calls
-  method_called f is h free =
-      let it = called_method f is h free in
-      subst (IsAnswer w.classes (brought both) store.heap activation.locals shared s Calls (prototype f).result) (sym it.answer) (row.calls it.method)

@@ -27,7 +27,6 @@ use Rattle.machine_scenes.specs.Given.{IsGiven, operand_at, operand_of, class_th
 use Rattle.machine_scenes.specs.HeapAgrees.{ReferenceAgrees}
 use Rattle.machine_answers.specs.Sights.{name_seen}
 use Rattle.machine_answers.specs.WorkedOut.{class_object}
-use Rattle.machine_answers.proofs.WorkedOut.{IsWorkedOut}
 use Rattle.machine_answers.proofs.CallChecks.{class_is, reference_at_place}
 use Rattle.machine_scenes.proofs.Handles.{class_known}
 use Rattle.machine_scenes.proofs.BlocksOfNames.{Named, named}
@@ -48,10 +47,6 @@ module _ (both : TwoCalls) where
   -- what the buffers of all threads take
   abbrev pub all : Acquired
   all = beside others (acquired_by s)
-
-  -- what is worked out for it
-  abbrev pub Works : JniFunction → Answer → Type 0
-  Works f answer = IsWorkedOut (scene both) call f answer
 
   abbrev pub at : (i : ℕ) → Option ℕ
   at i = operand_at references (operand_of call.operands i)

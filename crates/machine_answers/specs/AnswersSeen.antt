@@ -1,5 +1,5 @@
 -- Answers in memory as answers of the source, by what a call sees.
-use Rattle.std.specs.Prelude.{◌≡◌, ℕ, ◌+◌, ◌^◌, Bool, true, false, not, ◌&&◌, ◌==◌, nat_lt, pos, length, replicate, slice_get, is_some, nat_le, Option, Some, None}
+use Rattle.std.specs.Prelude.{◌≡◌, ℕ, ◌+◌, ◌^◌, Bool, true, false, not, ◌&&◌, ◌==◌, nat_lt, pos, length, replicate, slice_get, is_some, nat_le, Option, Some, None, ◌<◌, ◌≤◌, ◌⊎◌}
 use Rattle.std.specs.Int.{w32, cast_signed}
 use Rattle.std.specs.Option.{option_map}
 use Rattle.class_rules.specs.Class.{Classes}
@@ -8,7 +8,7 @@ use Rattle.classes.specs.declared.class.FieldHandle.{FieldHandle}
 use Rattle.classes.specs.FieldViews.{field_of}
 use Rattle.code.specs.Call.{Call}
 use Rattle.code.specs.declared.instr.LocalArray.{LocalArray}
-use Rattle.jni.specs.declared.function.JniFunction.TheVariants.{DeleteLocalRef, MonitorEnter}
+use Rattle.jni.specs.declared.function.JniFunction.TheVariants.{DeleteLocalRef, MonitorEnter, GetObjectClass, GetStaticMethodID}
 use Rattle.jni.specs.declared.kinds.ResultKind.{ResultKind}
 use Rattle.jni.specs.declared.kinds.ResultKind.TheVariants.{GivesFlag}
 use Rattle.jni.specs.JniFunction.{calls_method, prototype}
@@ -22,6 +22,7 @@ use Rattle.semantics.specs.AnswerTable.{call_answer, method_called, monitor_ente
 use Rattle.semantics.specs.Arguments.{name_or_zero}
 use Rattle.semantics.specs.CallStep.{is_owned_by_other}
 use Rattle.semantics.specs.CallEffects.{CallResult, same_reference, NoResult, NullResult, ScalarResult, ReferenceResult, WeakResult, FieldResult, MethodResult, string_object, with_message}
+use Rattle.semantics.specs.Method.{MethodId}
 use Rattle.semantics.specs.Object.{Object, Reference}
 use Rattle.semantics.specs.Thread.{Monitor}
 use Rattle.semantics.specs.Variable.{StaticReference, Live}
@@ -46,14 +47,15 @@ use Rattle.machine_answers.specs.declared.answer.Given.TheVariants as given
 use Rattle.machine_answers.specs.declared.answer.Answer.{Answer}
 use Rattle.machine_answers.specs.declared.answer.Answer.TheVariants as answer
 use Rattle.machine_answers.specs.Sights.{array_in, call_seen, held_seen, method_seen, monitor_seen, name_seen, value_seen, values_seen}
-use Rattle.machine_answers.specs.WorkedOut.{handle, place, declaring, field, place_of_static}
+use Rattle.machine_answers.specs.WorkedOut.{handle, place, declaring, field, place_of_static, class_object}
 use Rattle.machine_scenes.specs.declared.array_region.ArrayRegion.{ArrayRegion}
 use Rattle.machine_scenes.specs.declared.buffer.Buffer.{Buffer}
 use Rattle.machine_scenes.specs.declared.buffer.Buffer.TheVariants as buffer
 use Rattle.machine_answers.specs.WorkedOut.{buffer_there, slot_of}
 use Rattle.machine_scenes.specs.declared.new_object.New.{New}
 use Rattle.machine_scenes.specs.declared.new_object.New.TheVariants as new
-use Rattle.machine_scenes.specs.Given.{key_at, method_at, name_there, operand_at, operand_of}
+use Rattle.machine_scenes.specs.FieldIds.{IsMethod}
+use Rattle.machine_scenes.specs.Given.{class_of_given, key_at, method_at, name_there, operand_at, operand_of}
 use Rattle.machine_scenes.specs.NewObjects.{text_in}
 use Rattle.machine_scenes.specs.Scenes.{Scene}
 use Rattle.machine_scenes.specs.Statics.{static_at}
@@ -201,7 +203,7 @@ same_buffer (buffer.Copy a) (buffer.Copy b) = a == b
 same_buffer (buffer.View a) (buffer.View b) = a == b
 same_buffer a b = false
 
--- an answer of those that are seen so: none of methods
+-- what an answer names is there
 abbrev pub answer_there : Scene → Call → ResultKind → Answer → Bool
 answer_there scene call kind (answer.Gives g) = given_there scene.space kind g
 answer_there scene call kind (answer.Writes a i v) =
@@ -229,7 +231,7 @@ answer_there scene call kind (answer.Halts trap) = true
 answer_there scene call kind (answer.Ensures n) = true
 answer_there scene call kind (answer.Pushes n) = true
 answer_there scene call kind answer.RefusesFrames = true
-answer_there scene call kind a = false
+answer_there scene call kind answer.Calls = is_some (method_seen scene.unit (method_at scene.fields (operand_of call.operands 1)))
 
 -- ---- what the checks let through
 
@@ -239,6 +241,10 @@ takes_object Monitors = true
 takes_object Regions = true
 takes_object Buffers = true
 takes_object s = false
+
+-- a class of the table
+abbrev pub IsInTable : Classes → ℕ → Type 0
+IsInTable classes c = (0 < c) × (c ≤ length classes)
 
 module _ (scene : Scene) (call : Call) where
   -- the reference of an operand, its name as it is seen, and how many values its object has
@@ -251,13 +257,16 @@ module _ (scene : Scene) (call : Call) where
   abbrev count : ℕ
   count = length (values_seen scene.space (reference 0))
 
-  -- P, by what is known of a call that has passed its checks: an exception that is pending has a name; so has each object, and no two have one;
-  -- an object has fewer values than there are `jint`s; a local reference that is to be deleted has a key; a first argument that is to be an
-  -- object isn't NULL; no other thread owns a monitor that is to be entered; a field is given, and the object has its place; a static is
-  -- given, its class object has the name of the class, and its place
+  -- P, by what is known of a call that has passed its checks: a class object has the number of its class as its name, and the class of an
+  -- object is one of the table; an exception that is pending has a name; so has each object, and no two have one; an object has fewer
+  -- values than there are `jint`s; a local reference that is to be deleted has a key; a first argument that is to be an object isn't NULL;
+  -- no other thread owns a monitor that is to be entered; a field is given, and the object has its place; a static is given, its class
+  -- object has the name of the class, and its place
   abbrev pub WhenPassed : Type 0 → Type 0
   WhenPassed P =
-      (is_some (name_seen scene.space scene.pending) ≡ is_some scene.pending)
+      ((c : ℕ) → IsInTable scene.classes c → name_seen scene.space (class_object scene.loaded (Some c)) ≡ Some c)
+      → (call.function ≡ GetObjectClass → IsInTable scene.classes (class_of_given scene.space (reference 0)))
+      → (is_some (name_seen scene.space scene.pending) ≡ is_some scene.pending)
       → ((name_there scene.space (reference 0) == name_there scene.space (reference 1)) ≡ same_reference (name 0) (name 1))
       → (cast_signed w32 count ≡ pos count)
       → (call.function ≡ DeleteLocalRef → is_some (key_at scene.references (operand_of call.operands 0)) ≡ is_some (name 0))
@@ -280,12 +289,22 @@ IsSeen scene call x = (locals : LocalTable) (callers : ℕ) → WhenPassed scene
 abbrev pub CellsAreThere : Space → Type 0
 CellsAreThere space = (a i b : ℕ) → slice_get (values_at space a) i ≡ Some (cell.Block b) → is_some (block_at space b) ≡ true
 
--- what it names is there, where the pending exception and what cells hold is
+-- what it names is there, where the pending exception, what cells hold and the method of a call of one is
 abbrev pub IsThere : Scene → Call → Answer → Type 0
 IsThere scene call x =
     (reference_there scene.space scene.pending ≡ true)
     → CellsAreThere scene.space
+    → (calls_method call.function ≡ true → is_some (method_seen scene.unit (method_at scene.fields (operand_of call.operands 1))) ≡ true)
     → answer_there scene call (prototype call.function).result x ≡ true
+
+-- a method ID is given that is a handle of a method
+abbrev pub GivesMethod : Scene → Answer → Type 0
+GivesMethod scene (answer.Gives (given.MethodId (Some h))) = (m : MethodId) × IsMethod scene.unit scene.classes h m
+GivesMethod scene x = ⊥
+
+-- where a method was found
+abbrev pub IsThereOrMethod : Scene → Call → Answer → Type 0
+IsThereOrMethod scene call x = IsThere scene call x ⊎ GivesMethod scene x
 
 -- the local reference that ends is that of the first operand
 abbrev pub EndsFirst : Scene → Call → Answer → Type 0

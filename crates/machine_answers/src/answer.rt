@@ -1,12 +1,12 @@
 //! What a function of the JNI does, as data.
 
-ghost use Rattle.std.specs.Prelude.{◌≡◌, ◌<◌, ℕ, [], Some, None, true, false, is_some, nat_lt, unwrap_or, slice_get, map, length};
+ghost use Rattle.std.specs.Prelude.{◌≡◌, ◌≢◌, ◌<◌, ℕ, [], Some, None, true, false, is_some, nat_lt, unwrap_or, slice_get, map, length};
 ghost use Rattle.std.specs.Int.{w32, cast_signed};
 ghost use Rattle.classes.specs.FieldViews.{find_as};
 ghost use Rattle.class_rules.specs.ClassIds.{number_of};
 ghost use Rattle.class_rules.specs.Fields.{layout};
 ghost use Rattle.class_rules.specs.Grown.{IsGrown};
-ghost use Rattle.machine_answers.specs.AnswersSeen.{CallsMethod, CellsAreThere, EndsFirst, IsSeen, IsThere};
+ghost use Rattle.machine_answers.specs.AnswersSeen.{CallsMethod, CellsAreThere, EndsFirst, IsSeen, IsThere, IsThereOrMethod};
 ghost use Rattle.machine_answers.specs.AnswersSeen as view;
 ghost use Rattle.code.specs.Call.{call_view};
 ghost use Rattle.code.specs.Effect.{element_word, truth_word};
@@ -17,6 +17,7 @@ ghost use Rattle.machine_answers.specs.Checked.{arguments_fit};
 ghost use Rattle.machine_answers.specs.Sights.{element_wanted, name_seen, number_at, object_seen, value_seen, values_seen};
 ghost use Rattle.machine_scenes.specs.Given.{field_there, name_there, AreAddresses, AreHandles, FieldIsThere, ReferenceIsThere};
 ghost use Rattle.machine_scenes.specs.Scenes.{scene_view};
+ghost use Rattle.jni.specs.declared.function.JniFunction.TheVariants.{GetStaticMethodID};
 ghost use Rattle.jni.specs.Subjects.{subject_of};
 ghost use Rattle.jni.specs.declared.kinds.ResultKind.TheVariants.{GivesNothing};
 ghost use Rattle.machine_answers.specs.WorkedOut.{address_in, class_object, declaring, deletes, deletes_global, deletes_weak, field, found_class, frame_for, handle, held_reference, place, place_of_static, reference, room_for, value_there, word_in, writes_there, IsFoundField, IsFoundMethod};
@@ -169,11 +170,17 @@ pub fn work_out(scene: &Scene<'_>, call: &Call) -> Answer
 
 /// What a function does that works on classes.
 #[inline(always)]
-#[tactic(auto, using(crate::proofs::CallAnswers::answers))]
+#[tactic(auto, using(std::proofs::lemmas::Grind::common_steps), unfolding(semantics::specs::AnswerTable::call_answer))]
 fn work_out_class(scene: &Scene<'_>, call: &Call) -> Answer
     requires subject { subject_of call.now.function ≡ subject.Classes }
+    requires grown { IsGrown scene.now.classes.now }
+    requires loaded { (i a : ℕ) → slice_get scene.now.loaded.now i ≡ Some a → IsAddress scene.now.heap.now a }
     requires objects { AreAddresses scene.now.heap.now scene.now.references call.now.operands.items }
-    ensures { IsAnswerTo (scene_view scene.now) (call_view call.now) result }
+    ensures seen { IsSeen (scene_view scene.now) (call_view call.now) result }
+    ensures there { call.now.function ≢ GetStaticMethodID → IsThere (scene_view scene.now) (call_view call.now) result }
+    ensures method { call.now.function ≡ GetStaticMethodID → IsThereOrMethod (scene_view scene.now) (call_view call.now) result }
+    ensures ends { EndsFirst (scene_view scene.now) (call_view call.now) result }
+    ensures calls { CallsMethod (call_view call.now) result }
 {
     match call.function {
         JniFunction::FindClass => {

@@ -185,7 +185,7 @@ fn gives_class_and_field(scene: &Scene<'_>, slot: u32, id: u32) -> bool
 
 /// The number that a call gives.
 #[inline(always)]
-#[tactic(auto, using(crate::proofs::CallAnswers::answers, crate::proofs::AnswersStand::answers_seen, std::proofs::lemmas::Grind::common_steps), unfolding(semantics::specs::AnswerTable::call_answer))]
+#[tactic(auto, using(crate::proofs::AnswersStand::answers_seen, std::proofs::lemmas::Grind::common_steps), unfolding(semantics::specs::AnswerTable::call_answer))]
 pub fn number_at_once(scene: &Scene<'_>, call: &Call) -> Option<u32>
     requires grown { IsGrown scene.now.classes.now }
     requires loaded { (i a : ℕ) → slice_get scene.now.loaded.now i ≡ Some a → IsAddress scene.now.heap.now a }
@@ -265,7 +265,7 @@ pub fn number_at_once(scene: &Scene<'_>, call: &Call) -> Option<u32>
 
 /// The reference that a call gives, for which there is room.
 #[inline(always)]
-#[tactic(auto, using(crate::proofs::CallAnswers::answers, crate::proofs::AnswersStand::answers_seen, std::proofs::lemmas::Grind::common_steps), unfolding(semantics::specs::AnswerTable::call_answer))]
+#[tactic(auto, using(crate::proofs::AnswersStand::answers_seen, std::proofs::lemmas::Grind::common_steps), unfolding(semantics::specs::AnswerTable::call_answer))]
 pub fn reference_at_once(scene: &Scene<'_>, locals: &Locals, call: &Call) -> Option<Option<Addr>>
     requires grown { IsGrown scene.now.classes.now }
     requires loaded { (i a : ℕ) → slice_get scene.now.loaded.now i ≡ Some a → IsAddress scene.now.heap.now a }
@@ -355,7 +355,7 @@ fn element_at_once(scene: &Scene<'_>, array: Addr) -> Option<Option<Addr>>
 
 /// The change that a call makes.
 #[inline(always)]
-#[tactic(auto, using(crate::proofs::CallAnswers::answers, crate::proofs::AnswersStand::answers_seen, std::proofs::lemmas::Grind::common_steps), unfolding(semantics::specs::AnswerTable::call_answer))]
+#[tactic(auto, using(crate::proofs::AnswersStand::answers_seen, std::proofs::lemmas::Grind::common_steps), unfolding(semantics::specs::AnswerTable::call_answer))]
 pub fn write_at_once(scene: &Scene<'_>, call: &Call) -> Option<Write>
     requires grown { IsGrown scene.now.classes.now }
     requires loaded { (i a : ℕ) → slice_get scene.now.loaded.now i ≡ Some a → IsAddress scene.now.heap.now a }
@@ -507,7 +507,7 @@ pub fn deleted_at_once(scene: &Scene<'_>, call: &Call) -> Option<Local>
 
 /// The method that a call calls, where no check but that of how deep calls are stops it.
 #[inline(always)]
-#[tactic(auto, using(crate::proofs::CallAnswers::answers, std::proofs::lemmas::Grind::common_steps))]
+#[tactic(auto, using(crate::proofs::AnswersStand::answers_seen, std::proofs::lemmas::Grind::common_steps), unfolding(semantics::specs::AnswerTable::call_answer))]
 pub fn method_at_once(scene: &Scene<'_>, locals: &Locals, call: &Call) -> Option<MethodHandle>
     requires objects { AreAddresses scene.now.heap.now scene.now.references call.now.operands.items }
     ensures free { IfSome result (λ method. trap_found (scene_view scene.now)

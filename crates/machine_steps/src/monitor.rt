@@ -27,7 +27,7 @@ use tables::{Local, Locals};
 /// its argument is a local reference to an object. Whether its thread, which has this number, may enter or leave the
 /// monitor isn't asked yet. None says nothing of the call.
 #[inline(always)]
-#[tactic(auto, using(machine_answers::proofs::CallAnswers::answers))]
+#[tactic(auto, using(machine_answers::proofs::MonitorsSeen::enters, machine_answers::proofs::MonitorsSeen::exits))]
 pub(crate) fn answer_at_once(
     store: &Store,
     pending: Option<Addr>,

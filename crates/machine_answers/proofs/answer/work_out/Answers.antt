@@ -1,6 +1,7 @@
 use Rattle.code.specs.Call.{call_view}
 use Rattle.machine_scenes.specs.Scenes.{scene_view}
-use Rattle.machine_answers.proofs.AnswersStand.{answers_seen}
+use Rattle.machine_answers.proofs.AnswersStand.{answers_by, answers_seen}
+use Rattle.machine_answers.proofs.ClassesSeen.{there_or}
 use Rattle.machine_answers.proofs.answer.work_out.Goals as goal
 
 pub returns-in-References : goal.returns-in-References
@@ -42,3 +43,9 @@ pub returns-in-Statics : goal.returns-in-Statics
 returns-in-Statics c =
     let it = c.work_out_static in
     answers_seen (scene_view c.args.scene.now) (call_view c.args.call.now) it.result it.ensures.seen it.ensures.there it.ensures.ends it.ensures.calls
+
+pub returns-in-Classes : goal.returns-in-Classes
+returns-in-Classes c =
+    let it = c.work_out_class in
+    answers_by (scene_view c.args.scene.now) (call_view c.args.call.now) it.result it.ensures.seen
+    (there_or (scene_view c.args.scene.now) (call_view c.args.call.now) it.result it.ensures.there it.ensures.method) it.ensures.ends it.ensures.calls
