@@ -194,39 +194,46 @@ fn buffers_in_use(threads: &[Thread<'_>]) -> BuffersInUse
     BuffersInUse { copied, views }
 }
 
-/// Takes the step of thread `k`, which is at this place and can step, its allocation refused or not; false where the
-/// step isn't possible.
+/// A thread that can take its next step.
+#[derive(Clone, Copy)]
+pub(crate) struct Stepper {
+    /// Its number, counted from 1.
+    thread: u8,
+    /// Its place among the threads.
+    place: usize,
+}
+
+/// Takes the step of a thread that can step, its allocation refused or not; false where the step isn't possible.
 #[inline(never)]
 fn take_whole_turn<'a>(
     alloc: Global,
     functions: &Functions<'a>,
     state: &mut State<'a>,
-    k: u8,
-    place: usize,
+    stepper: Stepper,
     refused: bool,
 ) -> Result<bool, AllocError>
     requires tree { IsTree (unit_tree functions.now) }
     requires well_typed { IsWellTyped (unit_tree functions.now) }
     requires range { AreInRange state.old.threads.items }
-    requires live { IsLiveAt state.old k place }
+    requires live { IsLiveAt state.old stepper.thread stepper.place }
     ensures step { IfOk result (λ possible.
-        TakesEntry (unit_tree functions.now) state.old (Step k refused) possible state.new) }
+        TakesEntry (unit_tree functions.now) state.old (Step stepper.thread refused) possible state.new) }
     ensures range { IfOk result (λ _. AreInRange state.new.threads.items) }
 {
     let turn = Turn {
         alloc,
         unit: functions.items(),
         classes: state.world.classes(),
-        thread: k,
+        thread: stepper.thread,
         in_use: buffers_in_use(&state.threads),
         refused,
     };
-    let thread = &mut state.threads[place];
-    let took = take_step(functions, state.world, turn, &mut state.shared, thread)?;
-    note(state, k, took)
+    let thread = &mut state.threads[stepper.place];
+    let took = take_step(functions, turn, &mut state.shared, thread)?;
+    note(state, stepper.thread, took)
 }
 
-/// Takes the step of thread `k`, which is at this place and can step, where it is a term's or changes nothing but variables and tasks; all
+/// Takes the step of the thread at this place, which can step, where it is a term's or changes nothing but variables and tasks; all
 /// is as it was where there is more to do.
 #[inline(always)]
 fn attempt_turn(alloc: Global, state: &mut State<'_>, place: usize) -> Result<Attempt, AllocError>
@@ -260,26 +267,25 @@ fn attempt_other_turn<'a>(
     alloc: Global,
     functions: &Functions<'a>,
     state: &mut State<'a>,
-    k: u8,
-    place: usize,
+    stepper: Stepper,
 ) -> Result<bool, AllocError>
     requires range { AreInRange state.old.threads.items }
-    requires live { IsLiveAt state.old k place }
-    ensures step { IfOk result (λ took. AttemptsCallTurn (unit_tree functions.now) state.old k took state.new) }
+    requires live { IsLiveAt state.old stepper.thread stepper.place }
+    ensures step { IfOk result (λ took. AttemptsCallTurn (unit_tree functions.now) state.old stepper.thread took state.new) }
     ensures range { IfOk result (λ _. AreInRange state.new.threads.items) }
 {
     let turn = Turn {
         alloc,
         unit: functions.items(),
         classes: state.world.classes(),
-        thread: k,
+        thread: stepper.thread,
         in_use: BuffersInUse {
             copied: 0,
             views: 0,
         },
         refused: false,
     };
-    try_call(&turn, &mut state.shared, &mut state.threads[place])
+    try_call(&turn, &mut state.shared, &mut state.threads[stepper.place])
 }
 
 /// The same where it is a call that gives something at once; false where there is more to do, and then all is as it was.
@@ -288,17 +294,16 @@ fn attempt_call_turn<'a>(
     alloc: Global,
     functions: &Functions<'a>,
     state: &mut State<'a>,
-    k: u8,
-    place: usize,
+    stepper: Stepper,
 ) -> Result<bool, AllocError>
     requires range { AreInRange state.old.threads.items }
-    requires live { IsLiveAt state.old k place }
-    ensures step { IfOk result (λ took. AttemptsCallTurn (unit_tree functions.now) state.old k took state.new) }
+    requires live { IsLiveAt state.old stepper.thread stepper.place }
+    ensures step { IfOk result (λ took. AttemptsCallTurn (unit_tree functions.now) state.old stepper.thread took state.new) }
     ensures range { IfOk result (λ _. AreInRange state.new.threads.items) }
 {
-    match next_call(&state.threads[place]) {
-        NextCall::Number => attempt_field_turn(alloc, state, place),
-        NextCall::Other => attempt_other_turn(alloc, functions, state, k, place),
+    match next_call(&state.threads[stepper.place]) {
+        NextCall::Number => attempt_field_turn(alloc, state, stepper.place),
+        NextCall::Other => attempt_other_turn(alloc, functions, state, stepper),
         NextCall::Nothing => Ok(false),
     }
 }
@@ -309,21 +314,20 @@ fn take_longer_turn<'a>(
     alloc: Global,
     functions: &Functions<'a>,
     state: &mut State<'a>,
-    k: u8,
-    place: usize,
+    stepper: Stepper,
 ) -> Result<bool, AllocError>
     requires tree { IsTree (unit_tree functions.now) }
     requires well_typed { IsWellTyped (unit_tree functions.now) }
     requires range { AreInRange state.old.threads.items }
-    requires live { IsLiveAt state.old k place }
+    requires live { IsLiveAt state.old stepper.thread stepper.place }
     ensures step { IfOk result (λ possible.
-        TakesEntry (unit_tree functions.now) state.old (Step k false) possible state.new) }
+        TakesEntry (unit_tree functions.now) state.old (Step stepper.thread false) possible state.new) }
     ensures range { IfOk result (λ _. AreInRange state.new.threads.items) }
 {
-    if attempt_call_turn(alloc, functions, state, k, place)? {
+    if attempt_call_turn(alloc, functions, state, stepper)? {
         return Ok(true);
     }
-    take_whole_turn(alloc, functions, state, k, place, false)
+    take_whole_turn(alloc, functions, state, stepper, false)
 }
 
 /// The same, whatever the step does.
@@ -332,25 +336,24 @@ fn take_turn<'a>(
     alloc: Global,
     functions: &Functions<'a>,
     state: &mut State<'a>,
-    k: u8,
-    place: usize,
+    stepper: Stepper,
     refused: bool,
 ) -> Result<bool, AllocError>
     requires tree { IsTree (unit_tree functions.now) }
     requires well_typed { IsWellTyped (unit_tree functions.now) }
     requires range { AreInRange state.old.threads.items }
-    requires live { IsLiveAt state.old k place }
+    requires live { IsLiveAt state.old stepper.thread stepper.place }
     ensures step { IfOk result (λ possible.
-        TakesEntry (unit_tree functions.now) state.old (Step k refused) possible state.new) }
+        TakesEntry (unit_tree functions.now) state.old (Step stepper.thread refused) possible state.new) }
     ensures range { IfOk result (λ _. AreInRange state.new.threads.items) }
 {
     if refused {
-        return take_whole_turn(alloc, functions, state, k, place, true);
+        return take_whole_turn(alloc, functions, state, stepper, true);
     }
-    match attempt_turn(alloc, state, place)? {
+    match attempt_turn(alloc, state, stepper.place)? {
         Attempt::Reduced => Ok(true),
         Attempt::Stuck => Ok(false),
-        Attempt::Left => take_longer_turn(alloc, functions, state, k, place),
+        Attempt::Left => take_longer_turn(alloc, functions, state, stepper),
     }
 }
 
@@ -388,7 +391,13 @@ pub fn take_entry<'a>(
 {
     match entry.kind() {
         EntryKind::Step { thread, refused } => match place_of(state, *thread) {
-            Some(place) => take_turn(alloc, functions, state, *thread, place, *refused),
+            Some(place) => {
+                let stepper = Stepper {
+                    thread: *thread,
+                    place,
+                };
+                take_turn(alloc, functions, state, stepper, *refused)
+            }
             None => Ok(false),
         },
         EntryKind::Clearing(names) => take_clearing(alloc, state, names),

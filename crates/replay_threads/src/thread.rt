@@ -104,6 +104,18 @@ fn add_parameters<'a>(
     }
 }
 
+/// The class among these whose native method a function is.
+fn class_among(
+    alloc: Global,
+    classes: &ClassTable,
+    function: &Function,
+) -> Result<Option<ClassId>, AllocError>
+    ensures { IfOk result (λ class. number_of class ≡ class_of_function classes.now (function_tree function.now)) }
+{
+    let class = native_class(alloc, classes, function.name.as_bytes())?;
+    Ok(class)
+}
+
 /// The class whose native method a function is.
 pub fn class_of(
     alloc: Global,
@@ -112,8 +124,7 @@ pub fn class_of(
 ) -> Result<Option<ClassId>, AllocError>
     ensures { IfOk result (λ class. number_of class ≡ class_of_function world.now.classes (function_tree function.now)) }
 {
-    let class = native_class(alloc, world.classes(), function.name.as_bytes())?;
-    Ok(class)
+    class_among(alloc, world.classes(), function)
 }
 
 /// The variables with which a call begins: the class, and the parameters. In an accepted unit no two have one name.
@@ -205,9 +216,8 @@ fn begin_call<'a>(
 /// unknown.
 #[inline]
 fn begin_next<'a>(
-    alloc: Global,
     functions: &Functions<'a>,
-    world: &World,
+    turn: &Turn<'a>,
     name: &[u8],
     arguments: &[ObjectValue],
     place: &mut Option<Activation<'a>>,
@@ -215,28 +225,26 @@ fn begin_next<'a>(
     requires tree { IsTree (unit_tree functions.now) }
     requires well_typed { IsWellTyped (unit_tree functions.now) }
     ensures { IfOk result (λ begun. (call : Invocation) → call.function ≡ name.now → call.arguments ≡ map object_value_view arguments.now
-        → BeginsNext (unit_tree functions.now) world.now.classes call begun place.old place.new) }
+        → BeginsNext (unit_tree functions.now) turn.now.classes.now call begun place.old place.new) }
 {
     let Some(found) = functions.find(name) else {
         return Ok(false);
     };
-    let Some(class) = class_of(alloc, world, found.function)? else {
+    let Some(class) = class_among(turn.alloc, turn.classes, found.function)? else {
         return Ok(false);
     };
-    begin_call(alloc, place, found.function, class, arguments)?;
+    begin_call(turn.alloc, place, found.function, class, arguments)?;
     Ok(true)
 }
 
 /// Enters the call that another has made; none where that isn't possible.
 fn enter_called<'a>(
     functions: &Functions<'a>,
-    world: &World,
     turn: Turn<'a>,
     thread: &mut Thread<'a>,
 ) -> Result<Option<Event>, AllocError>
     requires tree { IsTree (unit_tree functions.now) }
     requires well_typed { IsWellTyped (unit_tree functions.now) }
-    requires classes { turn.classes.now ≡ world.now.classes }
     requires goes { turn.refused ≡ false }
     requires idle { thread.old.activation ≡ None }
     requires range { ThreadInRange thread.old }
@@ -249,14 +257,7 @@ fn enter_called<'a>(
         unreachable!()
     };
     let place = &mut thread.activation;
-    if !begin_next(
-        turn.alloc,
-        functions,
-        world,
-        call.function,
-        &call.arguments,
-        place,
-    )? {
+    if !begin_next(functions, &turn, call.function, &call.arguments, place)? {
         return Ok(None);
     }
     thread.entering = None;
@@ -266,13 +267,11 @@ fn enter_called<'a>(
 /// Enters the next of the calls that the world has; none where that isn't possible.
 fn enter_next<'a>(
     functions: &Functions<'a>,
-    world: &World,
     turn: Turn<'a>,
     thread: &mut Thread<'a>,
 ) -> Result<Option<Event>, AllocError>
     requires tree { IsTree (unit_tree functions.now) }
     requires well_typed { IsWellTyped (unit_tree functions.now) }
-    requires classes { turn.classes.now ≡ world.now.classes }
     requires goes { turn.refused ≡ false }
     requires idle { thread.old.activation ≡ None }
     requires range { ThreadInRange thread.old }
@@ -286,14 +285,7 @@ fn enter_next<'a>(
     };
     let name = call.function();
     let arguments = call.arguments();
-    if !begin_next(
-        turn.alloc,
-        functions,
-        world,
-        name,
-        arguments,
-        &mut thread.activation,
-    )? {
+    if !begin_next(functions, &turn, name, arguments, &mut thread.activation)? {
         return Ok(None);
     }
     thread.calls = rest;
@@ -303,13 +295,11 @@ fn enter_next<'a>(
 /// Enters the next call; none where that isn't possible.
 fn enter<'a>(
     functions: &Functions<'a>,
-    world: &World,
     turn: Turn<'a>,
     thread: &mut Thread<'a>,
 ) -> Result<Option<Event>, AllocError>
     requires tree { IsTree (unit_tree functions.now) }
     requires well_typed { IsWellTyped (unit_tree functions.now) }
-    requires classes { turn.classes.now ≡ world.now.classes }
     requires idle { thread.old.activation ≡ None }
     requires range { ThreadInRange thread.old }
     ensures step { IfOk result (λ took. (shared : SharedOfThreads)
@@ -321,8 +311,8 @@ fn enter<'a>(
         return Ok(None);
     }
     match &thread.entering {
-        Some(_) => enter_called(functions, world, turn, thread),
-        None => enter_next(functions, world, turn, thread),
+        Some(_) => enter_called(functions, turn, thread),
+        None => enter_next(functions, turn, thread),
     }
 }
 
@@ -586,7 +576,6 @@ pub(crate) fn try_call<'a>(
 /// it; none where it isn't possible.
 pub(crate) fn take_step<'a>(
     functions: &Functions<'a>,
-    world: &'a World,
     turn: Turn<'a>,
     shared: &mut Shared<'a>,
     thread: &mut Thread<'a>,
@@ -594,7 +583,6 @@ pub(crate) fn take_step<'a>(
     requires tree { IsTree (unit_tree functions.now) }
     requires well_typed { IsWellTyped (unit_tree functions.now) }
     requires unit { turn.unit.now ≡ functions.now }
-    requires classes { turn.classes.now ≡ world.now.classes }
     requires grown { IsGrown turn.classes.now }
     requires range { ThreadInRange thread.old }
     ensures step { IfOk result (λ took. TakesTurn (unit_tree functions.now) turn.entry
@@ -602,7 +590,7 @@ pub(crate) fn take_step<'a>(
     ensures range { IfOk result (λ _. ThreadInRange thread.new) }
 {
     let Some(activation) = &mut thread.activation else {
-        return enter(functions, world, turn, thread);
+        return enter(functions, turn, thread);
     };
     let outcome = advance(turn, shared, &mut thread.pending, activation)?;
     end_step(turn.alloc, shared, turn.thread, thread, outcome)

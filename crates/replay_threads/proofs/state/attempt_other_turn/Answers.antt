@@ -12,19 +12,19 @@ use Rattle.replay_threads.proofs.state.attempt_other_turn.Goals as goal
 pub try_call-requires-clause-range : goal.try_call-requires-clause-range
 try_call-requires-clause-range c =
     let ts = c.args.state.now.threads.items in
-    let at = slice_get_read ts (length ts) c.args.place c.index_mut.result.now refl c.requires.live.there c.index_mut.ensures.value in
-    range_at ts c.args.place c.index_mut.result.now c.requires.range at
+    let at = slice_get_read ts (length ts) c.args.stepper.place c.index_mut.result.now refl c.requires.live.there c.index_mut.ensures.value in
+    range_at ts c.args.stepper.place c.index_mut.result.now c.requires.range at
 
 pub returns-clause-step : goal.returns-clause-step
 returns-clause-step c =
     let m = c.args.state.now in
     let ts = m.threads.items in
     let t = c.index_mut.result.now in
-    let at = slice_get_read ts (length ts) c.args.place t refl c.requires.live.there c.index_mut.ensures.value in
+    let at = slice_get_read ts (length ts) c.args.stepper.place t refl c.requires.live.there c.index_mut.ensures.value in
     IfOk-weaker c.try_call.result _ _ (λ took does.
-    call_turn_attempted m c.args.k c.args.place t c.try_call.new.thread c.try_call.new.shared c.requires.range at c.requires.live _ c.classes.result.now c.classes.ensures.classes (unit_tree c.args.functions.now) took
-    (subst (λ (unit : SourceUnit). AttemptsCalling unit c.classes.result.now c.args.k (shared_view m.shared) t took (shared_view c.try_call.new.shared) c.try_call.new.thread) (ap unit_tree c.items.ensures) does)) c.try_call.ensures.step
+    call_turn_attempted m c.args.stepper.thread c.args.stepper.place t c.try_call.new.thread c.try_call.new.shared c.requires.range at c.requires.live _ c.classes.result.now c.classes.ensures.classes (unit_tree c.args.functions.now) took
+    (subst (λ (unit : SourceUnit). AttemptsCalling unit c.classes.result.now c.args.stepper.thread (shared_view m.shared) t took (shared_view c.try_call.new.shared) c.try_call.new.thread) (ap unit_tree c.items.ensures) does)) c.try_call.ensures.step
 
 pub returns-clause-range : goal.returns-clause-range
 returns-clause-range c =
-    IfOk-weaker c.try_call.result _ _ (λ took range. range_set c.args.state.now.threads.items c.args.place c.try_call.new.thread c.requires.range range) c.try_call.ensures.range
+    IfOk-weaker c.try_call.result _ _ (λ took range. range_set c.args.state.now.threads.items c.args.stepper.place c.try_call.new.thread c.requires.range range) c.try_call.ensures.range
