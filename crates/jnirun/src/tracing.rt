@@ -13,7 +13,7 @@ use cli_commands::{Command, DONE, Files, Texts, Trace};
 use places::Text;
 use program_check::{RunError, read_program};
 use region_rules::Checked;
-use replay_trace::{Keeping, Told, tell_lack, tell_nothing, trace_line};
+use replay_trace::{Keeping, Told, Traced, tell_lack, tell_nothing, trace_line};
 use sinks::Sink;
 use std::alloc::Global;
 use std::sync::Wait;
@@ -57,7 +57,15 @@ fn tell_run<E: Sink>(
         return tell_nothing(err);
     }
     match read_again(alloc, texts) {
-        Ok((checked, world)) => trace_line(alloc, &checked, &world, line, told_by(which), err),
+        Ok((checked, world)) => {
+            let told = told_by(which);
+            let traced = Traced {
+                checked: &checked,
+                world: &world,
+                told,
+            };
+            trace_line(alloc, traced, line, err);
+        }
         Err(RunError::Memory) => tell_lack(err),
         Err(_) => tell_nothing(err),
     }

@@ -1,11 +1,10 @@
 //! Calls with their arguments, their entries, and what they give.
 
-use crate::held::{Objects, put_named};
+use crate::held::{Scope, put_named};
 use crate::line::Line;
 use crate::terms::{constant_of, put_part};
-use replay_arguments::{Locals, Shared};
 use replay_tasks::{Invocation, Purpose, Target, Task};
-use replay_terms::{Content, OperandRef, Operands, Statics, Term, Variables};
+use replay_terms::{Content, OperandRef, Operands, Term, Variables};
 use semantics::Value;
 use std::alloc::AllocError;
 use syntax::{Argument, ExprRef, Function, Name, Parameter, Shape};
@@ -47,46 +46,28 @@ pub(crate) fn put_operand_part(
 }
 
 /// Adds a variable that is given: its name, and what it holds, unless it is a local array.
-fn put_variable(
-    line: &mut Line,
-    objects: Objects<'_>,
-    statics: &Statics<'_>,
-    variables: &Variables<'_>,
-    name: &Name,
-) -> Result<(), AllocError> {
-    match variables.content_of(name) {
+fn put_variable(line: &mut Line, scope: Scope<'_, '_>, name: &Name) -> Result<(), AllocError> {
+    match scope.variables.content_of(name) {
         Some(Content::Array(_, _)) => line.text(name.as_bytes()),
-        _ => put_named(line, objects, statics, variables, name),
+        _ => put_named(line, scope, name),
     }
 }
 
 /// Adds an expression that is given as it is written.
-fn put_expression(
-    line: &mut Line,
-    objects: Objects<'_>,
-    statics: &Statics<'_>,
-    variables: &Variables<'_>,
-    e: ExprRef<'_>,
-) -> Result<(), AllocError> {
+fn put_expression(line: &mut Line, scope: Scope<'_, '_>, e: ExprRef<'_>) -> Result<(), AllocError> {
     match e.shape() {
-        Shape::Variable(name) => put_variable(line, objects, statics, variables, name),
+        Shape::Variable(name) => put_variable(line, scope, name),
         Shape::Named(constant) => line.text(constant_of(constant)),
         Shape::Number { value, .. } => line.number(value),
-        Shape::Paren(inner) => put_expression(line, objects, statics, variables, inner),
+        Shape::Paren(inner) => put_expression(line, scope, inner),
         Shape::Element(..) | Shape::Prefix(..) | Shape::Binary(..) => line.text(b".."),
     }
 }
 
 /// Adds an argument that is given as it is written.
-fn put_given(
-    line: &mut Line,
-    objects: Objects<'_>,
-    statics: &Statics<'_>,
-    variables: &Variables<'_>,
-    argument: &Argument,
-) -> Result<(), AllocError> {
+fn put_given(line: &mut Line, scope: Scope<'_, '_>, argument: &Argument) -> Result<(), AllocError> {
     match argument {
-        Argument::Value(e) => put_expression(line, objects, statics, variables, e.whole()),
+        Argument::Value(e) => put_expression(line, scope, e.whole()),
         Argument::Text(bytes) => {
             line.text(b"\"")?;
             line.text(bytes)?;
@@ -102,9 +83,7 @@ fn put_given(
 /// Adds an argument of a call whose numbers are worked out.
 fn put_operand(
     line: &mut Line,
-    objects: Objects<'_>,
-    statics: &Statics<'_>,
-    variables: &Variables<'_>,
+    scope: Scope<'_, '_>,
     operand: OperandRef<'_, '_>,
 ) -> Result<(), AllocError> {
     match operand {
@@ -112,17 +91,15 @@ fn put_operand(
             put_part(line, term)?;
             Ok(())
         }
-        OperandRef::Passed(name) => put_named(line, objects, statics, variables, name),
-        OperandRef::Given(argument) => put_given(line, objects, statics, variables, argument),
+        OperandRef::Passed(name) => put_named(line, scope, name),
+        OperandRef::Given(argument) => put_given(line, scope, argument),
     }
 }
 
 /// Adds a call of a function of the JNI, with its arguments.
 pub(crate) fn put_call(
     line: &mut Line,
-    objects: Objects<'_>,
-    statics: &Statics<'_>,
-    variables: &Variables<'_>,
+    scope: Scope<'_, '_>,
     call: &Invocation<'_>,
 ) -> Result<(), AllocError> {
     line.text(call.function.prototype().name)?;
@@ -130,7 +107,7 @@ pub(crate) fn put_call(
     for place in 0..call.operands.count() {
         if let Some(operand) = call.operands.get(place) {
             line.text(b", ")?;
-            put_operand(line, objects, statics, variables, operand)?;
+            put_operand(line, scope, operand)?;
         }
     }
     line.text(b")")
@@ -139,14 +116,12 @@ pub(crate) fn put_call(
 /// Adds the parameters of a function with what they hold.
 fn put_parameters(
     line: &mut Line,
-    objects: Objects<'_>,
-    statics: &Statics<'_>,
-    variables: &Variables<'_>,
+    scope: Scope<'_, '_>,
     parameters: &[Parameter],
 ) -> Result<(), AllocError> {
     for parameter in parameters {
         line.text(b", ")?;
-        put_named(line, objects, statics, variables, &parameter.name)?;
+        put_named(line, scope, &parameter.name)?;
     }
     Ok(())
 }
@@ -154,31 +129,25 @@ fn put_parameters(
 /// Adds the entry into a call of a function.
 pub(crate) fn put_entry(
     line: &mut Line,
-    objects: Objects<'_>,
-    statics: &Statics<'_>,
-    variables: &Variables<'_>,
+    scope: Scope<'_, '_>,
     function: &Function,
 ) -> Result<(), AllocError> {
     line.text(b"enters ")?;
     line.text(function.name.as_bytes())?;
     line.text(b"(")?;
-    put_named(line, objects, statics, variables, &function.class_name)?;
-    put_parameters(line, objects, statics, variables, &function.parameters)?;
+    put_named(line, scope, &function.class_name)?;
+    put_parameters(line, scope, &function.parameters)?;
     line.text(b")")
 }
 
 /// Adds where the result of a call went, and what is there now.
 pub(crate) fn put_target(
     line: &mut Line,
-    objects: Objects<'_>,
-    statics: &Statics<'_>,
-    variables: &Variables<'_>,
+    scope: Scope<'_, '_>,
     target: Target<'_>,
 ) -> Result<(), AllocError> {
     match target {
-        Target::Declared(_, name) | Target::Assigned(name) => {
-            put_named(line, objects, statics, variables, name)
-        }
+        Target::Declared(_, name) | Target::Assigned(name) => { put_named(line, scope, name) }
         Target::Dropped => Ok(()),
     }
 }
@@ -198,9 +167,7 @@ fn put_test(line: &mut Line, task: &Option<Task<'_>>) -> Result<(), AllocError> 
 /// Adds what a call gave, once it is where it belongs.
 pub(crate) fn put_result(
     line: &mut Line,
-    objects: Objects<'_>,
-    shared: &Shared<'_>,
-    locals: &Locals<'_>,
+    scope: Scope<'_, '_>,
     task: &Option<Task<'_>>,
     purpose: Purpose<'_>,
 ) -> Result<(), AllocError> {
@@ -208,7 +175,7 @@ pub(crate) fn put_result(
         Purpose::Put(Target::Dropped) => Ok(()),
         Purpose::Put(target) => {
             line.text(b" gives ")?;
-            put_target(line, objects, &shared.statics, &locals.variables, target)
+            put_target(line, scope, target)
         }
         Purpose::Test(_, _) => put_test(line, task),
     }

@@ -5,7 +5,9 @@ use class_rules::ClassId;
 use classes::fields::FieldId;
 use classes::table::ClassTable;
 use replay_objects::Store;
+use replay_steps::Activation;
 use replay_terms::{Content, MethodId, StaticReference, Statics, Variables};
+use replay_threads::State;
 use semantics::{ObjectId, ObjectValue, Value};
 use std::alloc::AllocError;
 use syntax::Name;
@@ -15,6 +17,36 @@ use syntax::Name;
 pub(crate) struct Objects<'s> {
     pub classes: &'s ClassTable,
     pub store: &'s Store,
+}
+
+impl<'s> Objects<'s> {
+    /// Those of a replay.
+    pub(crate) fn of(state: &'s State<'_>) -> Objects<'s> {
+        Objects {
+            classes: state.world.classes(),
+            store: &state.shared.store,
+        }
+    }
+}
+
+/// Where the names of a call have what they hold.
+#[derive(Clone, Copy)]
+pub(crate) struct Scope<'s, 'a> {
+    pub objects: Objects<'s>,
+    /// What a name holds that no variable has.
+    pub statics: &'s Statics<'a>,
+    pub variables: &'s Variables<'a>,
+}
+
+impl<'s, 'a> Scope<'s, 'a> {
+    /// Where the names of this call of a replay have it.
+    pub(crate) fn of(state: &'s State<'a>, activation: &'s Activation<'a>) -> Scope<'s, 'a> {
+        Scope {
+            objects: Objects::of(state),
+            statics: &state.shared.statics,
+            variables: &activation.locals.variables,
+        }
+    }
 }
 
 /// Adds an object as the report does: a class object by its class, and another by its number and its class.
@@ -140,15 +172,13 @@ fn put_static(
 /// Adds what the variable or the static of this name holds.
 pub(crate) fn put_held(
     line: &mut Line,
-    objects: Objects<'_>,
-    statics: &Statics<'_>,
-    variables: &Variables<'_>,
+    scope: Scope<'_, '_>,
     name: &Name,
 ) -> Result<(), AllocError> {
-    match variables.content_of(name) {
-        Some(content) => put_content(line, objects, content),
-        None => match statics.held(name) {
-            Some(held) => put_static(line, objects, held),
+    match scope.variables.content_of(name) {
+        Some(content) => put_content(line, scope.objects, content),
+        None => match scope.statics.held(name) {
+            Some(held) => put_static(line, scope.objects, held),
             None => line.text(b"?"),
         },
     }
@@ -157,26 +187,19 @@ pub(crate) fn put_held(
 /// Adds a name and what it holds.
 pub(crate) fn put_named(
     line: &mut Line,
-    objects: Objects<'_>,
-    statics: &Statics<'_>,
-    variables: &Variables<'_>,
+    scope: Scope<'_, '_>,
     name: &Name,
 ) -> Result<(), AllocError> {
     line.text(name.as_bytes())?;
     line.text(b" = ")?;
-    put_held(line, objects, statics, variables, name)
+    put_held(line, scope, name)
 }
 
 /// The number at a place of what has this name, if it has elements.
-pub(crate) fn element_of(
-    store: &Store,
-    variables: &Variables<'_>,
-    name: &Name,
-    place: usize,
-) -> Option<i32> {
-    match variables.content_of(name)? {
+pub(crate) fn element_of(scope: Scope<'_, '_>, name: &Name, place: usize) -> Option<i32> {
+    match scope.variables.content_of(name)? {
         Content::Array(_, numbers) | Content::Copy { numbers, .. } => numbers.get(place).copied(),
-        Content::View { object, .. } => match store.value_at(*object, place) {
+        Content::View { object, .. } => match scope.objects.store.value_at(*object, place) {
             ObjectValue::Number(number) => Some(number),
             ObjectValue::Reference(_) => None,
         },

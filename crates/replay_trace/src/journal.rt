@@ -3,8 +3,7 @@
 ghost use Rattle.sinks.specs.Sink.{CanFail};
 ghost use Rattle.replay_trace.specs.Traces.{GoesOn, WritesSome};
 
-use crate::entries::{Told, put_some, trace};
-use region_rules::Checked;
+use crate::entries::{Traced, put_some, trace};
 use sinks::{Sink, SinkFailed};
 use std::alloc::Global;
 use world_schedules::{ReadError, read_journal};
@@ -29,10 +28,8 @@ fn thread_count(world: &World) -> u8 {
 /// Tells the entries of a journal, if its line was kept.
 fn trace_kept<W: Sink>(
     alloc: Global,
-    checked: &Checked,
-    world: &World,
+    traced: Traced<'_>,
     line: Option<&[u8]>,
-    told: Told,
     out: &mut W,
 ) -> Result<(), SinkFailed>
     requires { CanFail (W.written out.old) }
@@ -41,8 +38,8 @@ fn trace_kept<W: Sink>(
     let Some(line) = line else {
         return put_some(out, b"memory\n");
     };
-    match read_journal(alloc, entries_of(line), thread_count(world)) {
-        Ok(journal) => trace(alloc, checked, world, &journal, told, out),
+    match read_journal(alloc, entries_of(line), thread_count(traced.world)) {
+        Ok(journal) => trace(alloc, traced, &journal, out),
         Err(ReadError::Memory) => put_some(out, b"memory\n"),
         Err(_) => put_some(out, b""),
     }
@@ -51,18 +48,11 @@ fn trace_kept<W: Sink>(
 /// Tells the entries of the journal that a run has written, of which this is the line: that of the report, or a text of entries. Without
 /// the line, and where memory is refused, the last line that it tells is `memory`.
 #[tactic(auto, using(crate::proofs::TraceLemmas::goes_on, crate::proofs::TraceLemmas::goes_on_kept))]
-pub fn trace_line<W: Sink>(
-    alloc: Global,
-    checked: &Checked,
-    world: &World,
-    line: Option<&[u8]>,
-    told: Told,
-    out: &mut W,
-)
+pub fn trace_line<W: Sink>(alloc: Global, traced: Traced<'_>, line: Option<&[u8]>, out: &mut W)
     requires { CanFail (W.written out.old) }
     ensures { GoesOn (W.written out.old) (W.written out.new) }
 {
-    match trace_kept(alloc, checked, world, line, told, out) {
+    match trace_kept(alloc, traced, line, out) {
         Ok(()) => {
             let _ = out.flush();
         }

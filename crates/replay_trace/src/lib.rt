@@ -12,6 +12,6 @@ mod step;
 mod terms;
 mod tracker;
 
-pub use entries::{Told, trace};
+pub use entries::{Told, Traced, trace};
 pub use journal::{tell_lack, tell_nothing, trace_line};
 pub use keeping::Keeping;

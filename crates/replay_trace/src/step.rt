@@ -1,15 +1,14 @@
 //! What a step is about to do, and what it did.
 
 use crate::calls::{first_unready, put_call, put_entry, put_operand_part, put_result, put_target};
-use crate::held::{Objects, element_of, put_held, put_reference, put_value};
+use crate::held::{Objects, Scope, element_of, put_held, put_reference, put_value};
 use crate::line::Line;
 use crate::terms::{latest_value, put_part, value_of};
 use crate::tracker::{calling_line, entered};
 use functions::Functions;
-use replay_arguments::{Locals, Shared};
 use replay_steps::{Activation, Work};
 use replay_tasks::{ElementAssignment, End, Evaluation, Invocation, Purpose, Target, Task};
-use replay_terms::{Content, OperandRef, Term};
+use replay_terms::{Content, OperandRef, Term, Variables};
 use replay_threads::{State, Thread};
 use semantics::{Ending, ObjectId, Value};
 use std::alloc::AllocError;
@@ -39,6 +38,18 @@ impl Doing<'_> {
     pub(crate) fn is_call(self) -> bool {
         matches!(self, Doing::Calls(_) | Doing::Returns(_) | Doing::Enters(_))
     }
+}
+
+/// What is known of a step before it is taken.
+#[derive(Clone, Copy)]
+pub(crate) struct Before<'a> {
+    pub doing: Doing<'a>,
+    /// The exception that is pending.
+    pub pending: Option<ObjectId>,
+    /// The line of the statement that it begins, if it begins one.
+    pub begun: usize,
+    /// The line of what is told next where none is begun.
+    pub ended: usize,
 }
 
 /// Adds the part of a term that is worked out.
@@ -108,17 +119,15 @@ fn waiting_call<'a>(callers: &[Activation<'a>]) -> Option<(usize, Purpose<'a>)> 
 }
 
 /// Whether a variable of this name is returned as a reference.
-fn is_reference(locals: &Locals<'_>, name: &Name) -> bool {
-    !matches!(locals.variables.content_of(name), Some(Content::Number(_)))
+fn is_reference(variables: &Variables<'_>, name: &Name) -> bool {
+    !matches!(variables.content_of(name), Some(Content::Number(_)))
 }
 
-/// Adds a result that is returned; or the part of it that is worked out first.
+/// Adds a result that is returned to the last of these calls; or the part of it that is worked out first.
 fn put_return<'a>(
     line: &mut Line,
-    objects: Objects<'_>,
-    shared: &Shared<'a>,
-    thread: &Thread<'a>,
-    locals: &Locals<'a>,
+    scope: Scope<'_, 'a>,
+    callers: &[Activation<'a>],
     e: &Evaluation<'a>,
 ) -> Result<Doing<'a>, AllocError> {
     match &e.term {
@@ -127,24 +136,22 @@ fn put_return<'a>(
             put_value(line, *value)?;
         }
         Term::Named(Constant::Null) => line.text(b"return null")?,
-        Term::Read(name) if is_reference(locals, name) => {
+        Term::Read(name) if is_reference(scope.variables, name) => {
             line.text(b"return ")?;
-            put_held(line, objects, &shared.statics, &locals.variables, name)?;
+            put_held(line, scope, name)?;
         }
         term => return put_reduction(line, term),
     }
-    Ok(Doing::Returns(waiting_call(&thread.callers)))
+    Ok(Doing::Returns(waiting_call(callers)))
 }
 
 /// Adds a call; or the part of its numbers that is worked out first.
 fn put_invocation<'a>(
     line: &mut Line,
-    objects: Objects<'_>,
-    shared: &Shared<'a>,
-    locals: &Locals<'a>,
+    scope: Scope<'_, 'a>,
     call: &Invocation<'a>,
 ) -> Result<Doing<'a>, AllocError> {
-    if let Some(place) = first_unready(&locals.variables, &call.operands) {
+    if let Some(place) = first_unready(scope.variables, &call.operands) {
         let Some(operand) = call.operands.get(place) else {
             return Ok(Doing::Told);
         };
@@ -154,7 +161,7 @@ fn put_invocation<'a>(
             Ok(Doing::Told)
         };
     }
-    put_call(line, objects, &shared.statics, &locals.variables, call)?;
+    put_call(line, scope, call)?;
     Ok(Doing::Calls(call.purpose))
 }
 
@@ -194,13 +201,11 @@ fn put_array<'a>(line: &mut Line, name: &Name, size: u32) -> Result<Doing<'a>, A
     Ok(Doing::Told)
 }
 
-/// Adds what a task is about to do.
+/// Adds what a task is about to do, in a call that the last of these calls made.
 fn put_task<'a>(
     line: &mut Line,
-    objects: Objects<'_>,
-    shared: &Shared<'a>,
-    thread: &Thread<'a>,
-    locals: &Locals<'a>,
+    scope: Scope<'_, 'a>,
+    callers: &[Activation<'a>],
     task: &Task<'a>,
 ) -> Result<Doing<'a>, AllocError> {
     match task {
@@ -209,14 +214,14 @@ fn put_task<'a>(
         Task::SetElement(a) => put_element(line, a),
         Task::SetNull(target) => put_null(line, *target),
         Task::MakeArray(_, name, size) => put_array(line, name, *size),
-        Task::Invoke(call) => put_invocation(line, objects, shared, locals, call),
+        Task::Invoke(call) => put_invocation(line, scope, call),
         Task::Branch(choice) => put_evaluation(line, b"if is ", &choice.test),
         Task::Loop(iteration) => put_evaluation(line, b"while is ", &iteration.term),
         Task::Return => {
             line.text(b"return")?;
-            Ok(Doing::Returns(waiting_call(&thread.callers)))
+            Ok(Doing::Returns(waiting_call(callers)))
         }
-        Task::ReturnValue(e) => put_return(line, objects, shared, thread, locals, e),
+        Task::ReturnValue(e) => put_return(line, scope, callers, e),
     }
 }
 
@@ -236,15 +241,14 @@ fn put_end<'a>(line: &mut Line, work: &Work<'_>) -> Result<Doing<'a>, AllocError
 pub(crate) fn put_before<'a>(
     line: &mut Line,
     functions: &Functions<'a>,
-    objects: Objects<'_>,
-    shared: &Shared<'a>,
+    state: &State<'a>,
     thread: &Thread<'a>,
 ) -> Result<Doing<'a>, AllocError> {
     let Some(activation) = &thread.activation else {
         return Ok(Doing::Enters(entered(functions, thread)));
     };
     match &activation.work.task {
-        Some(task) => put_task(line, objects, shared, thread, &activation.locals, task),
+        Some(task) => put_task(line, Scope::of(state, activation), &thread.callers, task),
         None => put_end(line, &activation.work),
     }
 }
@@ -291,12 +295,11 @@ fn put_latest(line: &mut Line, value: Option<Value>) -> Result<(), AllocError> {
 /// Adds what is now in an element.
 fn put_element_after(
     line: &mut Line,
-    shared: &Shared<'_>,
-    locals: &Locals<'_>,
+    scope: Scope<'_, '_>,
     name: &Name,
     place: usize,
 ) -> Result<(), AllocError> {
-    match element_of(&shared.store, &locals.variables, name, place) {
+    match element_of(scope, name, place) {
         Some(number) => {
             line.text(b" = ")?;
             line.number(number)
@@ -308,9 +311,7 @@ fn put_element_after(
 /// Adds where a call went on that waited for the one that returned.
 fn put_returned(
     line: &mut Line,
-    objects: Objects<'_>,
-    shared: &Shared<'_>,
-    locals: &Locals<'_>,
+    scope: Scope<'_, '_>,
     waited: Option<(usize, Purpose<'_>)>,
 ) -> Result<(), AllocError> {
     let Some((number, purpose)) = waited else {
@@ -322,21 +323,18 @@ fn put_returned(
         Purpose::Put(Target::Dropped) | Purpose::Test(_, _) => Ok(()),
         Purpose::Put(target) => {
             line.text(b": ")?;
-            put_target(line, objects, &shared.statics, &locals.variables, target)
+            put_target(line, scope, target)
         }
     }
 }
 
-/// Adds what a call in progress has after a step.
+/// Adds what a call in progress has after a step that left it with this task.
 fn put_in_progress(
     line: &mut Line,
-    objects: Objects<'_>,
-    shared: &Shared<'_>,
-    activation: &Activation<'_>,
+    scope: Scope<'_, '_>,
+    task: &Option<Task<'_>>,
     doing: Doing<'_>,
 ) -> Result<(), AllocError> {
-    let locals = &activation.locals;
-    let task = &activation.work.task;
     match doing {
         Doing::Told => Ok(()),
         Doing::Reduces => match task {
@@ -347,16 +345,10 @@ fn put_in_progress(
             Some(task) => put_latest(line, latest_number(task, place)),
             None => Ok(()),
         },
-        Doing::SetsElement(name, place) => put_element_after(line, shared, locals, name, place),
-        Doing::Calls(purpose) => put_result(line, objects, shared, locals, task, purpose),
-        Doing::Returns(waited) => put_returned(line, objects, shared, locals, waited),
-        Doing::Enters(Some(function)) => put_entry(
-            line,
-            objects,
-            &shared.statics,
-            &locals.variables,
-            function,
-        ),
+        Doing::SetsElement(name, place) => put_element_after(line, scope, name, place),
+        Doing::Calls(purpose) => put_result(line, scope, task, purpose),
+        Doing::Returns(waited) => put_returned(line, scope, waited),
+        Doing::Enters(Some(function)) => put_entry(line, scope, function),
         Doing::Enters(None) => Ok(()),
     }
 }
@@ -398,32 +390,28 @@ fn put_waiting(line: &mut Line, thread: &Thread<'_>) -> Result<(), AllocError> {
     }
 }
 
-/// Adds what a step did, which had this exception pending before, and whether its object was refused.
-pub(crate) fn put_after(
+/// Adds what a step did, of which this was known before, and whether its object was refused.
+pub(crate) fn put_after<'a>(
     line: &mut Line,
-    state: &State<'_>,
-    thread: &Thread<'_>,
-    doing: Doing<'_>,
-    pending: Option<ObjectId>,
+    state: &State<'a>,
+    thread: &Thread<'a>,
+    before: Before<'a>,
     refused: bool,
 ) -> Result<(), AllocError> {
     if let Some(stop) = state.stop {
         line.text(b": trap ")?;
         return line.number(stop.trap.number());
     }
-    let objects = Objects {
-        classes: state.world.classes(),
-        store: &state.shared.store,
-    };
     match &thread.activation {
         Some(activation) => {
-            put_in_progress(line, objects, &state.shared, activation, doing)?;
+            let scope = Scope::of(state, activation);
+            put_in_progress(line, scope, &activation.work.task, before.doing)?;
             line.text(if refused { b", refused" } else { b"" })?;
-            put_pending(line, objects, pending, thread.pending)
+            put_pending(line, scope.objects, before.pending, thread.pending)
         }
         None => {
             put_waiting(line, thread)?;
-            put_ending(line, objects, thread.ending)
+            put_ending(line, Objects::of(state), thread.ending)
         }
     }
 }
